@@ -294,7 +294,7 @@ def proofs():
 
 
 def mutants():
-    return commands([".ci/mutants", "--self-test", "block_cid"], [".ci/mutants"])
+    return commands([".ci/mutants", "--self-test", "dag_pb"], [".ci/mutants"])
 
 
 def the_programs():

@@ -51,7 +51,7 @@ def built(folder, *target):
     ]
     for name in ("std", "sha2"):
         words += ["--extern", f"{name}={top}/rlibs/{name}.rlib"]
-    for name in ("cid_text", "ipld_cid"):
+    for name in ("ipld_cid_text", "ipld_cid"):
         words += [
             "--extern",
             f"{name}={CRATES}/{name}/out/rlib/{name}.rlib",

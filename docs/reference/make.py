@@ -170,7 +170,7 @@ class Reference:
         Returns where a definition stands; of a proof, which a clause may cite, its file; and None
         for what has no page.
         """
-        if crate == STANDARD:
+        if is_toolchain(crate):
             return f"{STANDARD}.html#{word}" if word in self.toolchain else None
         if not any(path.stem == file for path in specs(crate)):
             return None
@@ -272,7 +272,7 @@ class Reference:
 
     def said(self, crate, file, word):
         """Returns the comment over a definition, or what the table has of one of the toolchain's."""
-        if crate == STANDARD:
+        if is_toolchain(crate):
             return plain.line(self.toolchain[word].prose)
         return plain.line(self.definitions_of(crate, file).get(word, ""))
 
@@ -445,6 +445,11 @@ class Reference:
         self.pages["index.js"] = f"const ENTRIES = {json.dumps(entries, ensure_ascii=False)}\n"
         self.errors += broken_links(self.pages, [to for _, _, to, _ in entries])
         self.errors = list(dict.fromkeys(self.errors))
+
+
+def is_toolchain(crate):
+    """Whether a library is the toolchain's: std, or one of the kit."""
+    return not (CRATES / crate).is_dir()
 
 
 def specs(crate):

@@ -3,9 +3,9 @@ use Rattle.std.proofs.Common.{◌≡◌, ℕ, ◌+◌, ◌-◌, ◌≤◌, Bool,
 use Rattle.std.proofs.KnownBytes.{Appends-nil, Appends-trans}
 use Rattle.std.specs.Io.KnownBytes.{Appends}
 use Rattle.std.specs.Int.{from_bool}
-use Rattle.block_cid.specs.Digest.{digest_by, IsVerifyError}
-use Rattle.block_cid.specs.declared.error.VerifyError.{VerifyError}
-use Rattle.block_cid.specs.declared.error.VerifyError.TheVariants.{WrongDigest, UnknownHash}
+use Rattle.ipld_block.specs.Digest.{digest_by, IsVerifyError}
+use Rattle.ipld_block.specs.declared.block_cid.error.VerifyError.{VerifyError}
+use Rattle.ipld_block.specs.declared.block_cid.error.VerifyError.TheVariants.{WrongDigest, UnknownHash}
 use Rattle.ipld_cid.specs.Cid.{Link}
 use Rattle.ipld_cid.specs.LinkOf.{link_of}
 use Rattle.ipld_cid.specs.declared.cid.CidGeneric.{CidGeneric}

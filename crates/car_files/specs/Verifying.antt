@@ -2,8 +2,8 @@
 use Rattle.std.specs.Prelude.{◌≡◌, ◌≢◌, ◌+◌, ℕ, List, [], ◌∷◌, ◌++◌, Option, Some, None}
 use Rattle.std.specs.declared.io.ErrorKind.TheVariants.{OutOfMemory as NoMemory}
 use Rattle.std.specs.Io.KnownBytes.{Appends}
-use Rattle.block_cid.specs.Digest.{digest_by, IsVerifyError}
-use Rattle.block_cid.specs.declared.error.VerifyError.TheVariants.{WrongDigest}
+use Rattle.ipld_block.specs.Digest.{digest_by, IsVerifyError}
+use Rattle.ipld_block.specs.declared.block_cid.error.VerifyError.TheVariants.{WrongDigest}
 use Rattle.ipld_car.specs.declared.reader.CarReader.{CarReader}
 use Rattle.ipld_car.specs.Section.{Block}
 use Rattle.car_files.specs.declared.error.CarFileError.{CarFileError}

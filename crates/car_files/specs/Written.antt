@@ -4,9 +4,9 @@ use Rattle.std.specs.Fmt.{digits}
 use Rattle.std.specs.List.{flat_map, join_by}
 use Rattle.std.specs.Option.{unwrap_or}
 use Rattle.std.specs.Int.{from_bool}
-use Rattle.block_cid.specs.Digest.{digest_by, IsVerifyError}
-use Rattle.block_cid.specs.declared.error.VerifyError.{VerifyError}
-use Rattle.block_cid.specs.declared.error.VerifyError.TheVariants.{UnknownHash, WrongDigest}
+use Rattle.ipld_block.specs.Digest.{digest_by, IsVerifyError}
+use Rattle.ipld_block.specs.declared.block_cid.error.VerifyError.{VerifyError}
+use Rattle.ipld_block.specs.declared.block_cid.error.VerifyError.TheVariants.{UnknownHash, WrongDigest}
 use Rattle.ipld_cid.specs.Cid.{Link}
 use Rattle.ipld_cid.specs.LinkOf.{link_of}
 use Rattle.ipld_cid.specs.Varint.{varint_of}

@@ -335,7 +335,7 @@ fn write_edges<W: Write>(
 }
 
 // The links, of those that are known.
-fn known(links: &KnownLinks) -> &[Cid]
+fn known_links(links: &KnownLinks) -> &[Cid]
     ensures { map link_of result.now ≡ links_known (known_of links.now) }
 {
     match links {
@@ -359,13 +359,21 @@ fn write_linked<W: Write>(
 {
     match form {
         Form::Blocks => write_block(alloc, section, links, writer),
-        Form::Links => write_edges(alloc, b"", section.cid(), b" ", known(links), b"\n", writer),
+        Form::Links => write_edges(
+            alloc,
+            b"",
+            section.cid(),
+            b" ",
+            known_links(links),
+            b"\n",
+            writer,
+        ),
         Form::Dot => write_edges(
             alloc,
             b"  \"",
             section.cid(),
             b"\" -> \"",
-            known(links),
+            known_links(links),
             b"\";\n",
             writer,
         ),

@@ -37,7 +37,7 @@ pub enum VerdictForm {
 }
 
 // What is wrong with a block, as the last members of an object of JSON.
-fn write_complaint_members<W: Write>(error: VerifyError, writer: &mut W) -> Result<(), CarFileError>
+fn write_reason_members<W: Write>(error: VerifyError, writer: &mut W) -> Result<(), CarFileError>
     ensures written { OnOk result (Appends (W.contents writer.old) (W.contents writer.new) (complaint_members error)) }
     ensures fault { IfErr result IsWritingError }
 {
@@ -57,7 +57,7 @@ fn write_complaint_members<W: Write>(error: VerifyError, writer: &mut W) -> Resu
 }
 
 // What is wrong with a block.
-fn write_complaint<W: Write>(error: VerifyError, writer: &mut W) -> Result<(), CarFileError>
+fn write_reason<W: Write>(error: VerifyError, writer: &mut W) -> Result<(), CarFileError>
     ensures written { OnOk result (Appends (W.contents writer.old) (W.contents writer.new) (complaint error)) }
     ensures fault { IfErr result IsWritingError }
 {
@@ -89,7 +89,7 @@ fn write_verdict_line<W: Write>(
 {
     write_cid(alloc, writer, cid)?;
     write!(writer, " at byte {offset}")?;
-    write_complaint(error, writer)?;
+    write_reason(error, writer)?;
     Ok(())
 }
 
@@ -107,7 +107,7 @@ fn write_verdict_object<W: Write>(
     writer.write_all(b"{\"cid\":\"")?;
     write_cid(alloc, writer, cid)?;
     write!(writer, "\",\"offset\":{offset}")?;
-    write_complaint_members(error, writer)?;
+    write_reason_members(error, writer)?;
     Ok(())
 }
 

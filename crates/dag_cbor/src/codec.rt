@@ -66,7 +66,7 @@ impl Links for DagCborCodec {
 }
 
 // All that the reader still has.
-fn block_of<R: BufRead>(alloc: Global, reader: &mut R) -> Result<Vec<u8>, CborError>
+fn read_block<R: BufRead>(alloc: Global, reader: &mut R) -> Result<Vec<u8>, CborError>
     ensures ok { IfOk result (λ bytes. IfSome (R.remaining reader.old) (λ block. block ≡ bytes.items)) }
     ensures read_out { OnOk result (IsReadOut (R.remaining reader.old) (R.remaining reader.new)) }
     ensures err { IfErr result (λ error. (error ≡ CborError.Memory) ⊎ (error ≡ CborError.Read)) }
@@ -102,7 +102,7 @@ impl DagCborCodec {
         ensures errors { IfErr result (λ error. StopsOrFails limits.now (R.remaining reader.old) error.kind) }
         ensures stopped { IfErr result (StopsAtOrFails limits.now (R.remaining reader.old)) }
     {
-        match block_of(alloc, reader) {
+        match read_block(alloc, reader) {
             Ok(block) => decode_slice_within(alloc, &block, limits),
             Err(error) => Err(BlockError {
                 kind: BlockErrorKind::Cbor(error),
@@ -152,7 +152,7 @@ impl Codec<Ipld> for DagCborCodec {
         ensures first { IfErr result (λ error. lies_in_bytes error ≡ true
             → IfSome (R.remaining reader.old) (λ block. first_error block ≡ Some error)) }
     {
-        let block = block_of(alloc, reader)?;
+        let block = read_block(alloc, reader)?;
         decode_slice(alloc, &block)
     }
 

@@ -36,12 +36,12 @@ pub fn decode_slice(alloc: Global, bytes: &[u8]) -> Result<Ipld, CborError>
     match read_shallow(alloc, bytes, SHALLOW) {
         Ok(tree) => Ok(tree),
         Err(Stop::Memory) => Err(CborError::Memory),
-        Err(Stop::Unread) => decode_any(alloc, bytes),
+        Err(Stop::Unread) => decode_by_loop(alloc, bytes),
     }
 }
 
 // What `decode_slice` returns, by a loop: of a block that nests however deep, or has an error.
-fn decode_any(alloc: Global, bytes: &[u8]) -> Result<Ipld, CborError>
+fn decode_by_loop(alloc: Global, bytes: &[u8]) -> Result<Ipld, CborError>
     ensures found { IfOk result (λ v. EncodesTree (tree_of v) bytes.now) }
     ensures only { (t : Tree) → EncodesTree t bytes.now → UnlessMemory result (λ v. tree_of v ≡ t) }
     ensures errors { IfErr result (λ error. (error ≡ CborError.Memory) ⊎ (lies_in_bytes error ≡ true)) }
@@ -86,7 +86,7 @@ pub fn decode_slice_within(alloc: Global, bytes: &[u8], limits: &Limits) -> Resu
             kind: BlockErrorKind::Cbor(CborError::Memory),
             offset: 0,
         }),
-        Err(Stop::Unread) => decode_any_within(alloc, bytes, limits),
+        Err(Stop::Unread) => decode_by_loop_within(alloc, bytes, limits),
     }
 }
 
@@ -102,7 +102,7 @@ fn read_shallow_within(alloc: Global, bytes: &[u8], limits: &Limits) -> Result<I
 }
 
 // As `decode_slice_within`, of a block that nests however deep, passes a limit or has an error.
-fn decode_any_within(alloc: Global, bytes: &[u8], limits: &Limits) -> Result<Ipld, BlockError>
+fn decode_by_loop_within(alloc: Global, bytes: &[u8], limits: &Limits) -> Result<Ipld, BlockError>
     ensures found { IfOk result (λ v. EncodesTree (tree_of v) bytes.now) }
     ensures within { IfOk result (λ v. Within limits.now (tree_of v)) }
     ensures only { (t : Tree) → EncodesTree t bytes.now → Within limits.now t → UnlessOutOfMemory result (λ v. tree_of v ≡ t) }

@@ -139,7 +139,7 @@ fn write_value<'a>(
 
 // Writes the next value, or leaves a list or a map at its end; false where nothing is left.
 #[inline(always)]
-fn step<'a>(
+fn write_next<'a>(
     alloc: Global,
     out: &mut Vec<u8>,
     innermost: &mut EncodeCursor<'a>,
@@ -170,6 +170,6 @@ pub(crate) fn encode_to(alloc: Global, out: &mut Vec<u8>, value: &Ipld) -> Resul
 {
     let mut innermost = EncodeCursor::Items(slice::from_ref(value).iter());
     let mut outer = Vec::new(alloc);
-    while step(alloc, out, &mut innermost, &mut outer)? {}
+    while write_next(alloc, out, &mut innermost, &mut outer)? {}
     Ok(())
 }

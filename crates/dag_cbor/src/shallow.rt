@@ -16,7 +16,9 @@ ghost use Rattle.dag_cbor.specs.Shallow.{Begins, Continues, Adds, Enters, AddsEn
 use dag_cbor_blocks::shallow::Stop;
 use dag_cbor_format::Major;
 use dag_cbor_format::head::read_head;
-use dag_cbor_format::item_header::{LINK_TAG, read_bytes, read_key, read_link_bytes, read_text};
+use dag_cbor_format::item_header::{
+    LINK_TAG, read_bytes, read_key_text, read_link_bytes, read_text,
+};
 use ipld_cid::Cid;
 use ipld_tree::{Ipld, list_capacity};
 use std::alloc::{AllocError, Global};
@@ -28,7 +30,7 @@ const MANY: u64 = 12;
 // A value behind its head, put where it is to stand; each returns what follows it. The first four hold no others.
 
 #[inline(never)]
-fn byte_string<'a>(
+fn read_byte_string<'a>(
     alloc: Global,
     value: &mut Ipld,
     length: u64,
@@ -43,7 +45,7 @@ fn byte_string<'a>(
 }
 
 #[inline(never)]
-fn text_string<'a>(
+fn read_text_string<'a>(
     alloc: Global,
     value: &mut Ipld,
     length: u64,
@@ -58,7 +60,7 @@ fn text_string<'a>(
 }
 
 #[inline(always)]
-fn link<'a>(value: &mut Ipld, tag: u64, bytes: &'a [u8]) -> Result<&'a [u8], Stop>
+fn read_link<'a>(value: &mut Ipld, tag: u64, bytes: &'a [u8]) -> Result<&'a [u8], Stop>
     ensures { (levels : ℕ) → IfOk result (λ rest. Continues levels Major.Tag tag bytes.entry.now (tree_of value.new) rest.now) }
 {
     if tag != LINK_TAG {
@@ -75,7 +77,7 @@ fn link<'a>(value: &mut Ipld, tag: u64, bytes: &'a [u8]) -> Result<&'a [u8], Sto
 }
 
 #[inline(always)]
-fn simple<'a>(value: &mut Ipld, number: u64, bytes: &'a [u8]) -> Result<&'a [u8], Stop>
+fn read_simple<'a>(value: &mut Ipld, number: u64, bytes: &'a [u8]) -> Result<&'a [u8], Stop>
     ensures { (levels : ℕ) → IfOk result (λ rest. Continues levels Major.Simple number bytes.entry.now (tree_of value.new) rest.now) }
 {
     match number {
@@ -99,7 +101,7 @@ fn simple<'a>(value: &mut Ipld, number: u64, bytes: &'a [u8]) -> Result<&'a [u8]
 // does, so that no list reserves what the bytes can't fill.
 #[cycle(shallow)]
 #[inline(always)]
-fn content<'a>(
+fn read_content<'a>(
     alloc: Global,
     value: &mut Ipld,
     major: Major,
@@ -120,9 +122,9 @@ fn content<'a>(
             *value = Ipld::Integer(-1 - i128::from(argument));
             Ok(bytes)
         }
-        Major::Bytes => byte_string(alloc, value, argument, bytes),
-        Major::Text => text_string(alloc, value, argument, bytes),
-        Major::List => list(
+        Major::Bytes => read_byte_string(alloc, value, argument, bytes),
+        Major::Text => read_text_string(alloc, value, argument, bytes),
+        Major::List => read_list(
             alloc,
             value,
             argument,
@@ -132,7 +134,7 @@ fn content<'a>(
         ),
         Major::Map => {
             if argument < MANY {
-                map(
+                read_map(
                     alloc,
                     value,
                     argument,
@@ -141,7 +143,7 @@ fn content<'a>(
                     owed.saturating_add(left),
                 )
             } else {
-                large_map(
+                read_large_map(
                     alloc,
                     value,
                     argument,
@@ -151,14 +153,14 @@ fn content<'a>(
                 )
             }
         }
-        Major::Tag => link(value, argument, bytes),
-        Major::Simple => simple(value, argument, bytes),
+        Major::Tag => read_link(value, argument, bytes),
+        Major::Simple => read_simple(value, argument, bytes),
     }
 }
 
 #[cycle(shallow)]
 #[inline(never)]
-fn list<'a>(
+fn read_list<'a>(
     alloc: Global,
     value: &mut Ipld,
     count: u64,
@@ -202,11 +204,11 @@ fn add_item<'a>(
     let (major, argument, rest) = read_head(bytes)?;
     match major {
         Major::Unsigned => {
-            push(items, Ipld::Integer(i128::from(argument)))?;
+            push_item(items, Ipld::Integer(i128::from(argument)))?;
             Ok(rest)
         }
         Major::Negative => {
-            push(items, Ipld::Integer(-1 - i128::from(argument)))?;
+            push_item(items, Ipld::Integer(-1 - i128::from(argument)))?;
             Ok(rest)
         }
         _ => add_content(alloc, items, major, argument, rest, levels, owed, left),
@@ -229,15 +231,15 @@ fn add_content<'a>(
     ensures { IfOk result (λ rest. IsArgument major argument → Adds levels items.old.items items.new.items (head major argument ++ bytes.entry.now) rest.now) }
 {
     let mut value = Ipld::Null;
-    let rest = content(
+    let rest = read_content(
         alloc, &mut value, major, argument, bytes, levels, owed, left,
     )?;
-    push(items, value)?;
+    push_item(items, value)?;
     Ok(rest)
 }
 
 #[inline(always)]
-fn push<T: Drop>(items: &mut Vec<T>, value: T) -> Result<(), Stop>
+fn push_item<T: Drop>(items: &mut Vec<T>, value: T) -> Result<(), Stop>
     ensures { OnOk result (items.new.items ≡ items.old.items ++ value ∷ []) }
 {
     if items.len() < items.capacity() {
@@ -250,7 +252,7 @@ fn push<T: Drop>(items: &mut Vec<T>, value: T) -> Result<(), Stop>
 
 #[cycle(shallow)]
 #[inline(never)]
-fn map<'a>(
+fn read_map<'a>(
     alloc: Global,
     value: &mut Ipld,
     count: u64,
@@ -288,18 +290,18 @@ fn add_entry<'a>(
 ) -> Result<&'a [u8], Stop>
     ensures { IfOk result (λ rest. Enters levels members.old.entries members.new.entries bytes.entry.now rest.now) }
 {
-    let (key, behind) = read_key(bytes)?;
+    let (key, behind) = read_key_text(bytes)?;
     let name = String::from_str(alloc, key)?;
     let (major, argument, more) = read_head(behind)?;
     let mut value = Ipld::Null;
-    let rest = content(alloc, &mut value, major, argument, more, levels, owed, left)?;
-    insert(members, name, value)?;
+    let rest = read_content(alloc, &mut value, major, argument, more, levels, owed, left)?;
+    insert_member(members, name, value)?;
     Ok(rest)
 }
 
 // Puts a value under a key that the map doesn't have yet.
 #[inline(always)]
-fn insert(members: &mut BTreeMap<String, Ipld>, key: String, value: Ipld) -> Result<(), Stop>
+fn insert_member(members: &mut BTreeMap<String, Ipld>, key: String, value: Ipld) -> Result<(), Stop>
     ensures absent { OnOk result (has_key (string_bytes key) (members_of members.old.entries) ≡ false) }
     ensures put { OnOk result (members_of members.new.entries ≡ put (string_bytes key) (tree_of value) (members_of members.old.entries)) }
 {
@@ -312,7 +314,7 @@ fn insert(members: &mut BTreeMap<String, Ipld>, key: String, value: Ipld) -> Res
 
 #[cycle(shallow)]
 #[inline(never)]
-fn large_map<'a>(
+fn read_large_map<'a>(
     alloc: Global,
     value: &mut Ipld,
     count: u64,
@@ -354,12 +356,12 @@ fn push_entry<'a>(
 ) -> Result<&'a [u8], Stop>
     ensures { IfOk result (λ rest. AddsEntry levels entries.old.items entries.new.items bytes.entry.now rest.now) }
 {
-    let (key, behind) = read_key(bytes)?;
+    let (key, behind) = read_key_text(bytes)?;
     let name = String::from_str(alloc, key)?;
     let (major, argument, more) = read_head(behind)?;
     let mut value = Ipld::Null;
-    let rest = content(alloc, &mut value, major, argument, more, levels, owed, left)?;
-    push(entries, (name, value))?;
+    let rest = read_content(alloc, &mut value, major, argument, more, levels, owed, left)?;
+    push_item(entries, (name, value))?;
     Ok(rest)
 }
 
@@ -400,7 +402,7 @@ pub fn read_front<'a>(
 {
     let (major, argument, more) = read_head(bytes)?;
     let mut tree = Ipld::Null;
-    let rest = content(alloc, &mut tree, major, argument, more, levels, 0, 0)?;
+    let rest = read_content(alloc, &mut tree, major, argument, more, levels, 0, 0)?;
     Ok((tree, rest))
 }
 
@@ -411,7 +413,7 @@ pub(crate) fn read_shallow(alloc: Global, bytes: &[u8], levels: usize) -> Result
 {
     let (major, argument, more) = read_head(bytes)?;
     let mut tree = Ipld::Null;
-    let rest = content(alloc, &mut tree, major, argument, more, levels, 0, 0)?;
+    let rest = read_content(alloc, &mut tree, major, argument, more, levels, 0, 0)?;
     if rest.is_empty() {
         Ok(tree)
     } else {

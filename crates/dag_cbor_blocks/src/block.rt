@@ -27,7 +27,7 @@ use std::alloc::Global;
 
 // An integer, after its head.
 #[inline(always)]
-fn unsigned<'a, const FLOATS: bool, V: Visitor<'a>>(
+fn read_unsigned<'a, const FLOATS: bool, V: Visitor<'a>>(
     position: &mut Position<'a>,
     visitor: &mut V,
     number: u64,
@@ -40,7 +40,7 @@ fn unsigned<'a, const FLOATS: bool, V: Visitor<'a>>(
 
 // A negative integer, after its head.
 #[inline(always)]
-fn negative<'a, const FLOATS: bool, V: Visitor<'a>>(
+fn read_negative<'a, const FLOATS: bool, V: Visitor<'a>>(
     position: &mut Position<'a>,
     visitor: &mut V,
     argument: u64,
@@ -56,7 +56,7 @@ fn negative<'a, const FLOATS: bool, V: Visitor<'a>>(
 
 // The content of a byte string, after its head.
 #[inline(always)]
-fn bytes<'a, const FLOATS: bool, V: Visitor<'a>>(
+fn read_byte_string<'a, const FLOATS: bool, V: Visitor<'a>>(
     position: &mut Position<'a>,
     visitor: &mut V,
     length: u64,
@@ -71,7 +71,7 @@ fn bytes<'a, const FLOATS: bool, V: Visitor<'a>>(
 
 // The content of a text string, after its head.
 #[inline(always)]
-fn text<'a, const FLOATS: bool, V: Visitor<'a>>(
+fn read_text_string<'a, const FLOATS: bool, V: Visitor<'a>>(
     position: &mut Position<'a>,
     visitor: &mut V,
     length: u64,
@@ -86,14 +86,14 @@ fn text<'a, const FLOATS: bool, V: Visitor<'a>>(
 
 // A list is open, after its head.
 #[inline(always)]
-fn list<'a, const FLOATS: bool, V: Visitor<'a>>(
+fn begin_list<'a, const FLOATS: bool, V: Visitor<'a>>(
     position: &mut Position<'a>,
     visitor: &mut V,
     items: u64,
 ) -> Result<PartKind, CborError>
     ensures { Reads FLOATS V.answer visitor.old (kinds_of position.old) true (headed FLOATS Major.List items position.old) position.old.begun (steps_left position.old + 3) result visitor.new position.new }
 {
-    let hint = position.hint(items);
+    let hint = position.capacity_hint(items);
     visitor.visit(&Event::List(hint), position.rest.len())?;
     position.open_list(items)?;
     Ok(PartKind::Beginning)
@@ -101,7 +101,7 @@ fn list<'a, const FLOATS: bool, V: Visitor<'a>>(
 
 // A map is open, after its head.
 #[inline(always)]
-fn map<'a, const FLOATS: bool, V: Visitor<'a>>(
+fn begin_map<'a, const FLOATS: bool, V: Visitor<'a>>(
     position: &mut Position<'a>,
     visitor: &mut V,
     pairs: u64,
@@ -114,7 +114,7 @@ fn map<'a, const FLOATS: bool, V: Visitor<'a>>(
 }
 
 // A link, after the head of its tag.
-fn link<'a, const FLOATS: bool, V: Visitor<'a>>(
+fn read_link<'a, const FLOATS: bool, V: Visitor<'a>>(
     position: &mut Position<'a>,
     visitor: &mut V,
     tag: u64,
@@ -145,7 +145,7 @@ fn link<'a, const FLOATS: bool, V: Visitor<'a>>(
 
 // A simple value, after its head.
 #[inline(always)]
-fn simple<'a, const FLOATS: bool, V: Visitor<'a>>(
+fn read_simple<'a, const FLOATS: bool, V: Visitor<'a>>(
     position: &mut Position<'a>,
     visitor: &mut V,
     value: u64,
@@ -163,7 +163,7 @@ fn simple<'a, const FLOATS: bool, V: Visitor<'a>>(
 
 // What stands behind the head of an item, or the beginning of it.
 #[inline(always)]
-fn content<'a, const FLOATS: bool, V: Visitor<'a>>(
+fn read_content<'a, const FLOATS: bool, V: Visitor<'a>>(
     position: &mut Position<'a>,
     visitor: &mut V,
     major: Major,
@@ -172,19 +172,19 @@ fn content<'a, const FLOATS: bool, V: Visitor<'a>>(
     ensures { Reads FLOATS V.answer visitor.old (kinds_of position.old) true (headed FLOATS major argument position.old) position.old.begun (steps_left position.old + 3) result visitor.new position.new }
 {
     match major {
-        Major::Unsigned => unsigned::<FLOATS, V>(position, visitor, argument),
-        Major::Negative => negative::<FLOATS, V>(position, visitor, argument),
-        Major::Bytes => bytes::<FLOATS, V>(position, visitor, argument),
-        Major::Text => text::<FLOATS, V>(position, visitor, argument),
-        Major::List => list::<FLOATS, V>(position, visitor, argument),
-        Major::Map => map::<FLOATS, V>(position, visitor, argument),
-        Major::Tag => link::<FLOATS, V>(position, visitor, argument),
-        Major::Simple => simple::<FLOATS, V>(position, visitor, argument),
+        Major::Unsigned => read_unsigned::<FLOATS, V>(position, visitor, argument),
+        Major::Negative => read_negative::<FLOATS, V>(position, visitor, argument),
+        Major::Bytes => read_byte_string::<FLOATS, V>(position, visitor, argument),
+        Major::Text => read_text_string::<FLOATS, V>(position, visitor, argument),
+        Major::List => begin_list::<FLOATS, V>(position, visitor, argument),
+        Major::Map => begin_map::<FLOATS, V>(position, visitor, argument),
+        Major::Tag => read_link::<FLOATS, V>(position, visitor, argument),
+        Major::Simple => read_simple::<FLOATS, V>(position, visitor, argument),
     }
 }
 
 // A float, which is read as null, behind the byte that is its head.
-fn float<'a, const FLOATS: bool, V: Visitor<'a>>(
+fn read_float<'a, const FLOATS: bool, V: Visitor<'a>>(
     position: &mut Position<'a>,
     visitor: &mut V,
 ) -> Result<PartKind, CborError>
@@ -203,7 +203,7 @@ fn float<'a, const FLOATS: bool, V: Visitor<'a>>(
 
 // An item that is no float, or what it begins with.
 #[inline(always)]
-fn plain_item<'a, const FLOATS: bool, V: Visitor<'a>>(
+fn read_item_without_floats<'a, const FLOATS: bool, V: Visitor<'a>>(
     position: &mut Position<'a>,
     visitor: &mut V,
 ) -> Result<PartKind, CborError>
@@ -214,12 +214,12 @@ fn plain_item<'a, const FLOATS: bool, V: Visitor<'a>>(
     position.begun = position.rest.len();
     let (major, argument, rest) = read_head(position.rest)?;
     position.rest = rest;
-    content::<FLOATS, V>(position, visitor, major, argument)
+    read_content::<FLOATS, V>(position, visitor, major, argument)
 }
 
 // An item, or what it begins with.
 #[inline(always)]
-fn item<'a, const FLOATS: bool, V: Visitor<'a>>(
+fn read_item<'a, const FLOATS: bool, V: Visitor<'a>>(
     position: &mut Position<'a>,
     visitor: &mut V,
 ) -> Result<PartKind, CborError>
@@ -229,15 +229,15 @@ fn item<'a, const FLOATS: bool, V: Visitor<'a>>(
         if let [FLOAT, rest @ ..] = position.rest {
             position.begun = position.rest.len();
             position.rest = rest;
-            return float::<FLOATS, V>(position, visitor);
+            return read_float::<FLOATS, V>(position, visitor);
         }
     }
-    plain_item::<FLOATS, V>(position, visitor)
+    read_item_without_floats::<FLOATS, V>(position, visitor)
 }
 
 // Goes on in what is open.
 #[inline(always)]
-fn go_on<'a, const FLOATS: bool, V: Visitor<'a>>(
+fn read_part<'a, const FLOATS: bool, V: Visitor<'a>>(
     position: &mut Position<'a>,
     visitor: &mut V,
 ) -> Result<PartKind, CborError>
@@ -245,10 +245,10 @@ fn go_on<'a, const FLOATS: bool, V: Visitor<'a>>(
     ensures { Reads FLOATS V.answer visitor.old (kinds_of position.old) false (ahead_of FLOATS position.old) (length position.old.rest.now) (steps_left position.old) result visitor.new position.new }
 {
     match position.advance()? {
-        Next::Item => item::<FLOATS, V>(position, visitor),
+        Next::Item => read_item::<FLOATS, V>(position, visitor),
         Next::Value(key) => {
             visitor.visit(&Event::Key(key), position.rest.len())?;
-            item::<FLOATS, V>(position, visitor)
+            read_item::<FLOATS, V>(position, visitor)
         }
         Next::EndOfList => {
             visitor.visit(&Event::EndOfList, position.rest.len())?;
@@ -277,9 +277,9 @@ pub fn read_events<'a, const FLOATS: bool, V: Visitor<'a>>(
     ensures { VisitsEvents FLOATS V.answer visitor.old bytes.entry.now result visitor.new }
 {
     let mut position = Position::new(alloc, bytes);
-    item::<FLOATS, V>(&mut position, visitor)?;
+    read_item::<FLOATS, V>(&mut position, visitor)?;
     while position.is_open() {
-        go_on::<FLOATS, V>(&mut position, visitor)?;
+        read_part::<FLOATS, V>(&mut position, visitor)?;
     }
     if !position.rest.is_empty() {
         return Err(CborError::TrailingBytes);
@@ -297,10 +297,10 @@ fn read_parts<'a, const FLOATS: bool, V: Visitor<'a>>(
     ensures { VisitsParts FLOATS V.answer visitor.old limits position.old.rest.now result visitor.new position.new.begun }
 {
     let mut counter = Counter::new(limits);
-    let part = item::<FLOATS, V>(position, visitor)?;
+    let part = read_item::<FLOATS, V>(position, visitor)?;
     counter.count(part)?;
     while position.is_open() {
-        let part = go_on::<FLOATS, V>(position, visitor)?;
+        let part = read_part::<FLOATS, V>(position, visitor)?;
         counter.count(part)?;
     }
     if position.rest.is_empty() {

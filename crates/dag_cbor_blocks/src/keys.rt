@@ -85,7 +85,7 @@ impl<'a> AscendingKeys<'a> {
 
     // No keys, in the memory of those of another map, where so many are to come.
     #[inline(always)]
-    fn none(mut spare: Vec<&'a str>, count: u64) -> Result<Self, AllocError>
+    fn with_memory(mut spare: Vec<&'a str>, count: u64) -> Result<Self, AllocError>
         ensures { IfOk result (λ keys. keys_in keys ≡ []) }
     {
         spare.clear();
@@ -137,10 +137,10 @@ impl<'a> Keys<'a> {
 
     // No keys, in the memory of those of another map, where so many are to come.
     #[inline(always)]
-    pub(crate) fn none(spare: Vec<&'a str>, count: u64) -> Result<Self, AllocError>
+    pub(crate) fn with_memory(spare: Vec<&'a str>, count: u64) -> Result<Self, AllocError>
         ensures { IfOk result (λ keys. seen_in keys ≡ []) }
     {
-        Ok(Keys::Ascending(AscendingKeys::none(spare, count)?))
+        Ok(Keys::Ascending(AscendingKeys::with_memory(spare, count)?))
     }
 
     // Adds a key unless they have it, and says whether it was new. It is put into a set where it doesn't come after all of them.

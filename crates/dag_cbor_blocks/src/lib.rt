@@ -44,7 +44,6 @@ mod tokens;
 pub mod visit;
 
 pub use block_error::{BlockError, BlockErrorKind};
-pub use dag_cbor_format::CborError;
 pub use link_position::LinkPosition;
 pub use measure::{BlockSize, measure_block};
 pub use options::ReadOptions;

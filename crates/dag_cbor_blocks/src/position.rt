@@ -6,7 +6,7 @@ ghost use Rattle.dag_cbor_blocks.specs.Position.{framed, inside, frames_of, is_o
 
 use crate::keys::Keys;
 use dag_cbor_format::CborError;
-use dag_cbor_format::item_header::read_key;
+use dag_cbor_format::item_header::read_key_text;
 use std::alloc::{AllocError, AllocFailed, Global};
 use std::mem;
 
@@ -55,11 +55,11 @@ pub(crate) struct Position<'a> {
 impl<'a> UnreadMap<'a> {
     // The key of the next pair, which the map doesn't have yet, and what follows it.
     #[inline(always)]
-    fn key(&mut self, alloc: Global, bytes: &'a [u8]) -> Result<(&'a str, &'a [u8]), CborError>
+    fn read_key(&mut self, alloc: Global, bytes: &'a [u8]) -> Result<(&'a str, &'a [u8]), CborError>
         requires { 0 < self.old.pairs }
         ensures { TakesKey self.old bytes.entry.now result self.new }
     {
-        let (key, rest) = read_key(bytes)?;
+        let (key, rest) = read_key_text(bytes)?;
         if !self.keys.insert(alloc, key)? {
             return Err(CborError::DuplicateKey);
         }
@@ -87,7 +87,7 @@ impl<'a> Position<'a> {
 
     // The length of a list as a hint, where it can be right: each item takes a byte or more, of those that no other hint counts on.
     #[inline(always)]
-    pub(crate) fn hint(&mut self, items: u64) -> Option<usize>
+    pub(crate) fn capacity_hint(&mut self, items: u64) -> Option<usize>
         ensures hint { MatchOption result
             ((self.old.uncounted < items) × (self.new.uncounted ≡ self.old.uncounted))
             (λ n. (n ≡ items) × (n + self.new.uncounted ≡ self.old.uncounted)) }
@@ -161,7 +161,7 @@ impl<'a> Position<'a> {
         ensures unchanged { IfErr result (λ _. (frames_of self.new ≡ frames_of self.old) × (self.new.rest.now ≡ self.old.rest.now)) }
     {
         let memory = mem::replace(&mut self.spare, Vec::new(self.alloc));
-        let keys = Keys::none(memory, pairs)?;
+        let keys = Keys::with_memory(memory, pairs)?;
         self.open(Level::Map(UnreadMap { pairs, keys }))
     }
 
@@ -196,7 +196,7 @@ impl<'a> Position<'a> {
             Level::Map(map) => {
                 if map.pairs > 0 {
                     self.begun = self.rest.len();
-                    let (key, rest) = map.key(self.alloc, self.rest)?;
+                    let (key, rest) = map.read_key(self.alloc, self.rest)?;
                     self.rest = rest;
                     return Ok(Next::Value(key));
                 }

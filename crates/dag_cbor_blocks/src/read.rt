@@ -71,12 +71,12 @@ pub fn links_of_block(
             kind: BlockErrorKind::Cbor(CborError::Memory),
             offset: 0,
         }),
-        Err(Stop::Unread) => links_of_any(alloc, bytes, options),
+        Err(Stop::Unread) => links_by_loop(alloc, bytes, options),
     }
 }
 
 // The same, of a block that nests however deep, has keys in any order or floats, passes a limit or has an error.
-fn links_of_any(alloc: Global, bytes: &[u8], options: &ReadOptions) -> Result<Vec<Cid>, BlockError>
+fn links_by_loop(alloc: Global, bytes: &[u8], options: &ReadOptions) -> Result<Vec<Cid>, BlockError>
     ensures exact { ReadsAs options.now.floats options.now.limits bytes.now (links_read options.now.floats bytes.now) (λ links. map link_of links.items) result }
     ensures found { IfOk result (λ links. LinksOf options.now.floats bytes.now (map link_of links.items)) }
     ensures only { (i : Item 64) (t : Tree) → EncodesIn options.now.floats i bytes.now → tree_of_item i ≡ Some t → Within options.now.limits t

@@ -42,7 +42,7 @@ impl<'a> Reader<'a> {
     }
 
     // The first token of an item.
-    fn begin(&mut self) -> Result<Option<Token<'a>>, CborError>
+    fn read_item(&mut self) -> Result<Option<Token<'a>>, CborError>
         requires { self.old.stage ≡ TokenStage.Item }
         ensures { Steps self.old self.new result }
     {
@@ -54,14 +54,14 @@ impl<'a> Reader<'a> {
                 Ok(Some(token))
             }
             ItemHeader::List(items) => {
-                let hint = self.position.hint(items);
+                let hint = self.position.capacity_hint(items);
                 self.position.open_list(items)?;
                 self.stage = TokenStage::Inside;
                 self.position.rest = rest;
                 Ok(Some(Token::Seq(hint)))
             }
             ItemHeader::Map(pairs) => {
-                let hint = self.position.hint(pairs);
+                let hint = self.position.capacity_hint(pairs);
                 self.position.open_map(pairs)?;
                 self.stage = TokenStage::Inside;
                 self.position.rest = rest;
@@ -76,7 +76,7 @@ impl<'a> Reader<'a> {
     }
 
     // The bytes of a link.
-    fn link(&mut self) -> Result<Option<Token<'a>>, CborError>
+    fn read_link(&mut self) -> Result<Option<Token<'a>>, CborError>
         requires { self.old.stage ≡ TokenStage.LinkBytes }
         ensures { Steps self.old self.new result }
     {
@@ -92,7 +92,7 @@ impl<'a> Reader<'a> {
     }
 
     // What the innermost list or map has next, or the end.
-    fn go_on(&mut self) -> Result<Option<Token<'a>>, CborError>
+    fn read_part(&mut self) -> Result<Option<Token<'a>>, CborError>
         requires { self.old.stage ≡ TokenStage.Inside }
         ensures { Steps self.old self.new result }
     {
@@ -100,7 +100,7 @@ impl<'a> Reader<'a> {
             match self.position.advance()? {
                 Next::Item => {
                     self.stage = TokenStage::Item;
-                    return self.begin();
+                    return self.read_item();
                 }
                 Next::Value(key) => {
                     self.stage = TokenStage::Item;
@@ -124,9 +124,9 @@ impl<'a> Reader<'a> {
         ensures { Steps self.old self.new result }
     {
         match self.stage {
-            TokenStage::Item => self.begin(),
-            TokenStage::LinkBytes => self.link(),
-            TokenStage::Inside => self.go_on(),
+            TokenStage::Item => self.read_item(),
+            TokenStage::LinkBytes => self.read_link(),
+            TokenStage::Inside => self.read_part(),
         }
     }
 }

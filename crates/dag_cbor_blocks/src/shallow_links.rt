@@ -11,7 +11,9 @@ use crate::keys::comes_after;
 use crate::shallow::{SHALLOW, Stop};
 use dag_cbor_format::Major;
 use dag_cbor_format::head::read_head;
-use dag_cbor_format::item_header::{LINK_TAG, read_bytes, read_key, read_link_bytes, read_text};
+use dag_cbor_format::item_header::{
+    LINK_TAG, read_bytes, read_key_text, read_link_bytes, read_text,
+};
 use ipld_cid::Cid;
 use ipld_tree::Limits;
 use std::alloc::Global;
@@ -19,7 +21,7 @@ use std::alloc::Global;
 // Each of these puts the links of a value, behind its head, behind the others, and returns what follows the value.
 
 #[inline(never)]
-fn link<'a>(links: &mut Vec<Cid>, tag: u64, bytes: &'a [u8]) -> Result<&'a [u8], Stop>
+fn push_link<'a>(links: &mut Vec<Cid>, tag: u64, bytes: &'a [u8]) -> Result<&'a [u8], Stop>
     ensures { (levels : ℕ) → IfOk result (λ rest. FindsBehind levels Major.Tag tag links.old.items links.new.items bytes.entry.now rest.now) }
 {
     if tag != LINK_TAG {
@@ -37,7 +39,7 @@ fn link<'a>(links: &mut Vec<Cid>, tag: u64, bytes: &'a [u8]) -> Result<&'a [u8],
 
 #[cycle(finding)]
 #[inline(never)]
-fn list<'a>(
+fn find_in_list<'a>(
     links: &mut Vec<Cid>,
     count: u64,
     bytes: &'a [u8],
@@ -52,7 +54,7 @@ fn list<'a>(
     let mut left = count;
     while left > 0 {
         left -= 1;
-        let after = find(links, rest, inner)?;
+        let after = find_in_item(links, rest, inner)?;
         rest = after;
     }
     Ok(rest)
@@ -60,7 +62,7 @@ fn list<'a>(
 
 #[cycle(finding)]
 #[inline(never)]
-fn map<'a>(
+fn find_in_map<'a>(
     links: &mut Vec<Cid>,
     count: u64,
     bytes: &'a [u8],
@@ -76,11 +78,11 @@ fn map<'a>(
     let mut left = count;
     while left > 0 {
         left -= 1;
-        let (key, behind) = read_key(rest)?;
+        let (key, behind) = read_key_text(rest)?;
         if !comes_after(key, last) {
             return Err(Stop::Unread);
         }
-        let after = find(links, behind, inner)?;
+        let after = find_in_item(links, behind, inner)?;
         rest = after;
         last = key;
     }
@@ -90,7 +92,7 @@ fn map<'a>(
 // Puts the links of the value that the bytes begin with behind the others, and returns what follows it.
 #[cycle(finding)]
 #[inline(always)]
-fn find<'a>(links: &mut Vec<Cid>, bytes: &'a [u8], levels: usize) -> Result<&'a [u8], Stop>
+fn find_in_item<'a>(links: &mut Vec<Cid>, bytes: &'a [u8], levels: usize) -> Result<&'a [u8], Stop>
     ensures { IfOk result (λ rest. Finds levels links.old.items links.new.items bytes.entry.now rest.now) }
 {
     let (major, argument, rest) = read_head(bytes)?;
@@ -105,9 +107,9 @@ fn find<'a>(links: &mut Vec<Cid>, bytes: &'a [u8], levels: usize) -> Result<&'a 
             let (_string, rest) = read_text(argument, rest)?;
             Ok(rest)
         }
-        Major::List => list(links, argument, rest, levels),
-        Major::Map => map(links, argument, rest, levels),
-        Major::Tag => link(links, argument, rest),
+        Major::List => find_in_list(links, argument, rest, levels),
+        Major::Map => find_in_map(links, argument, rest, levels),
+        Major::Tag => push_link(links, argument, rest),
         Major::Simple => match argument {
             20 => Ok(rest),
             21 => Ok(rest),
@@ -125,7 +127,7 @@ pub(crate) fn find_links(alloc: Global, bytes: &[u8], limits: &Limits) -> Result
         return Err(Stop::Unread);
     }
     let mut links = Vec::new(alloc);
-    let rest = find(&mut links, bytes, limits.levels.min(SHALLOW))?;
+    let rest = find_in_item(&mut links, bytes, limits.levels.min(SHALLOW))?;
     if rest.is_empty() {
         Ok(links)
     } else {

@@ -13,7 +13,7 @@ use crate::tape::{self, TapeEntry, push_entry};
 use dag_cbor_format::Major;
 use dag_cbor_format::head::read_head;
 use dag_cbor_format::item_header::{
-    FLOAT, LINK_TAG, is_finite, read_bytes, read_key, read_link_bytes, read_text,
+    FLOAT, LINK_TAG, is_finite, read_bytes, read_key_text, read_link_bytes, read_text,
 };
 use ipld_cid::Cid;
 use ipld_tree::Limits;
@@ -47,7 +47,7 @@ fn push_content(
 
 // Writes the entry of a list or a map, whose index this is, where it ends.
 #[inline(always)]
-fn close(entries: &mut Vec<TapeEntry>, kind: u32, index: usize, count: u64) -> Result<(), Stop>
+fn set_count(entries: &mut Vec<TapeEntry>, kind: u32, index: usize, count: u64) -> Result<(), Stop>
     ensures short { OnOk result (length entries.old.items - index < 2 ^ 32) }
     ensures put { OnOk result (entries.new.items ≡ slice_set entries.old.items index (entry kind (length entries.old.items - index) count)) }
 {
@@ -67,7 +67,11 @@ fn close(entries: &mut Vec<TapeEntry>, kind: u32, index: usize, count: u64) -> R
 // Each of these puts the entries of a value, behind its head, behind the others, and returns what follows the value.
 
 #[inline(never)]
-fn float<'a>(entries: &mut Vec<TapeEntry>, size: usize, bytes: &'a [u8]) -> Result<&'a [u8], Stop>
+fn push_float<'a>(
+    entries: &mut Vec<TapeEntry>,
+    size: usize,
+    bytes: &'a [u8],
+) -> Result<&'a [u8], Stop>
     ensures { (levels : ℕ) → IfOk result (λ rest. Lists levels size entries.old.items entries.new.items (251 ∷ bytes.entry.now) rest.now) }
 {
     let (content, rest) = read_bytes(8, bytes)?;
@@ -79,7 +83,7 @@ fn float<'a>(entries: &mut Vec<TapeEntry>, size: usize, bytes: &'a [u8]) -> Resu
 }
 
 #[inline(always)]
-fn byte_string<'a>(
+fn push_byte_string<'a>(
     entries: &mut Vec<TapeEntry>,
     size: usize,
     length: u64,
@@ -93,7 +97,7 @@ fn byte_string<'a>(
 }
 
 #[inline(always)]
-fn text_string<'a>(
+fn push_text_string<'a>(
     entries: &mut Vec<TapeEntry>,
     size: usize,
     length: u64,
@@ -107,7 +111,7 @@ fn text_string<'a>(
 }
 
 #[inline(never)]
-fn link<'a>(
+fn push_link<'a>(
     entries: &mut Vec<TapeEntry>,
     size: usize,
     tag: u64,
@@ -129,7 +133,11 @@ fn link<'a>(
 }
 
 #[inline(always)]
-fn simple<'a>(entries: &mut Vec<TapeEntry>, number: u64, bytes: &'a [u8]) -> Result<&'a [u8], Stop>
+fn push_simple<'a>(
+    entries: &mut Vec<TapeEntry>,
+    number: u64,
+    bytes: &'a [u8],
+) -> Result<&'a [u8], Stop>
     ensures { (levels size : ℕ) → IfOk result (λ rest. ListsBehind levels size Major.Simple number entries.old.items entries.new.items bytes.entry.now rest.now) }
 {
     match number {
@@ -151,7 +159,7 @@ fn simple<'a>(entries: &mut Vec<TapeEntry>, number: u64, bytes: &'a [u8]) -> Res
 
 #[cycle(listing)]
 #[inline(never)]
-fn list<'a>(
+fn push_list<'a>(
     entries: &mut Vec<TapeEntry>,
     size: usize,
     count: u64,
@@ -169,16 +177,16 @@ fn list<'a>(
     let mut left = count;
     while left > 0 {
         left -= 1;
-        let after = add_value(entries, size, rest, inner)?;
+        let after = push_item(entries, size, rest, inner)?;
         rest = after;
     }
-    close(entries, tape::LIST, index, count)?;
+    set_count(entries, tape::LIST, index, count)?;
     Ok(rest)
 }
 
 #[cycle(listing)]
 #[inline(never)]
-fn map<'a>(
+fn push_map<'a>(
     entries: &mut Vec<TapeEntry>,
     size: usize,
     count: u64,
@@ -197,23 +205,23 @@ fn map<'a>(
     let mut left = count;
     while left > 0 {
         left -= 1;
-        let (key, behind) = read_key(rest)?;
+        let (key, behind) = read_key_text(rest)?;
         if !comes_after(key, last) {
             return Err(Stop::Unread);
         }
         push_content(entries, tape::KEY, key.len(), size, behind.len())?;
-        let after = add_value(entries, size, behind, inner)?;
+        let after = push_item(entries, size, behind, inner)?;
         rest = after;
         last = key;
     }
-    close(entries, tape::MAP, index, count)?;
+    set_count(entries, tape::MAP, index, count)?;
     Ok(rest)
 }
 
 // Puts the entries of the value that the bytes begin with, the last ones of a block of so many, behind the others, and returns what follows it.
 #[cycle(listing)]
 #[inline(always)]
-fn add_value<'a>(
+fn push_item<'a>(
     entries: &mut Vec<TapeEntry>,
     size: usize,
     bytes: &'a [u8],
@@ -222,7 +230,7 @@ fn add_value<'a>(
     ensures { IfOk result (λ rest. Lists levels size entries.old.items entries.new.items bytes.entry.now rest.now) }
 {
     if let [FLOAT, rest @ ..] = bytes {
-        return float(entries, size, rest);
+        return push_float(entries, size, rest);
     }
     let (major, argument, rest) = read_head(bytes)?;
     match major {
@@ -234,12 +242,12 @@ fn add_value<'a>(
             push_entry(entries, tape::NEGATIVE, 0, argument)?;
             Ok(rest)
         }
-        Major::Bytes => byte_string(entries, size, argument, rest),
-        Major::Text => text_string(entries, size, argument, rest),
-        Major::List => list(entries, size, argument, rest, levels),
-        Major::Map => map(entries, size, argument, rest, levels),
-        Major::Tag => link(entries, size, argument, rest),
-        Major::Simple => simple(entries, argument, rest),
+        Major::Bytes => push_byte_string(entries, size, argument, rest),
+        Major::Text => push_text_string(entries, size, argument, rest),
+        Major::List => push_list(entries, size, argument, rest, levels),
+        Major::Map => push_map(entries, size, argument, rest, levels),
+        Major::Tag => push_link(entries, size, argument, rest),
+        Major::Simple => push_simple(entries, argument, rest),
     }
 }
 
@@ -255,7 +263,7 @@ pub(crate) fn read_shallow_tape(
         return Err(Stop::Unread);
     }
     let mut entries = Vec::with_capacity(alloc, (bytes.len() / BYTES_PER_ENTRY).min(RESERVED))?;
-    let rest = add_value(&mut entries, bytes.len(), bytes, limits.levels.min(SHALLOW))?;
+    let rest = push_item(&mut entries, bytes.len(), bytes, limits.levels.min(SHALLOW))?;
     if rest.is_empty() {
         Ok(entries)
     } else {

@@ -227,7 +227,7 @@ impl TapeWriter {
     }
 
     #[inline(never)]
-    fn push_null(&mut self, left: usize) -> Result<(), AllocError>
+    fn push_null_or_float(&mut self, left: usize) -> Result<(), AllocError>
         ensures { Writes (null_after left) self.old result self.new }
     {
         self.count()?;
@@ -333,7 +333,7 @@ impl<'a> Visitor<'a> for TapeWriter {
     #[inline(always)]
     fn visit(&mut self, event: &Event<'a>, left: usize) -> Result<(), AllocError> {
         match event {
-            Event::Null => self.push_null(left),
+            Event::Null => self.push_null_or_float(left),
             Event::Bool(truth) => self.push_bool(*truth, left),
             Event::Integer(number) => self.push_integer(*number, left),
             Event::Str(string) => self.push_counted(STRING, string.len(), left),
@@ -387,12 +387,12 @@ pub fn read_tape(alloc: Global, bytes: &[u8], limits: &Limits) -> Result<Vec<Tap
             kind: BlockErrorKind::Cbor(CborError::Memory),
             offset: 0,
         })),
-        Err(Stop::Unread) => read_tape_of_any(alloc, bytes, limits),
+        Err(Stop::Unread) => read_tape_by_loop(alloc, bytes, limits),
     }
 }
 
 // The same, of a block that nests however deep, has keys in any order, passes a limit or has an error.
-fn read_tape_of_any(
+fn read_tape_by_loop(
     alloc: Global,
     bytes: &[u8],
     limits: &Limits,

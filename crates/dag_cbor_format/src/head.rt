@@ -28,7 +28,7 @@ fn major_of(first: u8) -> Major
 
 // An argument that has another form below the least.
 #[inline(always)]
-fn at_least(least: u64, argument: u64, rest: &[u8]) -> Result<(u64, &[u8]), CborError>
+fn argument_at_least(least: u64, argument: u64, rest: &[u8]) -> Result<(u64, &[u8]), CborError>
     ensures { Returns (λ x. (x.0, x.1.now)) CborError.NotShortest result (reading.at_least least argument rest.now) }
 {
     if argument < least {
@@ -43,7 +43,7 @@ fn read_byte(bytes: &[u8]) -> Result<(u64, &[u8]), CborError>
 {
     match bytes {
         [] => Err(CborError::End),
-        [argument, rest @ ..] => at_least(24, u64::from(*argument), rest),
+        [argument, rest @ ..] => argument_at_least(24, u64::from(*argument), rest),
     }
 }
 
@@ -54,7 +54,7 @@ fn read_two_bytes(bytes: &[u8]) -> Result<(u64, &[u8]), CborError>
     let Some((argument, rest)) = bytes.split_first_chunk::<2>() else {
         return Err(CborError::End);
     };
-    at_least(1 << 8, u64::from(u16::from_be_bytes(*argument)), rest)
+    argument_at_least(1 << 8, u64::from(u16::from_be_bytes(*argument)), rest)
 }
 
 #[inline(always)]
@@ -64,7 +64,7 @@ fn read_four_bytes(bytes: &[u8]) -> Result<(u64, &[u8]), CborError>
     let Some((argument, rest)) = bytes.split_first_chunk::<4>() else {
         return Err(CborError::End);
     };
-    at_least(1 << 16, u64::from(u32::from_be_bytes(*argument)), rest)
+    argument_at_least(1 << 16, u64::from(u32::from_be_bytes(*argument)), rest)
 }
 
 #[inline(always)]
@@ -74,7 +74,7 @@ fn read_eight_bytes(bytes: &[u8]) -> Result<(u64, &[u8]), CborError>
     let Some((argument, rest)) = bytes.split_first_chunk::<8>() else {
         return Err(CborError::End);
     };
-    at_least(1 << 32, u64::from_be_bytes(*argument), rest)
+    argument_at_least(1 << 32, u64::from_be_bytes(*argument), rest)
 }
 
 // The argument, by the additional five bits of an item's first byte.
@@ -120,7 +120,7 @@ fn argument_of(major: Major, additional: u8, bytes: &[u8]) -> Result<(u64, &[u8]
 // Reads by the bits, and doesn't look back at what was read.
 #[tactic(auto, unfolding(crate::specs::HeadReading::read_head, crate::specs::Errors::head_error))]
 #[inline(always)]
-fn read_parts(bytes: &[u8]) -> Result<(Major, u64, &[u8]), CborError>
+fn read_any_head(bytes: &[u8]) -> Result<(Major, u64, &[u8]), CborError>
     ensures { Returns (λ x. (x.0, x.1, x.2.now)) (wrong.head_error bytes.now) result (reading.read_head bytes.now) }
 {
     let [first, rest @ ..] = bytes else {
@@ -142,5 +142,5 @@ fn read_parts(bytes: &[u8]) -> Result<(Major, u64, &[u8]), CborError>
 pub fn read_head(bytes: &[u8]) -> Result<(Major, u64, &[u8]), CborError>
     ensures { Returns (λ x. (x.0, x.1, x.2.now)) (wrong.head_error bytes.now) result (reading.head_at bytes.now) }
 {
-    read_parts(bytes)
+    read_any_head(bytes)
 }

@@ -91,7 +91,7 @@ fn read_content(
 
 // An item that is no float.
 #[inline(always)]
-fn read_plain(bytes: &[u8]) -> Result<(ItemHead<'_>, &[u8]), CborError>
+fn read_item_without_floats(bytes: &[u8]) -> Result<(ItemHead<'_>, &[u8]), CborError>
     requires { has_float_head bytes.now ≡ false }
     ensures found { IfOk result (λ read. BeginsWith read.0 bytes.now read.1.now) }
     ensures shorter { IfOk result (λ read. length read.1.now < length bytes.now) }
@@ -117,7 +117,7 @@ pub fn read_item(bytes: &[u8]) -> Result<(ItemHead<'_>, &[u8]), CborError>
             Ok((bits, rest)) => Ok((ItemHead::Float(bits), rest)),
             Err(error) => Err(error),
         },
-        _ => read_plain(bytes),
+        _ => read_item_without_floats(bytes),
     }
 }
 
@@ -131,5 +131,5 @@ pub fn read_key(bytes: &[u8]) -> Result<(&str, &[u8]), CborError>
     ensures shorter { IfOk result (λ read. length read.1.now < length bytes.now) }
     ensures rejected { IfErr result (λ error. RejectsKey error bytes.now) }
 {
-    item_header::read_key(bytes)
+    item_header::read_key_text(bytes)
 }

@@ -144,11 +144,7 @@ fn tag_header(tag: u64, rest: &[u8]) -> Result<(ItemHeader<'_>, &[u8]), CborErro
 }
 
 #[inline(always)]
-fn item_header_after(
-    major: Major,
-    argument: u64,
-    rest: &[u8],
-) -> Result<(ItemHeader<'_>, &[u8]), CborError>
+fn header_of(major: Major, argument: u64, rest: &[u8]) -> Result<(ItemHeader<'_>, &[u8]), CborError>
     ensures { Returns (λ x. (beginning_of x.0, x.1.now)) (wrong.item_error major argument rest.now) result (reading.item_header_after major argument rest.now) }
 {
     match major {
@@ -178,11 +174,11 @@ pub fn read_header(bytes: &[u8]) -> Result<(ItemHeader<'_>, &[u8]), CborError>
     ensures { Returns (λ x. (beginning_of x.0, x.1.now)) (wrong.item_header_error bytes.now) result (reading.item_header_at bytes.now) }
 {
     let (major, argument, rest) = read_head(bytes)?;
-    item_header_after(major, argument, rest)
+    header_of(major, argument, rest)
 }
 
 #[inline(always)]
-fn text_after(major: Major, argument: u64, rest: &[u8]) -> Result<(&str, &[u8]), CborError>
+fn key_text(major: Major, argument: u64, rest: &[u8]) -> Result<(&str, &[u8]), CborError>
     ensures { Returns (λ x. (x.0.now, x.1.now)) (wrong.text_key_error major argument rest.now) result (reading.text_after major argument rest.now) }
 {
     match major {
@@ -198,16 +194,16 @@ fn text_after(major: Major, argument: u64, rest: &[u8]) -> Result<(&str, &[u8]),
 /// Those of [`read_head`], `KeyNotText` of another item, and `End` and `Utf8` of its content.
 #[tactic(auto, unfolding(crate::specs::ItemHeader::key_at, crate::specs::Errors::key_error))]
 #[inline(always)]
-pub fn read_key(bytes: &[u8]) -> Result<(&str, &[u8]), CborError>
+pub fn read_key_text(bytes: &[u8]) -> Result<(&str, &[u8]), CborError>
     ensures { Returns (λ x. (x.0.now, x.1.now)) (wrong.key_error bytes.now) result (reading.key_at bytes.now) }
 {
     let (major, argument, rest) = read_head(bytes)?;
-    text_after(major, argument, rest)
+    key_text(major, argument, rest)
 }
 
 // The bytes of a CID behind a zero byte.
 #[inline(always)]
-fn behind_zero<'a>(content: &'a [u8], rest: &'a [u8]) -> Result<(&'a [u8], &'a [u8]), CborError>
+fn strip_zero<'a>(content: &'a [u8], rest: &'a [u8]) -> Result<(&'a [u8], &'a [u8]), CborError>
     ensures { Returns (λ x. (x.0.now, x.1.now)) CborError.LinkBytes result (behind_zero (Some (content.entry.now, rest.entry.now))) }
 {
     match content {
@@ -217,13 +213,13 @@ fn behind_zero<'a>(content: &'a [u8], rest: &'a [u8]) -> Result<(&'a [u8], &'a [
 }
 
 #[inline(always)]
-fn link_bytes_after(major: Major, argument: u64, rest: &[u8]) -> Result<(&[u8], &[u8]), CborError>
+fn link_content(major: Major, argument: u64, rest: &[u8]) -> Result<(&[u8], &[u8]), CborError>
     ensures { Returns (λ x. (x.0.now, x.1.now)) (wrong.bytes_error major argument rest.now) result (link_bytes_after major argument rest.now) }
 {
     match major {
         Major::Bytes => {
             let (content, rest) = read_bytes(argument, rest)?;
-            behind_zero(content, rest)
+            strip_zero(content, rest)
         }
         _ => Err(CborError::LinkBytes),
     }
@@ -240,5 +236,5 @@ pub fn read_link_bytes(bytes: &[u8]) -> Result<(&[u8], &[u8]), CborError>
     ensures { Returns (λ x. (x.0.now, x.1.now)) (wrong.link_error bytes.now) result (link_bytes_at bytes.now) }
 {
     let (major, argument, rest) = read_head(bytes)?;
-    link_bytes_after(major, argument, rest)
+    link_content(major, argument, rest)
 }

@@ -12,7 +12,9 @@ use dag_cbor::shallow::read_front;
 use dag_cbor_blocks::shallow::Stop;
 use dag_cbor_format::Major;
 use dag_cbor_format::head::read_head;
-use dag_cbor_format::item_header::{LINK_TAG, read_bytes, read_key, read_link_bytes, read_text};
+use dag_cbor_format::item_header::{
+    LINK_TAG, read_bytes, read_key_text, read_link_bytes, read_text,
+};
 use ipld_cid::Cid;
 use ipld_de::{ImageReader, Unread};
 use ipld_tree::Ipld;
@@ -20,7 +22,7 @@ use std::alloc::Global;
 
 // What follows a Null, which is its head alone.
 #[inline(always)]
-fn behind_null(bytes: &[u8]) -> Option<&[u8]>
+fn skip_null(bytes: &[u8]) -> Option<&[u8]>
     ensures some { IfSome result (λ rest. bytes.now ≡ 246 ∷ rest.now) }
     ensures none { IfNone result ((rest : List ℕ) → bytes.now ≡ 246 ∷ rest → ⊥) }
 {
@@ -38,7 +40,7 @@ pub(crate) struct BlockReader<'a> {
 
 // What follows an integer, a string or bytes, of which no tree need be made.
 #[inline(always)]
-fn behind_scalar(bytes: &[u8]) -> Option<&[u8]>
+fn skip_scalar(bytes: &[u8]) -> Option<&[u8]>
     ensures { (levels : ℕ) → IfSome result (λ rest. (t : Tree) × Begins levels t bytes.now rest.now) }
 {
     let Ok((major, argument, more)) = read_head(bytes) else {
@@ -76,7 +78,7 @@ impl<'a> ImageReader for BlockReader<'a> {
 
     #[inline(always)]
     fn read_null(&mut self) -> bool {
-        match behind_null(self.bytes) {
+        match skip_null(self.bytes) {
             Some(rest) => {
                 self.bytes = rest;
                 true
@@ -113,7 +115,7 @@ impl<'a> ImageReader for BlockReader<'a> {
 
     #[inline(always)]
     fn read_string(&mut self, alloc: Global) -> Result<String, Unread> {
-        let Ok((content, rest)) = read_key(self.bytes) else {
+        let Ok((content, rest)) = read_key_text(self.bytes) else {
             return Err(Unread::Rejected);
         };
         self.bytes = rest;
@@ -161,7 +163,7 @@ impl<'a> ImageReader for BlockReader<'a> {
     }
 
     fn skip_tree(&mut self, alloc: Global, levels: usize) -> Result<(), Unread> {
-        match behind_scalar(self.bytes) {
+        match skip_scalar(self.bytes) {
             Some(rest) => {
                 self.bytes = rest;
                 Ok(())
@@ -194,7 +196,7 @@ impl<'a> ImageReader for BlockReader<'a> {
 
     #[inline(always)]
     fn read_key(&mut self) -> Result<&'a str, Unread> {
-        let Ok((key, rest)) = read_key(self.bytes) else {
+        let Ok((key, rest)) = read_key_text(self.bytes) else {
             return Err(Unread::Rejected);
         };
         self.bytes = rest;

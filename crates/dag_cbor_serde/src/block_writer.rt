@@ -51,7 +51,7 @@ impl ImageWriter for BlockWriter {
     fn write_integer(&mut self, value: i128) -> Result<(), Unwritten> {
         match write_integer(&mut self.block, value) {
             Ok(()) => Ok(()),
-            Err(error) => Err(unwritten(error)),
+            Err(error) => Err(unwritten_of(error)),
         }
     }
 
@@ -79,7 +79,7 @@ impl ImageWriter for BlockWriter {
                 self.block.extend_from_slice(&bytes)?;
                 Ok(())
             }
-            Err(error) => Err(unwritten(error)),
+            Err(error) => Err(unwritten_of(error)),
         }
     }
 
@@ -101,7 +101,7 @@ impl ImageWriter for BlockWriter {
 }
 
 // Why a part isn't written.
-fn unwritten(error: CborError) -> Unwritten
+fn unwritten_of(error: CborError) -> Unwritten
     ensures { result ≡ unwritten_of error }
 {
     match error {

@@ -90,7 +90,7 @@ fn read_parts<T: Deserialize>(
                 Ok(value)
             } else {
                 value.discard();
-                Err(Some(trailing(bytes.len() - reader.bytes.len())))
+                Err(Some(trailing_error(bytes.len() - reader.bytes.len())))
             }
         }
         Err(Unread::Memory) => Err(Some(DecodeError::Memory)),
@@ -98,12 +98,12 @@ fn read_parts<T: Deserialize>(
         Err(Unread::MissingField) if reader.bytes.is_empty() => {
             Err(Some(DecodeError::Value(SerdeError::Custom("missing field"))))
         }
-        Err(Unread::MissingField) => Err(Some(trailing(bytes.len() - reader.bytes.len()))),
+        Err(Unread::MissingField) => Err(Some(trailing_error(bytes.len() - reader.bytes.len()))),
     }
 }
 
 // The error of a block behind whose tree, which ends at this byte, others follow.
-fn trailing(offset: usize) -> DecodeError
+fn trailing_error(offset: usize) -> DecodeError
     ensures { result ≡ trailing_at offset }
 {
     DecodeError::Block(BlockError {
@@ -146,12 +146,12 @@ pub fn from_reader_within<T: Deserialize, R: BufRead>(
     ensures read_out { OnOk result (IsReadOut (R.remaining reader.old) (R.remaining reader.new)) }
     ensures err { IfErr result (λ error. (error ≡ DecodeError.Read) ⊎ IfSome (R.remaining reader.old) (λ block. NotRead T.reads T.read_error limits.now block error)) }
 {
-    let block = block_of(alloc, reader)?;
+    let block = read_block(alloc, reader)?;
     from_slice_within(alloc, &block, limits)
 }
 
 // All that the reader still has.
-fn block_of<R: BufRead>(alloc: Global, reader: &mut R) -> Result<Vec<u8>, DecodeError>
+fn read_block<R: BufRead>(alloc: Global, reader: &mut R) -> Result<Vec<u8>, DecodeError>
     ensures ok { IfOk result (λ bytes. IfSome (R.remaining reader.old) (λ block. block ≡ bytes.items)) }
     ensures read_out { OnOk result (IsReadOut (R.remaining reader.old) (R.remaining reader.new)) }
     ensures err { IfErr result (λ error. (error ≡ DecodeError.Memory) ⊎ (error ≡ DecodeError.Read)) }

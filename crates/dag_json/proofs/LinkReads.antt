@@ -18,13 +18,13 @@ use Rattle.ipld_cid.specs.TextReading as reading
 use Rattle.ipld_cid.proofs.Encodings.{encoded_is_valid}
 use Rattle.ipld_cid.proofs.TextReadings.{text_is_encoded, one_text, read_text-text_of}
 use Rattle.ipld_cid.proofs.Texts.{text_of_v1}
-use Rattle.cid_text.specs.declared.base.Base.TheVariants.{Base32Lower, Base58Btc}
-use Rattle.cid_text.specs.Base.{letter, alphabet}
-use Rattle.cid_text.specs.Digits.{IsBelow, leading_zeros, SameNumber}
-use Rattle.cid_text.specs.Encodes.{Encodes}
-use Rattle.cid_text.specs.Text.{Form, IsText, IsTextAt, has_path, path_len, begins_qm, form_of, multibase_form}
-use Rattle.cid_text.proofs.Places.{digits-are, below-cons, below-drop}
-use Rattle.cid_text.proofs.Writing.{written_reads}
+use Rattle.ipld_cid_text.specs.declared.base.Base.TheVariants.{Base32Lower, Base58Btc}
+use Rattle.ipld_cid_text.specs.Base.{letter, alphabet}
+use Rattle.ipld_cid_text.specs.Digits.{IsBelow, leading_zeros, SameNumber}
+use Rattle.ipld_cid_text.specs.Encodes.{Encodes}
+use Rattle.ipld_cid_text.specs.Text.{Form, IsText, IsTextAt, has_path, path_len, begins_qm, form_of, multibase_form}
+use Rattle.ipld_cid_text.proofs.Places.{digits-are, below-cons, below-drop}
+use Rattle.ipld_cid_text.proofs.Writing.{written_reads}
 use Rattle.dag_json.specs.LinkText.{base58, link_text}
 use Rattle.dag_json.specs.LinkRead.{value58, v0_of_number, if_written, v0_of, begins_b, cid_of}
 use Rattle.dag_json.proofs.LinkTexts.{text_v0, text_v1}

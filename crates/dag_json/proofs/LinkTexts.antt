@@ -7,12 +7,12 @@ use Rattle.ipld_cid.specs.declared.cid.Version.TheVariants.{V0, V1}
 use Rattle.ipld_cid.specs.Bytes.{bytes_of}
 use Rattle.ipld_cid.specs.Cid.{Link}
 use Rattle.ipld_cid.specs.Text.{text_of}
-use Rattle.cid_text.specs.declared.base.Base.TheVariants.{Base58Btc}
-use Rattle.cid_text.specs.Base.{letter}
-use Rattle.cid_text.specs.Digits.{leading_zeros}
-use Rattle.cid_text.specs.Encodes.{Encodes}
-use Rattle.cid_text.specs.Text.{IsTextAt, IsTextIn}
-use Rattle.cid_text.proofs.Places.{digits-are}
+use Rattle.ipld_cid_text.specs.declared.base.Base.TheVariants.{Base58Btc}
+use Rattle.ipld_cid_text.specs.Base.{letter}
+use Rattle.ipld_cid_text.specs.Digits.{leading_zeros}
+use Rattle.ipld_cid_text.specs.Encodes.{Encodes}
+use Rattle.ipld_cid_text.specs.Text.{IsTextAt, IsTextIn}
+use Rattle.ipld_cid_text.proofs.Places.{digits-are}
 use Rattle.dag_json.specs.LinkText.{base58, link_text}
 
 -- the letters of bytes in base58btc

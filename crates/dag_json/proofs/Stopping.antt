@@ -17,7 +17,7 @@ use Rattle.dag_json.specs.declared.offset.Start.{Start}
 use Rattle.dag_json.specs.declared.offset.Start.TheVariants as start_at
 use Rattle.dag_json.specs.declared.read_error.ReadErrorKind.{ReadErrorKind}
 use Rattle.dag_json.specs.declared.read_error.ReadErrorKind.TheVariants.{Memory}
-use Rattle.dag_json.proofs.Reading.{run_failed}
+use Rattle.dag_json.specs.Lemmas.Reading.{run_failed}
 use Rattle.dag_json.proofs.Seeking.{AreGood, Begun, by_class, found_behind}
 
 -- ---- tokens that came to no error

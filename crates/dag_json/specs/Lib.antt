@@ -17,3 +17,10 @@ pub mod Canonical
 pub mod Building
 pub mod Cursors
 pub mod Errors
+pub mod Codec
+pub mod Lemmas
+pub mod CodecErrors
+pub mod Tape
+pub mod TapeWriting
+pub mod TapeOpen
+pub mod TapeReading

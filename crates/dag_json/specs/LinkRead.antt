@@ -7,8 +7,8 @@ use Rattle.std.specs.Str.{bytes_eq}
 use Rattle.ipld_cid.specs.declared.cid.Version.TheVariants.{V0}
 use Rattle.ipld_cid.specs.Cid.{Link}
 use Rattle.ipld_cid.specs.TextReading.{read_text}
-use Rattle.cid_text.specs.declared.base.Base.TheVariants.{Base58Btc}
-use Rattle.cid_text.specs.Base.{alphabet}
+use Rattle.ipld_cid_text.specs.declared.base.Base.TheVariants.{Base58Btc}
+use Rattle.ipld_cid_text.specs.Base.{alphabet}
 use Rattle.dag_json.specs.LinkText.{link_text}
 
 -- the digit that a letter of base58btc stands for

@@ -5,9 +5,9 @@ use Rattle.ipld_cid.specs.declared.cid.Version.TheVariants.{V0, V1}
 use Rattle.ipld_cid.specs.Bytes.{bytes_of}
 use Rattle.ipld_cid.specs.Cid.{Link}
 use Rattle.ipld_cid.specs.Text as printed
-use Rattle.cid_text.specs.declared.base.Base.TheVariants.{Base58Btc}
-use Rattle.cid_text.specs.Base.{letter}
-use Rattle.cid_text.specs.Digits.{leading_zeros}
+use Rattle.ipld_cid_text.specs.declared.base.Base.TheVariants.{Base58Btc}
+use Rattle.ipld_cid_text.specs.Base.{letter}
+use Rattle.ipld_cid_text.specs.Digits.{leading_zeros}
 
 -- bytes in base58btc: the digits of the number that they are, behind a zero for each zero byte in front
 unfoldable pub base58 : List ℕ → List ℕ

@@ -45,7 +45,7 @@ fn read_tokens(
     let mut taken = 0;
     let mut unfinished = builder.is_unfinished();
     while let Some(token) = reader.next() {
-        if let Err(kind) = builder.take(&token, limits, floats) {
+        if let Err(kind) = builder.take_token(&token, limits, floats) {
             return Err(Stop {
                 kind,
                 taken,
@@ -151,7 +151,11 @@ fn common_len(a: &[u8], b: &[u8]) -> usize
 }
 
 // Where a text differs from that which is written of a tree, if it does.
-fn difference(alloc: Global, tree: &Ipld, bytes: &[u8]) -> Result<Option<usize>, ReadErrorKind>
+fn first_difference(
+    alloc: Global,
+    tree: &Ipld,
+    bytes: &[u8],
+) -> Result<Option<usize>, ReadErrorKind>
     ensures { MatchResult result
         (λ place. MatchOption place (written (tree_of tree.now) ≡ Some bytes.now) (IsWrittenOtherwise (tree_of tree.now) bytes.now))
         (λ kind. (kind ≡ ReadErrorKind.Memory) ⊎ (written (tree_of tree.now) ≡ None)) }
@@ -183,7 +187,7 @@ pub fn from_canonical(alloc: Global, bytes: &[u8], limits: &Limits) -> Result<Ip
         Ok(tree) => tree,
         Err(error) => return Err(error),
     };
-    match difference(alloc, &tree, bytes) {
+    match first_difference(alloc, &tree, bytes) {
         Ok(None) => Ok(tree),
         Ok(Some(offset)) => {
             tree.discard();

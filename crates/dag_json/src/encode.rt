@@ -19,8 +19,8 @@ ghost use Rattle.dag_json.specs.Cursors.{Wrote, Advances, Opens, StepOf, trees_l
 use crate::error::DagJsonError;
 use crate::reserved::{find_reserved, is_reserved};
 use base64::engine::general_purpose::STANDARD_NO_PAD;
-use cid_text::{Base, ToStringError, to_string_of_base};
 use ipld_cid::{Cid, Version};
+use ipld_cid_text::{Base, ToStringError, to_string_of_base};
 use ipld_tree::Ipld;
 use json::Writer;
 use std::alloc::{AllocError, Global};
@@ -210,7 +210,7 @@ fn write_value<'a>(
 
 // Writes the next value, or leaves a list or a map at its end; false where nothing is left.
 #[inline(always)]
-fn step<'a>(
+fn write_next<'a>(
     alloc: Global,
     writer: &mut Writer,
     innermost: &mut JsonCursor<'a>,
@@ -240,7 +240,7 @@ fn write_tree(alloc: Global, writer: &mut Writer, value: &Ipld) -> Result<(), St
 {
     let mut innermost = JsonCursor::Itself(Some(value));
     let mut outer = Vec::new(alloc);
-    while step(alloc, writer, &mut innermost, &mut outer)? {}
+    while write_next(alloc, writer, &mut innermost, &mut outer)? {}
     Ok(())
 }
 

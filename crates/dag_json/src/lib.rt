@@ -29,8 +29,30 @@
 //!     from_slice(alloc, text, &Limits::default())
 //! }
 //! ```
+//!
+//! [`tape_from_slice`] reads a text, which may have floats, as a [`Tape`]: each value and each key as an entry of an array, over a buffer of their
+//! content. `dag_cbor_tape::encode_tape` makes the block of DAG-CBOR of it:
+//!
+//! ```rust
+//! use dag_cbor_tape::encode_tape;
+//! use dag_json::{ReadError, tape_from_slice};
+//! use ipld_tree::Limits;
+//! use std::alloc::Global;
+//!
+//! // The block of a text, or `None` if it has none.
+//! fn block_of(alloc: Global, text: &[u8]) -> Result<Option<Vec<u8>>, ReadError> {
+//!     let tape = tape_from_slice(alloc, text, &Limits::default())?;
+//!     match encode_tape(alloc, &tape.entries, &tape.contents) {
+//!         Ok(block) => Ok(Some(block)),
+//!         Err(_) => Ok(None),
+//!     }
+//! }
+//! ```
+//!
+//! [`DagJsonCodec`] is DAG-JSON as a `Codec` of `ipld_codec`.
 #![tactic(auto)]
 
+mod codec;
 mod decode;
 mod encode;
 mod error;
@@ -40,9 +62,12 @@ mod offset;
 mod read_error;
 mod reserved;
 mod scalar;
+mod tape;
 mod tree;
 
+pub use codec::{DagJsonCodec, DagJsonCodecError};
 pub use decode::{from_canonical, from_slice, from_str};
 pub use encode::{to_string, to_vec};
 pub use error::DagJsonError;
 pub use read_error::{ReadError, ReadErrorKind};
+pub use tape::{Tape, tape_from_slice};

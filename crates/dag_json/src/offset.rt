@@ -37,7 +37,7 @@ enum Mode {
 
 impl Mode {
     // Within what the next byte stands.
-    fn behind(self, class: Class) -> Mode
+    fn after(self, class: Class) -> Mode
         ensures { result ≡ mode_behind self class }
     {
         match (self, class) {
@@ -71,7 +71,7 @@ enum Start {
     Token(Last),
 }
 
-fn begins(mode: Mode, class: Class, byte: u8) -> Start
+fn token_start(mode: Mode, class: Class, byte: u8) -> Start
     ensures { result ≡ start_in mode class byte }
 {
     match (mode, class) {
@@ -102,7 +102,7 @@ impl Walk {
         ensures { result ≡ passed may_pass self byte }
     {
         let class = classify(byte);
-        let (last, left) = match (begins(self.mode, class, byte), self.last) {
+        let (last, left) = match (token_start(self.mode, class, byte), self.last) {
             (Start::Nothing, last) => (last, self.left),
             (Start::Comma, Last::Value | Last::String) if may_pass || self.left > 0 => (
                 Last::Comma,
@@ -113,7 +113,7 @@ impl Walk {
             _ => return None,
         };
         Some(Walk {
-            mode: self.mode.behind(class),
+            mode: self.mode.after(class),
             last,
             left,
         })

@@ -12,7 +12,7 @@ use std::alloc::{AllocError, Global};
 use std::collections::BTreeMap;
 
 // The first value of a map, where it stands under this key.
-fn first_under<'a>(members: &'a BTreeMap<String, Ipld>, name: &str) -> Option<&'a Ipld>
+fn first_value<'a>(members: &'a BTreeMap<String, Ipld>, name: &str) -> Option<&'a Ipld>
     ensures { option_map (λ value. tree_of value.now) result ≡ first_under name.now (members_of members.now.entries) }
 {
     let (key, value) = members.iter().next()?;
@@ -29,7 +29,7 @@ fn reads_as_content(value: &Ipld) -> bool
 {
     match value {
         Ipld::String(_) => true,
-        Ipld::Map(members) => matches!(first_under(members, "bytes"), Some(Ipld::String(_))),
+        Ipld::Map(members) => matches!(first_value(members, "bytes"), Some(Ipld::String(_))),
         _ => false,
     }
 }
@@ -38,7 +38,7 @@ fn reads_as_content(value: &Ipld) -> bool
 pub(crate) fn is_reserved(members: &BTreeMap<String, Ipld>) -> bool
     ensures { result ≡ is_reserved (entries (members_of members.now.entries)) }
 {
-    match first_under(members, "/") {
+    match first_value(members, "/") {
         Some(value) => reads_as_content(value),
         None => false,
     }

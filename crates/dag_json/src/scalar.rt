@@ -15,8 +15,8 @@ use crate::read_error::ReadErrorKind;
 use crate::reserved::is_reserved;
 use base64::DecodeAllocError;
 use base64::engine::general_purpose::STANDARD_NO_PAD;
-use cid_text::parse_any;
 use ipld_cid::{Cid, Version};
+use ipld_cid_text::parse_any;
 use ipld_tree::Ipld;
 use std::alloc::{AllocError, Global};
 use std::collections::BTreeMap;
@@ -64,7 +64,7 @@ fn read_v0(alloc: Global, text: &str) -> Result<Option<Cid>, AllocError>
 
 // Whether a text begins with the prefix of base32.
 #[inline(always)]
-fn begins_b(text: &[u8]) -> bool
+fn begins_with_b(text: &[u8]) -> bool
     ensures { result ≡ begins_b text.now }
 {
     match text {
@@ -77,7 +77,7 @@ fn begins_b(text: &[u8]) -> bool
 fn read_cid(alloc: Global, text: &str) -> Result<Option<Cid>, AllocError>
     ensures { IfOk result (λ found. option_map link_of found ≡ cid_of text.now) }
 {
-    if begins_b(text.as_bytes()) {
+    if begins_with_b(text.as_bytes()) {
         match text.parse::<Cid>() {
             Ok(cid) => Ok(Some(cid)),
             Err(_) => Ok(None),
@@ -122,7 +122,7 @@ fn only_value(members: &BTreeMap<String, Ipld>) -> Option<&Ipld>
 }
 
 // The bytes that the map behind the key `/` of a reserved map is.
-fn read_inner(alloc: Global, members: &BTreeMap<String, Ipld>) -> Result<Ipld, ReadErrorKind>
+fn read_bytes_object(alloc: Global, members: &BTreeMap<String, Ipld>) -> Result<Ipld, ReadErrorKind>
     ensures { Makes (reserved_bytes (only_tree (members_of members.now.entries))) result }
 {
     match only_value(members) {
@@ -137,7 +137,7 @@ fn read_reserved(alloc: Global, members: &BTreeMap<String, Ipld>) -> Result<Ipld
 {
     match only_value(members) {
         Some(Ipld::String(text)) => read_link(alloc, text),
-        Some(Ipld::Map(inner)) => read_inner(alloc, inner),
+        Some(Ipld::Map(inner)) => read_bytes_object(alloc, inner),
         _ => Err(ReadErrorKind::Reserved),
     }
 }

@@ -33,7 +33,7 @@ pub(crate) struct TreeBuilder {
 
 // What putting a part in returned, as an error of reading.
 #[inline(always)]
-fn read(built: Result<(), BuildError>) -> Result<(), ReadErrorKind>
+fn read_error_of(built: Result<(), BuildError>) -> Result<(), ReadErrorKind>
     ensures { result ≡ as_read built }
 {
     match built {
@@ -98,7 +98,7 @@ impl TreeBuilder {
     fn put(&mut self, value: Ipld) -> Result<(), ReadErrorKind>
         ensures { Reaches (completed (tree_of value) self.old.depth self.old.values (levels_of self.old)) result (state_of self.new) }
     {
-        read(self.tree.put(value))
+        read_error_of(self.tree.put(value))
     }
 
     // Adds a value that is no list and no map.
@@ -147,7 +147,7 @@ impl TreeBuilder {
             return Err(ReadErrorKind::DuplicateKey);
         }
         match String::from_str(self.alloc, key) {
-            Ok(key) => read(self.tree.put_key(key)),
+            Ok(key) => read_error_of(self.tree.put_key(key)),
             Err(AllocError) => Err(ReadErrorKind::Memory),
         }
     }
@@ -172,7 +172,7 @@ impl TreeBuilder {
         ensures { Reaches (begun limits.now (state_of self.old) (in_list no_items)) result (state_of self.new) }
     {
         self.begin(limits)?;
-        read(self.tree.begin_list(None))
+        read_error_of(self.tree.begin_list(None))
     }
 
     fn end_list(&mut self) -> Result<(), ReadErrorKind>
@@ -189,7 +189,7 @@ impl TreeBuilder {
         ensures { Reaches (begun limits.now (state_of self.old) (in_key no_members)) result (state_of self.new) }
     {
         self.begin(limits)?;
-        read(self.tree.begin_map())
+        read_error_of(self.tree.begin_map())
     }
 
     // Puts what a map stands for: a link, bytes, or itself.
@@ -213,7 +213,7 @@ impl TreeBuilder {
     }
 
     // Takes the next token, where floats are read or none.
-    pub(crate) fn take(
+    pub(crate) fn take_token(
         &mut self,
         token: &Token<'_>,
         limits: &Limits,

@@ -7,7 +7,7 @@ ghost use Rattle.dag_pb.specs.Spans.{LinkEndsBefore};
 ghost use Rattle.dag_pb.specs.Views.{parts_of_link};
 
 use crate::error::{Fault, PbErrorKind};
-use crate::wire::{after_key, read_content, read_varint};
+use crate::wire::{read_content, read_varint, strip_key};
 use ipld_cid::Cid;
 use simdutf8::basic::from_utf8;
 
@@ -46,7 +46,7 @@ fn read_hash(bytes: &[u8]) -> Result<(Cid, &[u8]), PbErrorKind>
         (λ error. reading.read_hash bytes.now ≡ Err error) }
     ensures shorter { IfOk result (λ found. length found.1.now ≤ length bytes.now) }
 {
-    let Some(after) = after_key(HASH, bytes)? else {
+    let Some(after) = strip_key(HASH, bytes)? else {
         return Err(PbErrorKind::NoHash);
     };
     let (content, rest) = read_content(after)?;
@@ -78,7 +78,7 @@ fn read_name(bytes: &[u8]) -> Result<(Option<&str>, &[u8]), PbErrorKind>
         (λ error. reading.read_name bytes.now ≡ Err error) }
     ensures shorter { IfOk result (λ found. length found.1.now ≤ length bytes.now) }
 {
-    let Some(after) = after_key(NAME, bytes)? else {
+    let Some(after) = strip_key(NAME, bytes)? else {
         return Ok((None, bytes));
     };
     let (content, rest) = read_content(after)?;
@@ -95,7 +95,7 @@ fn read_tsize(bytes: &[u8]) -> Result<(Option<u64>, &[u8]), PbErrorKind>
         (λ error. reading.read_tsize bytes.now ≡ Err error) }
     ensures shorter { IfOk result (λ found. length found.1.now ≤ length bytes.now) }
 {
-    match after_key(TSIZE, bytes)? {
+    match strip_key(TSIZE, bytes)? {
         None => Ok((None, bytes)),
         Some(after) => {
             let (tsize, rest) = read_varint(after)?;

@@ -97,7 +97,7 @@ pub fn read_node<'a>(alloc: Global, bytes: &'a [u8]) -> Result<PbNode<'a>, PbErr
 
 // Adds the hash of a field that is a link.
 #[inline(always)]
-fn add_hash(links: &mut Vec<Cid>, part: &NodeField<'_>) -> Result<(), AllocError>
+fn push_hash(links: &mut Vec<Cid>, part: &NodeField<'_>) -> Result<(), AllocError>
     ensures added { OnOk result ((rest : NodeParts) → map link_of links.old.items ++ hashes (with_field (part_of part.now) rest)
         ≡ map link_of links.new.items ++ hashes rest) }
     ensures full { OnErr result (IsLinkField part.now) }
@@ -124,7 +124,7 @@ fn collect_links(alloc: Global, bytes: &[u8]) -> Result<Vec<Cid>, PbError>
     while !rest.is_empty() {
         match read_part(stage, rest) {
             Ok((part, next, after)) => {
-                add_hash(&mut links, &part)?;
+                push_hash(&mut links, &part)?;
                 stage = next;
                 rest = after;
             }

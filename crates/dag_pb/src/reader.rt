@@ -61,7 +61,7 @@ pub(crate) enum NodeField<'a> {
 // The link whose message stands behind its length, and what follows it.
 #[tactic(auto, unfolding(crate::specs::NodeReading::link_field))]
 #[inline(always)]
-fn link_field(left: usize, bytes: &[u8]) -> Result<(PlacedLink<'_>, &[u8]), Fault>
+fn read_link_field(left: usize, bytes: &[u8]) -> Result<(PlacedLink<'_>, &[u8]), Fault>
     requires { length bytes.now ≤ left }
     ensures exact { MatchResult result
         (λ found. reading.link_field left bytes.now ≡ Ok (parts_of_link found.0.link, found.1.now))
@@ -92,7 +92,7 @@ fn link_field(left: usize, bytes: &[u8]) -> Result<(PlacedLink<'_>, &[u8]), Faul
 // The data behind their length, and what follows them.
 #[tactic(auto, unfolding(crate::specs::NodeReading::data_field))]
 #[inline(always)]
-fn data_field(left: usize, bytes: &[u8]) -> Result<(&[u8], &[u8]), Fault>
+fn read_data_field(left: usize, bytes: &[u8]) -> Result<(&[u8], &[u8]), Fault>
     ensures exact { MatchResult result
         (λ found. reading.data_field left bytes.now ≡ Ok (found.0.now, found.1.now))
         (λ fault. reading.data_field left bytes.now ≡ Err fault) }
@@ -107,7 +107,7 @@ fn data_field(left: usize, bytes: &[u8]) -> Result<(&[u8], &[u8]), Fault>
 
 // A link, where one may come.
 #[inline(always)]
-fn link_part(
+fn take_link(
     stage: Stage,
     left: usize,
     bytes: &[u8],
@@ -125,7 +125,7 @@ fn link_part(
             left,
         });
     };
-    match link_field(left, bytes) {
+    match read_link_field(left, bytes) {
         Ok((link, rest)) => Ok((NodeField::Link(link), next, rest)),
         Err(fault) => Err(fault),
     }
@@ -133,7 +133,7 @@ fn link_part(
 
 // The data, where they may come.
 #[inline(always)]
-fn data_part(
+fn take_data(
     stage: Stage,
     left: usize,
     bytes: &[u8],
@@ -150,7 +150,7 @@ fn data_part(
             left,
         });
     };
-    let (content, rest) = data_field(left, bytes)?;
+    let (content, rest) = read_data_field(left, bytes)?;
     Ok((NodeField::Data(content), next, rest))
 }
 
@@ -170,8 +170,8 @@ pub(crate) fn read_part(stage: Stage, bytes: &[u8]) -> Result<(NodeField<'_>, St
         Err(kind) => return Err(Fault { kind, left }),
     };
     match key {
-        LINKS => link_part(stage, left, rest),
-        DATA => data_part(stage, left, rest),
+        LINKS => take_link(stage, left, rest),
+        DATA => take_data(stage, left, rest),
         _ => Err(Fault {
             kind: PbErrorKind::UnknownField(key),
             left,

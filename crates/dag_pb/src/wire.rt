@@ -7,7 +7,7 @@ use crate::error::PbErrorKind;
 
 // Whether a byte behind `place` bytes of a varint is too much: ten bytes hold 64 bits.
 #[inline(always)]
-fn exceeds(place: usize, byte: u8) -> bool
+fn overflows(place: usize, byte: u8) -> bool
     ensures { result ≡ reading.exceeds place byte }
 {
     place == 9 && byte > 1
@@ -23,7 +23,7 @@ pub(crate) fn read_varint(bytes: &[u8]) -> Result<(u64, &[u8]), PbErrorKind>
 {
     let mut value = 0;
     for (place, byte) in bytes.iter().enumerate() {
-        if exceeds(place, *byte) {
+        if overflows(place, *byte) {
             return Err(PbErrorKind::VarintTooLarge);
         }
         value |= u64::from(*byte & 0x7f) << (7 * place);
@@ -53,7 +53,7 @@ pub(crate) fn read_content(bytes: &[u8]) -> Result<(&[u8], &[u8]), PbErrorKind>
 // What stands after this key of a field, where the bytes begin with it.
 #[tactic(auto, unfolding(crate::specs::WireReading::after_key))]
 #[inline(always)]
-pub(crate) fn after_key(key: u64, bytes: &[u8]) -> Result<Option<&[u8]>, PbErrorKind>
+pub(crate) fn strip_key(key: u64, bytes: &[u8]) -> Result<Option<&[u8]>, PbErrorKind>
     ensures exact { MatchResult result
         (λ found. reading.after_key key bytes.now ≡ Ok (option_map (λ rest. rest.now) found))
         (λ error. reading.after_key key bytes.now ≡ Err error) }

@@ -1,7 +1,7 @@
 //! A CID's text in any base becomes its text in another.
 
 // [begin: texts]
-use cid_text::{Base, parse_any, to_string_of_base};
+use ipld_cid_text::{Base, parse_any, to_string_of_base};
 use std::alloc::Global;
 
 /// The text in base58 of the CID that a text or a path names.

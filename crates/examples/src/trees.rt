@@ -30,7 +30,7 @@ pub fn block_of(alloc: Global, tree: &Ipld) -> Result<Vec<u8>, CborError>
 // [end: encode]
 
 // [begin: name]
-use block_cid::cid_of;
+use ipld_block::cid_of;
 use ipld_cid::DAG_CBOR;
 
 /// The CID of a block of DAG-CBOR, by its SHA2-256 digest.

@@ -4,7 +4,7 @@ use clap::ArgMatches;
 use clap::parser::ValueSource;
 use ipld_block::BlockCodec;
 use ipld_car::DEFAULT_LIMIT;
-use ipld_files::{Outcome, no_memory, wrong_arguments};
+use ipld_cli::{Outcome, report_out_of_memory, report_wrong_arguments};
 
 /// The codec that `--codec` names, DAG-CBOR where it isn't given.
 pub fn codec_of(matches: &ArgMatches<'_>) -> BlockCodec {
@@ -49,16 +49,16 @@ pub fn size_of(
     };
     match parse_size(text) {
         Some(size) => Ok(Some(size)),
-        None => Err(wrong_size(rt, option, text)),
+        None => Err(report_wrong_size(rt, option, text)),
     }
 }
 
-fn wrong_size(rt: &HostRuntime, option: &str, text: &str) -> Outcome {
+fn report_wrong_size(rt: &HostRuntime, option: &str, text: &str) -> Outcome {
     match format!(in rt.alloc();
         "invalid value '{text}' for '--{option} <SIZE>': a number of bytes, or with K, M or G behind it, and not 0"
     ) {
-        Ok(why) => wrong_arguments(rt, &why),
-        Err(_) => no_memory(rt, text),
+        Ok(why) => report_wrong_arguments(rt, &why),
+        Err(_) => report_out_of_memory(rt, text),
     }
 }
 

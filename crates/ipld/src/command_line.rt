@@ -56,7 +56,7 @@ enum Kind {
 }
 
 // An option, by its name.
-fn option<'a>(alloc: Global, argument: &Argument) -> Arg<'a> {
+fn option_without_value<'a>(alloc: Global, argument: &Argument) -> Arg<'a> {
     let option = Arg::new(alloc, argument.name).long(argument.name);
     match argument.short {
         Some(short) => option.short(short),
@@ -65,20 +65,26 @@ fn option<'a>(alloc: Global, argument: &Argument) -> Arg<'a> {
 }
 
 // An option with a value of this name.
-fn option_of<'a>(alloc: Global, argument: &Argument, value: &'a str) -> Arg<'a> {
-    option(alloc, argument).value_name(value)
+fn option_with_value<'a>(alloc: Global, argument: &Argument, value: &'a str) -> Arg<'a> {
+    option_without_value(alloc, argument).value_name(value)
 }
 
 // An argument, without its help.
-fn of_kind<'a>(alloc: Global, argument: &Argument) -> Arg<'a> {
+fn argument_of_kind<'a>(alloc: Global, argument: &Argument) -> Arg<'a> {
     match argument.kind {
-        Kind::Flag => option(alloc, argument).action(ArgAction::SetTrue),
-        Kind::Value(value) => option_of(alloc, argument, value),
-        Kind::Required(value) => option_of(alloc, argument, value).required(true),
-        Kind::Hyphened(value) => option_of(alloc, argument, value).allow_hyphen_values(true),
-        Kind::Repeated(value) => option_of(alloc, argument, value).action(ArgAction::Append),
-        Kind::OneOf(value, values) => option_of(alloc, argument, value).value_parser(values),
-        Kind::Codec(codecs) => option_of(alloc, argument, "CODEC")
+        Kind::Flag => option_without_value(alloc, argument).action(ArgAction::SetTrue),
+        Kind::Value(value) => option_with_value(alloc, argument, value),
+        Kind::Required(value) => option_with_value(alloc, argument, value).required(true),
+        Kind::Hyphened(value) => option_with_value(alloc, argument, value).allow_hyphen_values(
+            true,
+        ),
+        Kind::Repeated(value) => option_with_value(alloc, argument, value).action(
+            ArgAction::Append,
+        ),
+        Kind::OneOf(value, values) => option_with_value(alloc, argument, value).value_parser(
+            values,
+        ),
+        Kind::Codec(codecs) => option_with_value(alloc, argument, "CODEC")
             .value_parser(codecs)
             .default_value("dag-cbor"),
         Kind::Word(value) => Arg::new(alloc, argument.name)
@@ -92,7 +98,7 @@ fn of_kind<'a>(alloc: Global, argument: &Argument) -> Arg<'a> {
 }
 
 fn argument_of<'a>(alloc: Global, argument: &Argument) -> Result<Arg<'a>, AllocError> {
-    of_kind(alloc, argument)
+    argument_of_kind(alloc, argument)
         .help(argument.help)
         .requires_all(argument.needs)?
         .conflicts_with_all(argument.excludes)?
@@ -112,7 +118,7 @@ fn with_arguments<'a>(
 }
 
 // A command of a name, without its arguments.
-fn named<'a>(alloc: Global, description: &Description) -> Command<'a> {
+fn bare_command<'a>(alloc: Global, description: &Description) -> Command<'a> {
     let command = Command::new(alloc, description.name).about(description.about);
     match description.more {
         Some(more) => command.after_help(more),
@@ -121,7 +127,11 @@ fn named<'a>(alloc: Global, description: &Description) -> Command<'a> {
 }
 
 fn command_of<'a>(alloc: Global, description: &Description) -> Result<Command<'a>, AllocError> {
-    with_arguments(alloc, named(alloc, description), description.arguments)
+    with_arguments(
+        alloc,
+        bare_command(alloc, description),
+        description.arguments,
+    )
 }
 
 fn with_commands<'a>(
@@ -137,7 +147,7 @@ fn with_commands<'a>(
 }
 
 // The program, without its commands.
-fn program<'a>(alloc: Global) -> Result<Command<'a>, AllocError> {
+fn program_command<'a>(alloc: Global) -> Result<Command<'a>, AllocError> {
     Command::new(alloc, "ipld")
         .about(ABOUT)
         .version("0.1.0")
@@ -148,28 +158,28 @@ fn program<'a>(alloc: Global) -> Result<Command<'a>, AllocError> {
 }
 
 // What is asked of a CAR, without the commands that read or write its blocks.
-fn list<'a>(alloc: Global) -> Result<Command<'a>, AllocError> {
+fn car_list_command<'a>(alloc: Global) -> Result<Command<'a>, AllocError> {
     command_of(alloc, &LIST)?
         .args_conflicts_with_subcommands(true)
         .subcommand_negates_reqs(true)
         .group(ArgGroup::new(alloc, FORM))
 }
 
-fn car<'a>(alloc: Global) -> Result<Command<'a>, AllocError> {
-    with_commands(alloc, list(alloc)?, CAR_COMMANDS)
+fn car_command<'a>(alloc: Global) -> Result<Command<'a>, AllocError> {
+    with_commands(alloc, car_list_command(alloc)?, CAR_COMMANDS)
 }
 
 // The program, with the commands on blocks.
-fn of_blocks<'a>(alloc: Global) -> Result<Command<'a>, AllocError> {
-    with_commands(alloc, program(alloc)?, BLOCK_COMMANDS)
+fn block_commands<'a>(alloc: Global) -> Result<Command<'a>, AllocError> {
+    with_commands(alloc, program_command(alloc)?, BLOCK_COMMANDS)
 }
 
 // The program, with the commands on blocks and CARs.
-fn of_files<'a>(alloc: Global) -> Result<Command<'a>, AllocError> {
-    of_blocks(alloc)?.subcommand(car(alloc)?)
+fn file_commands<'a>(alloc: Global) -> Result<Command<'a>, AllocError> {
+    block_commands(alloc)?.subcommand(car_command(alloc)?)
 }
 
 /// The command line of `ipld`.
 pub fn command<'a>(alloc: Global) -> Result<Command<'a>, AllocError> {
-    of_files(alloc)?.subcommand(command_of(alloc, &ENCODE)?)
+    file_commands(alloc)?.subcommand(command_of(alloc, &ENCODE)?)
 }

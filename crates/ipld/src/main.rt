@@ -8,12 +8,12 @@ mod command_line;
 
 ghost use Rattle.std.specs.Prelude.{◌≡◌};
 ghost use Rattle.std.specs.Process.{exit_status};
-ghost use Rattle.ipld_files.specs.Status.{status_of};
+ghost use Rattle.ipld_cli.specs.Status.{status_of};
 
 use crate::block_commands::{run_check, run_cid, run_encode, run_links, run_show};
 use crate::car_commands::run_car;
 use clap::ArgMatches;
-use ipld_files::Outcome;
+use ipld_cli::Outcome;
 use std::io::ErrorKind;
 use std::process::ExitCode;
 use std::{env, io};
@@ -30,10 +30,10 @@ fn exit_code(outcome: Outcome) -> ExitCode
 
 // Does what the arguments say.
 fn run(rt: &HostRuntime) -> Outcome {
-    match words(rt) {
+    match argument_words(rt) {
         Ok(words) => run_words(rt, words.as_slice()),
         // Where a message can't be written, the status says it.
-        Err(error) if error.kind() == ErrorKind::OutOfMemory => no_memory(rt),
+        Err(error) if error.kind() == ErrorKind::OutOfMemory => report_no_memory(rt),
         Err(_) => {
             let _ = eprintln!(rt;
                 "ipld: an argument is not UTF-8, and only such arguments are read"
@@ -43,20 +43,20 @@ fn run(rt: &HostRuntime) -> Outcome {
     }
 }
 
-fn no_memory(rt: &HostRuntime) -> Outcome {
+fn report_no_memory(rt: &HostRuntime) -> Outcome {
     let _ = eprintln!(rt; "ipld: out of memory");
     Outcome::Failed
 }
 
 // The arguments, the program's name first.
-fn words(rt: &HostRuntime) -> io::Result<Vec<String>> {
+fn argument_words(rt: &HostRuntime) -> io::Result<Vec<String>> {
     let words = env::args(rt)?.collect(rt.alloc())?;
     Ok(words)
 }
 
 fn run_words(rt: &HostRuntime, words: &[String]) -> Outcome {
     let Ok(command) = command_line::command(rt.alloc()) else {
-        return no_memory(rt);
+        return report_no_memory(rt);
     };
     match command.try_get_matches_from(words) {
         Ok(matches) => match matches.subcommand() {
@@ -65,7 +65,7 @@ fn run_words(rt: &HostRuntime, words: &[String]) -> Outcome {
         },
         Err(error) => {
             let is_help = error.exit_code() == 0;
-            printed(error.print(rt), is_help)
+            outcome_of_printing(error.print(rt), is_help)
         }
     }
 }
@@ -84,7 +84,7 @@ fn run_command(rt: &HostRuntime, name: &str, matches: &ArgMatches<'_>) -> Outcom
 }
 
 // How it ends where help was printed, or a mistake in the arguments.
-fn printed(printed: io::Result<()>, is_help: bool) -> Outcome {
+fn outcome_of_printing(printed: io::Result<()>, is_help: bool) -> Outcome {
     match printed {
         Ok(()) if is_help => Outcome::Done,
         // Nobody reads the help.

@@ -8,8 +8,9 @@ ghost use Rattle.ipld_block.specs.Blocks.{HasLinks, IsBlock, IsInvalid, IsNotCan
 use crate::codec::BlockCodec;
 use crate::error::{CheckError, InvalidBlock};
 use dag_cbor_blocks::{
-    BlockError, BlockErrorKind, CborError, ReadOptions, check_block, is_canonical, links_of_block,
+    BlockError, BlockErrorKind, ReadOptions, check_block, is_canonical, links_of_block,
 };
+use dag_cbor_format::CborError;
 use ipld_cid::Cid;
 use ipld_tree::Limits;
 use std::alloc::Global;

@@ -5,8 +5,8 @@ ghost use Rattle.std.specs.Io.KnownBytes.{Appends};
 ghost use Rattle.ipld_cid.specs.LinkOf.{link_of};
 ghost use Rattle.ipld_block.specs.Texts.{usual_text, lines_of};
 
-use cid_text::{Base, ToStringError, to_string_of_base};
 use ipld_cid::{Cid, Version};
+use ipld_cid_text::{Base, ToStringError, to_string_of_base};
 use std::alloc::Global;
 use std::io::{self, ErrorKind, Write};
 

@@ -17,3 +17,13 @@ pub mod Position
 pub mod WriteErrors
 pub mod Writing
 pub mod ErrorTexts
+pub mod IndexGrouping
+pub mod CarHeader
+pub mod Index
+pub mod IndexLayout
+pub mod IndexLookup
+pub mod IndexNumbers
+pub mod IndexOrder
+pub mod IndexReading
+pub mod IndexErrors
+pub mod IndexErrorTexts

@@ -150,7 +150,7 @@ fn write_place<W: fmt::Write>(f: &mut fmt::Formatter<W>, offset: u64) -> fmt::Re
 }
 
 // Writes a number between two texts.
-fn write_number<W: fmt::Write>(
+pub(crate) fn write_number<W: fmt::Write>(
     f: &mut fmt::Formatter<W>,
     before: &str,
     number: u64,

@@ -10,7 +10,7 @@ use crate::error::{CarError, CarErrorKind};
 use crate::framed::{fault_place, read_framed};
 use crate::header::roots_of;
 use crate::payload::short_payload;
-use crate::read_section::error_at;
+use crate::read_section::section_error;
 use crate::version::CarVersion;
 use crate::version2::{is_pragma, read_payload};
 use ipld_cid::Cid;
@@ -43,10 +43,10 @@ fn read_block<R: BufRead>(
 {
     match read_framed(reader, taken, limit, end - begin) {
         Ok(Some(start)) => Ok(start),
-        Ok(None) => Err(error_at(CarErrorKind::UnexpectedEnd, begin, 0)),
+        Ok(None) => Err(section_error(CarErrorKind::UnexpectedEnd, begin, 0)),
         Err(kind) => {
             let place = fault_place(&kind, taken.len());
-            Err(error_at(kind, begin, place))
+            Err(section_error(kind, begin, place))
         }
     }
 }
@@ -59,7 +59,7 @@ fn roots_at(alloc: Global, taken: &[u8], start: usize, begin: u64) -> Result<Vec
 {
     match roots_of(alloc, &taken[start..]) {
         Ok(roots) => Ok(roots),
-        Err(kind) => Err(error_at(kind, begin, start as u64)),
+        Err(kind) => Err(section_error(kind, begin, start as u64)),
     }
 }
 

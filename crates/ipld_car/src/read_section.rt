@@ -15,7 +15,7 @@ use std::io::BufRead;
 
 // The error of what begins at the offset.
 #[inline(always)]
-pub(crate) fn error_at(kind: CarErrorKind, section: u64, place: u64) -> CarError
+pub(crate) fn section_error(kind: CarErrorKind, section: u64, place: u64) -> CarError
     requires { section + place < 2 ^ 64 }
     ensures { result ≡ record { kind = kind; section = section; offset = section + place } }
 {
@@ -44,7 +44,7 @@ fn name_block(section: &mut Section, begin: u64, start: usize) -> Result<bool, C
             section.cid = cid;
             Ok(true)
         }
-        Err(error) => Err(error_at(CarErrorKind::Cid(error), begin, start as u64)),
+        Err(error) => Err(section_error(CarErrorKind::Cid(error), begin, start as u64)),
     }
 }
 
@@ -87,7 +87,7 @@ pub(crate) fn read_section_at<R: BufRead>(
         Ok(None) => Ok(false),
         Err(kind) => {
             let place = fault_place(&kind, section.taken());
-            Err(error_at(kind, begin, place))
+            Err(section_error(kind, begin, place))
         }
     }
 }

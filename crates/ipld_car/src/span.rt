@@ -10,7 +10,7 @@ use crate::error::{CarError, CarErrorKind};
 use crate::frame_in::frame_in;
 use crate::framed::fault_place;
 use crate::payload::short_payload;
-use crate::read_section::error_at;
+use crate::read_section::section_error;
 use ipld_cid::Cid;
 
 /// Where the parts of a section stand in the bytes of a CAR.
@@ -48,12 +48,12 @@ fn split_section(bytes: &[u8], at: usize) -> Result<Option<SectionSpan>, CarErro
                 block: at + (taken - block.len()),
                 end: at + taken,
             })),
-            Err(error) => Err(error_at(CarErrorKind::Cid(error), at as u64, start as u64)),
+            Err(error) => Err(section_error(CarErrorKind::Cid(error), at as u64, start as u64)),
         },
         Ok(None) => Ok(None),
         Err(kind) => {
             let place = fault_place(&kind, taken);
-            Err(error_at(kind, at as u64, place))
+            Err(section_error(kind, at as u64, place))
         }
     }
 }
@@ -94,7 +94,7 @@ pub fn section_at(
                 expected: size,
                 found,
             };
-            Err(error_at(kind, at as u64, 0))
+            Err(section_error(kind, at as u64, 0))
         }
         Err(error) => Err(short_payload(error, size, found)),
     }

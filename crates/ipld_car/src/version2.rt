@@ -6,7 +6,7 @@ ghost use Rattle.ipld_car.specs.Version2.{pragma_block, HasNoPayload, PlacesPayl
 
 use crate::error::{CarError, CarErrorKind};
 use crate::fill::fill;
-use crate::read_section::error_at;
+use crate::read_section::section_error;
 use std::io::BufRead;
 
 // The block of the pragma: `{"version": 2}` in DAG-CBOR.
@@ -35,7 +35,7 @@ pub(crate) fn is_pragma(taken: &[u8], start: usize) -> bool
 }
 
 // The number that eight bytes encode, the lowest byte first.
-fn number_at(bytes: &[u8], place: usize) -> u64
+pub(crate) fn number_at(bytes: &[u8], place: usize) -> u64
     requires { place + 8 ≤ length bytes.now }
     ensures { result ≡ from_le_bytes w64 (slice_range bytes.now place (place + 8)) }
 {
@@ -78,11 +78,11 @@ fn skip_padding<R: BufRead>(
             Ok(true) => left -= piece,
             Ok(false) => {
                 let place = 40 + (count - left) + scratch.len() as u64;
-                return Err(error_at(CarErrorKind::UnexpectedEnd, HEADER, place));
+                return Err(section_error(CarErrorKind::UnexpectedEnd, HEADER, place));
             }
             Err(kind) => {
                 let place = 40 + (count - left) + scratch.len() as u64;
-                return Err(error_at(kind, HEADER, place));
+                return Err(section_error(kind, HEADER, place));
             }
         }
     }
@@ -104,15 +104,15 @@ pub(crate) fn read_payload<R: BufRead>(
         Ok(true) => {}
         Ok(false) => {
             let place = taken.len() as u64;
-            return Err(error_at(CarErrorKind::UnexpectedEnd, HEADER, place));
+            return Err(section_error(CarErrorKind::UnexpectedEnd, HEADER, place));
         }
         Err(kind) => {
             let place = taken.len() as u64;
-            return Err(error_at(kind, HEADER, place));
+            return Err(section_error(kind, HEADER, place));
         }
     }
     let Some(payload) = payload_of(taken) else {
-        return Err(error_at(CarErrorKind::Payload, HEADER, 16));
+        return Err(section_error(CarErrorKind::Payload, HEADER, 16));
     };
     match skip_padding(reader, taken, payload.start - 51) {
         Ok(()) => Ok(payload),

@@ -20,7 +20,7 @@ pub(crate) type HeaderBytes = ByteBuffer<35>;
 // The bytes after the version, which has to be 1.
 #[tactic(auto, unfolding(crate::specs::Bytes::after_version))]
 #[inline(always)]
-fn after_version(bytes: &[u8]) -> Result<&[u8], CidError>
+fn skip_version(bytes: &[u8]) -> Result<&[u8], CidError>
     ensures { MatchResult result
         (λ rest. encoded.after_version bytes.now ≡ Ok rest.now)
         (λ error. encoded.after_version bytes.now ≡ Err error) }
@@ -73,7 +73,7 @@ fn read_v1<const S: usize>(bytes: &[u8]) -> Result<CidGeneric<S>, CidError>
         (λ c. encoded.read_v1 S bytes.now ≡ Ok (link_of c))
         (λ error. encoded.read_v1 S bytes.now ≡ Err error) }
 {
-    let parts = after_version(bytes)?;
+    let parts = skip_version(bytes)?;
     let (codec, rest) = read_varint(parts)?;
     let (code, rest) = read_varint(rest)?;
     let (size, rest) = read_varint(rest)?;
@@ -136,7 +136,7 @@ fn split_v1<const S: usize>(bytes: &[u8]) -> Result<(CidGeneric<S>, &[u8]), CidE
         (λ split. front.split_v1 S bytes.now ≡ Ok (link_of split.0, split.1.now))
         (λ error. front.split_v1 S bytes.now ≡ Err error) }
 {
-    let parts = after_version(bytes)?;
+    let parts = skip_version(bytes)?;
     let (codec, rest) = read_varint(parts)?;
     let (code, rest) = read_varint(rest)?;
     let (size, rest) = read_varint(rest)?;
@@ -205,7 +205,7 @@ impl<const S: usize> CidGeneric<S> {
 
     // The bytes before the digest.
     #[inline(always)]
-    pub(crate) fn head(&self) -> HeaderBytes
+    pub(crate) fn header(&self) -> HeaderBytes
         ensures written { result ≡ encoded.head_of (link_of self.now) }
         ensures short { length result ≤ 31 }
         ensures shorter { S ≤ 127 → length result ≤ 22 }
@@ -238,7 +238,7 @@ impl<const S: usize> CidGeneric<S> {
         ensures short { result ≤ 31 + S }
         ensures shorter { S ≤ 127 → result ≤ 22 + S }
     {
-        self.head().len() + self.hash().digest().len()
+        self.header().len() + self.hash().digest().len()
     }
 
     /// Writes the CID's bytes, those of [`to_bytes`](Self::to_bytes), at the front of the buffer, and returns how many they are.
@@ -262,7 +262,7 @@ impl<const S: usize> CidGeneric<S> {
             × (buffer.new ≡ encoded.bytes_of (link_of self.now) ++ drop len buffer.old)) }
         ensures fits { S ≤ 127 → 22 + S ≤ length buffer.old → IsSome result }
     {
-        let head = self.head();
+        let head = self.header();
         let digest = self.hash().digest();
         let len = head.len() + digest.len();
         if buffer.len() < len {
@@ -296,7 +296,7 @@ impl<const S: usize> CidGeneric<S> {
         ensures appended { bytes.new.items ≡ (if is_ok result then bytes.old.items ++ encoded.bytes_of (link_of self.now) else bytes.old.items) }
         ensures full { OnErr result (vec_capacity bytes.old < vec_len bytes.old + length (encoded.bytes_of (link_of self.now))) }
     {
-        let head = self.head();
+        let head = self.header();
         let digest = self.hash().digest();
         bytes.reserve(head.len() + digest.len())?;
         bytes.extend_from_slice(head.as_slice())?;

@@ -22,7 +22,7 @@ const SHORT_LETTERS: usize = 154;
 
 // The number whose forty bits are those of eight letters.
 #[inline(always)]
-fn number(letters: &[u8; 8]) -> Option<u64>
+fn block_number(letters: &[u8; 8]) -> Option<u64>
     ensures { MatchOption result (reading.values letters.now ≡ None)
         (λ n. (groups : List ℕ) × (reading.values letters.now ≡ Some groups) × (flat_map (bits 5) groups ≡ bits 40 n)) }
 {
@@ -42,7 +42,7 @@ fn number(letters: &[u8; 8]) -> Option<u64>
 fn block_bytes(letters: &[u8; 8]) -> Option<[u8; 5]>
     ensures { result ≡ reading.decoded letters.now }
 {
-    let [_, _, _, a, b, c, d, e] = number(letters)?.to_be_bytes();
+    let [_, _, _, a, b, c, d, e] = block_number(letters)?.to_be_bytes();
     Some([a, b, c, d, e])
 }
 
@@ -86,7 +86,7 @@ fn decoded_len(letters: &[u8]) -> usize
 
 // Writes the bytes that letters encode, if they encode any.
 #[inline(always)]
-fn decode(letters: &[u8], bytes: &mut [u8]) -> Option<()>
+fn decode_letters(letters: &[u8], bytes: &mut [u8]) -> Option<()>
     requires { length bytes.old ≡ 5 * length letters.now / 8 }
     ensures { MatchOption result (reading.decoded letters.now ≡ None) (λ _. reading.decoded letters.now ≡ Some bytes.new) }
 {
@@ -119,14 +119,14 @@ fn read_letters<const S: usize>(letters: &[u8], bytes: &mut [u8]) -> Result<CidG
         (λ c. reading.read_decoded S (reading.decoded letters.now) ≡ Ok (link_of c))
         (λ error. reading.read_decoded S (reading.decoded letters.now) ≡ Err error) }
 {
-    if decode(letters, bytes).is_none() || begins_v0(bytes) {
+    if decode_letters(letters, bytes).is_none() || begins_v0(bytes) {
         return Err(CidError::InvalidText);
     }
     CidGeneric::try_from(&*bytes)
 }
 
 // The CID whose bytes the letters encode, however many they are: the bytes are written into a vector.
-fn read_long<const S: usize>(alloc: Global, letters: &[u8]) -> Result<CidGeneric<S>, CidError>
+fn read_long_text<const S: usize>(alloc: Global, letters: &[u8]) -> Result<CidGeneric<S>, CidError>
     ensures { MatchResult result
         (λ c. reading.read_decoded S (reading.decoded letters.now) ≡ Ok (link_of c))
         (λ error. (error ≡ CidError.Memory) ⊎ (reading.read_decoded S (reading.decoded letters.now) ≡ Err error)) }
@@ -140,7 +140,7 @@ fn read_long<const S: usize>(alloc: Global, letters: &[u8]) -> Result<CidGeneric
 
 // The CID whose bytes so few letters encode: the bytes are written onto the stack.
 #[inline(always)]
-fn read_short<const S: usize>(letters: &[u8]) -> Result<CidGeneric<S>, CidError>
+fn read_short_text<const S: usize>(letters: &[u8]) -> Result<CidGeneric<S>, CidError>
     requires { length letters.now ≤ 154 }
     ensures { MatchResult result
         (λ c. reading.read_decoded S (reading.decoded letters.now) ≡ Ok (link_of c))
@@ -163,9 +163,9 @@ fn read_text<const S: usize>(alloc: Global, text: &[u8]) -> Result<CidGeneric<S>
         return Err(CidError::InvalidText);
     };
     if letters.len() > SHORT_LETTERS {
-        return read_long(alloc, letters);
+        return read_long_text(alloc, letters);
     }
-    read_short(letters)
+    read_short_text(letters)
 }
 
 // Whether the letters encode bytes.
@@ -182,14 +182,14 @@ fn are_decodable(letters: &[u8]) -> bool
 }
 
 // Why letters are no CID's that encode more bytes than any CID has with a digest of at most 64.
-fn long_error(letters: &[u8]) -> CidError
+fn long_text_error(letters: &[u8]) -> CidError
     requires { 155 ≤ length letters.now }
     ensures { reading.read_decoded 64 (reading.decoded letters.now) ≡ Err result }
 {
     // The longest CID has fewer bytes than these letters encode, so an error in it shows in them.
     let (front, rest) = letters.split_at(152);
     let mut bytes = [0; 95];
-    if decode(front, &mut bytes).is_none() {
+    if decode_letters(front, &mut bytes).is_none() {
         return CidError::InvalidText;
     }
     if begins_v0(&bytes) || !are_decodable(rest) {
@@ -213,9 +213,9 @@ fn read_cid_text(text: &[u8]) -> Result<Cid, CidError>
         return Err(CidError::InvalidText);
     };
     if letters.len() <= SHORT_LETTERS {
-        read_short(letters)
+        read_short_text(letters)
     } else {
-        Err(long_error(letters))
+        Err(long_text_error(letters))
     }
 }
 

@@ -38,7 +38,7 @@ impl<const S: usize> Multihash<S> {
 
     // The bytes before the digest.
     #[inline(always)]
-    fn head(&self) -> HeaderBytes
+    fn header(&self) -> HeaderBytes
         ensures written { result ≡ encoded.hash_head_of self.now }
         ensures short { length result ≤ 20 }
     {
@@ -55,7 +55,7 @@ impl<const S: usize> Multihash<S> {
         ensures len { result ≡ length (encoded.hash_bytes_of self.now) }
         ensures short { result ≤ 20 + S }
     {
-        self.head().len() + self.digest().len()
+        self.header().len() + self.digest().len()
     }
 
     /// The multihash's bytes (multiformats Multihash), which are the only ones that encode it. `S` has to be at most 1,048,576.
@@ -67,7 +67,7 @@ impl<const S: usize> Multihash<S> {
         requires { S ≤ 1048576 }
         ensures { IfOk result (λ bytes. bytes.items ≡ encoded.hash_bytes_of self.now) }
     {
-        let head = self.head();
+        let head = self.header();
         let digest = self.digest();
         let mut bytes = Vec::with_capacity(alloc, head.len() + digest.len())?;
         bytes.extend_from_slice(head.as_slice())?;

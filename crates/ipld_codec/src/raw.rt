@@ -12,7 +12,7 @@ ghost use Rattle.ipld_tree.specs.Tree.{Tree};
 ghost use Rattle.ipld_tree.specs.TreeOf.{tree_of};
 
 use crate::link_iter::LinkIter;
-use crate::read_out::all_bytes;
+use crate::read_out::read_to_end;
 use crate::traits::{Codec, Links};
 use crate::tree_codec::TreeCodec;
 use crate::write_out::write_block;
@@ -145,7 +145,7 @@ impl Codec<Ipld> for RawCodec {
         ensures errors { IfErr result (λ error. (error ≡ RawError.Memory) ⊎ (error ≡ RawError.Read)) }
         ensures left { OnErr result (LosesFront (R.remaining reader.old) (R.remaining reader.new)) }
     {
-        Ok(Ipld::Bytes(all_bytes(alloc, reader)?))
+        Ok(Ipld::Bytes(read_to_end(alloc, reader)?))
     }
 
     /// Writes the bytes of a Bytes, and doesn't flush. A write that was interrupted is tried again. It does not allocate.
@@ -184,7 +184,7 @@ impl Codec<Ipld> for RawCodec {
         ensures errors { IfErr result (λ error. error ≡ RawError.Memory) }
         ensures empty { bytes.now ≡ [] → IsOk result }
     {
-        Ok(Ipld::Bytes(copied(alloc, bytes)?))
+        Ok(Ipld::Bytes(copy_of(alloc, bytes)?))
     }
 
     /// The bytes of a Bytes. It allocates once, and of no bytes nothing.
@@ -203,7 +203,7 @@ impl Codec<Ipld> for RawCodec {
         ensures empty { raw_written (tree_of value.now) ≡ Some [] → IsOk result }
     {
         match value {
-            Ipld::Bytes(bytes) => copied(alloc, bytes),
+            Ipld::Bytes(bytes) => copy_of(alloc, bytes),
             _ => Err(RawError::NotBytes(value.kind())),
         }
     }
@@ -226,7 +226,7 @@ impl TreeCodec for RawCodec {
 }
 
 // A copy of bytes. Of none nothing is allocated.
-fn copied(alloc: Global, bytes: &[u8]) -> Result<Vec<u8>, RawError>
+fn copy_of(alloc: Global, bytes: &[u8]) -> Result<Vec<u8>, RawError>
     ensures ok { IfOk result (λ copy. copy.items ≡ bytes.now) }
     ensures err { IfErr result (λ error. error ≡ RawError.Memory) }
     ensures empty { bytes.now ≡ [] → IsOk result }

@@ -10,7 +10,7 @@ use std::io::{BufRead, ErrorKind};
 
 // The bytes that the reader still has. One that never ends has failed.
 #[tactic(auto, using(crate::proofs::Buffers::none_taken, crate::proofs::Buffers::buffer_taken, crate::proofs::Buffers::all_taken))]
-pub(crate) fn all_bytes<R: BufRead>(alloc: Global, reader: &mut R) -> Result<Vec<u8>, RawError>
+pub(crate) fn read_to_end<R: BufRead>(alloc: Global, reader: &mut R) -> Result<Vec<u8>, RawError>
     ensures ok { IfOk result (λ bytes. IsRead (R.remaining reader.old) (R.remaining reader.new) bytes.items) }
     ensures err { IfErr result (λ error. (error ≡ RawError.Memory) ⊎ (error ≡ RawError.Read)) }
     ensures left { OnErr result (LosesFront (R.remaining reader.old) (R.remaining reader.new)) }

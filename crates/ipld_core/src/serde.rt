@@ -12,12 +12,10 @@
 //! let same = read_ipld(alloc, &mut tokens)?;
 //! ```
 
-pub mod samples;
-
 pub use ipld_de::{
     Deserialize, Deserializer, EnumDeserializer, Faithful, Field, Fields, IgnoredAny, Lawful,
     MapDeserializer, SeqDeserializer, VariantDeserializer, from_ipld, read_fields,
-    read_only_fields, read_strict_struct, read_struct, read_written, write_and_read,
+    read_only_fields, read_strict_struct, read_struct, read_written, samples, write_and_read,
 };
 pub use ipld_ser::{
     ByteBuf, SerdeError, Serialize, SerializeMap, SerializeStructVariant, SerializeTupleVariant,
@@ -25,5 +23,6 @@ pub use ipld_ser::{
 };
 pub use ipld_tokens::{
     ExtractLinks, FaultSource, IpldTokens, ReadError, SliceSource, Stopped, Token, TokenBytes,
-    TokenError, TokenSource, laws, list_capacity, read_ipld, read_ipld_within,
+    TokenError, TokenSource, laws, read_ipld, read_ipld_within,
 };
+pub use ipld_tree::list_capacity;

@@ -14,3 +14,4 @@ pub mod Scalars
 pub mod ConversionErrors
 pub mod ImageFields
 pub mod ImageReader
+pub mod Samples

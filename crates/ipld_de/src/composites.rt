@@ -75,7 +75,7 @@ impl<T: Deserialize> Deserialize for Vec<T> {
 
     #[inline(always)]
     fn deserialize(alloc: Global, value: Ipld) -> Result<Vec<T>, SerdeError> {
-        all_of(alloc, value.deserialize_seq()?)
+        read_items(alloc, value.deserialize_seq()?)
     }
 
     fn read_image<R: ImageReader>(
@@ -87,7 +87,7 @@ impl<T: Deserialize> Deserialize for Vec<T> {
             return Err(Unread::Rejected);
         };
         let count = reader.begin_list()?;
-        read_all(alloc, reader, inner, count)
+        read_image_items(alloc, reader, inner, count)
     }
 
     fn discard(self) {
@@ -98,7 +98,10 @@ impl<T: Deserialize> Deserialize for Vec<T> {
 }
 
 // All the items, read in order.
-fn all_of<T: Deserialize>(alloc: Global, mut items: SeqDeserializer) -> Result<Vec<T>, SerdeError>
+fn read_items<T: Deserialize>(
+    alloc: Global,
+    mut items: SeqDeserializer,
+) -> Result<Vec<T>, SerdeError>
     ensures ok { IfOk result (λ v. read_all T.reads (left items) ≡ Some (map T.contents v.items)) }
     ensures err { IfErr result (λ e. RejectsAs (read_all T.reads (left items)) (ItemsError T.reads T.read_error (left items)) e) }
 {
@@ -114,7 +117,7 @@ const RESERVED: usize = 32;
 
 // So many items, read part by part.
 #[inline(always)]
-fn read_all<T: Deserialize, R: ImageReader>(
+fn read_image_items<T: Deserialize, R: ImageReader>(
     alloc: Global,
     reader: &mut R,
     levels: usize,
@@ -145,7 +148,7 @@ impl<K: DeserializeKey, T: Deserialize> Deserialize for BTreeMap<K, T> {
 
     #[inline(always)]
     fn deserialize(alloc: Global, value: Ipld) -> Result<BTreeMap<K, T>, SerdeError> {
-        all_under(alloc, value.deserialize_map()?)
+        read_members(alloc, value.deserialize_map()?)
     }
 
     fn discard(self) {
@@ -156,7 +159,7 @@ impl<K: DeserializeKey, T: Deserialize> Deserialize for BTreeMap<K, T> {
 }
 
 // All the entries, read in the order of the keys.
-fn all_under<K: DeserializeKey, T: Deserialize>(
+fn read_members<K: DeserializeKey, T: Deserialize>(
     alloc: Global,
     mut members: MapDeserializer,
 ) -> Result<BTreeMap<K, T>, SerdeError>

@@ -269,13 +269,13 @@ impl Deserializer for Ipld {
 
     #[inline(always)]
     fn deserialize_unit_struct(self, _name: &str) -> Result<(), SerdeError> {
-        Err(rejected(self, SerdeError::UnitStruct))
+        Err(discard_for_error(self, SerdeError::UnitStruct))
     }
 
     #[inline(always)]
     fn deserialize_newtype_struct(self, name: &str) -> Result<Ipld, SerdeError> {
         if name == CID_SERDE_PRIVATE_IDENTIFIER {
-            link(self)
+            only_link(self)
         } else {
             self.deserialize_any()
         }
@@ -322,7 +322,7 @@ impl Deserializer for Ipld {
     ) -> Result<EnumDeserializer, SerdeError> {
         match self {
             Ipld::String(variant) => Ok(EnumDeserializer::new(variant, None)),
-            Ipld::Map(entries) => single_entry(entries),
+            Ipld::Map(entries) => enum_of_single_entry(entries),
             other => Err(wrong_kind(other)),
         }
     }
@@ -372,7 +372,7 @@ pub(crate) fn single_char(text: &str) -> Result<char, SerdeError>
 
 // A Link alone.
 #[inline(always)]
-fn link(value: Ipld) -> Result<Ipld, SerdeError>
+fn only_link(value: Ipld) -> Result<Ipld, SerdeError>
     ensures { Returns tree_of result (taken only_link (tree_of value)) }
 {
     match value {
@@ -386,11 +386,11 @@ fn wrong_kind(found: Ipld) -> SerdeError
     ensures { result ≡ kind_found (tree_of found) }
 {
     let kind = found.kind();
-    rejected(found, SerdeError::WrongKind(kind))
+    discard_for_error(found, SerdeError::WrongKind(kind))
 }
 
 // The error, once what it rejects has been dropped by a loop.
-fn rejected(value: Ipld, error: SerdeError) -> SerdeError
+fn discard_for_error(value: Ipld, error: SerdeError) -> SerdeError
     ensures { result ≡ error }
 {
     value.discard();
@@ -398,7 +398,7 @@ fn rejected(value: Ipld, error: SerdeError) -> SerdeError
 }
 
 // The only entry of a map: a variant and its content.
-fn single_entry(entries: BTreeMap<String, Ipld>) -> Result<EnumDeserializer, SerdeError>
+fn enum_of_single_entry(entries: BTreeMap<String, Ipld>) -> Result<EnumDeserializer, SerdeError>
     ensures { Returns variant_of result (only_entry (members_of entries.entries)) }
 {
     let mut entries = MapDeserializer::new(entries);

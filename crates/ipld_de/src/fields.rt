@@ -448,12 +448,12 @@ pub fn position_of(names: &[&str], key: &str) -> Option<usize>
     ensures within { IfSome result (λ i. i < length names.now) }
     ensures none { IfNone result (among key.now (strings names.now) ≡ false) }
 {
-    names.iter().position(|name| is_same(name, key))
+    names.iter().position(|name| is_same_name(name, key))
 }
 
 // Whether the strings are equal. Short ones are compared byte by byte, which takes fewer steps than to compare them as words.
 #[inline(always)]
-fn is_same(a: &str, b: &str) -> bool
+fn is_same_name(a: &str, b: &str) -> bool
     ensures { result ≡ bytes_eq a.now b.now }
 {
     if b.len() < 8 {

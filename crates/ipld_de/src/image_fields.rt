@@ -95,17 +95,17 @@ fn read_entry<F: Fields, R: ImageReader>(
     let key = reader.read_key()?;
     let name = R::key_text(&key);
     if let Some(last) = last {
-        if !goes_first(R::key_text(&last), name) {
+        if !precedes(R::key_text(&last), name) {
             return Err(Unread::Rejected);
         }
     }
-    read_under(alloc, reader, levels, names, name, fields)?;
+    read_field(alloc, reader, levels, names, name, fields)?;
     Ok(key)
 }
 
 // Hands the field of this name the value that comes next; where there is none, the value is read past.
 #[inline(always)]
-fn read_under<F: Fields, R: ImageReader>(
+fn read_field<F: Fields, R: ImageReader>(
     alloc: Global,
     reader: &mut R,
     levels: usize,
@@ -127,7 +127,7 @@ fn read_under<F: Fields, R: ImageReader>(
 
 // Whether a key comes before another: by length, and by bytes where the lengths are the same.
 #[inline(always)]
-fn goes_first(first: &str, second: &str) -> bool
+fn precedes(first: &str, second: &str) -> bool
     ensures { result ≡ comes_first first.now second.now }
 {
     match first.len().cmp(&second.len()) {

@@ -26,6 +26,7 @@ pub mod laws;
 mod map;
 mod missing;
 mod part;
+pub mod samples;
 mod scalars;
 mod sequence;
 mod tuples;

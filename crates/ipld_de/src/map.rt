@@ -11,7 +11,7 @@ ghost use Rattle.ipld_tree.specs.TreeOf.{tree_of, members_of};
 ghost use Rattle.ipld_ser.specs.declared.error.SerdeError.TheVariants as error;
 
 use crate::deserialize::Deserialize;
-use crate::sequence::end_at;
+use crate::sequence::check_end;
 use ipld_ser::SerdeError;
 use ipld_tree::Ipld;
 use std::alloc::Global;
@@ -117,7 +117,7 @@ impl MapDeserializer {
     pub fn end(self) -> Result<(), SerdeError>
         ensures { result ≡ ended (count_members (entries_left self)) }
     {
-        end_at(self.remaining())
+        check_end(self.remaining())
     }
 }
 

@@ -70,7 +70,7 @@ impl SeqDeserializer {
     pub fn end(self) -> Result<(), SerdeError>
         ensures { result ≡ ended (count_items (left self)) }
     {
-        end_at(self.remaining())
+        check_end(self.remaining())
     }
 }
 
@@ -86,7 +86,7 @@ impl Drop for SeqDeserializer {
 
 // The end, where nothing is left.
 #[inline(always)]
-pub(crate) fn end_at(remaining: usize) -> Result<(), SerdeError>
+pub(crate) fn check_end(remaining: usize) -> Result<(), SerdeError>
     ensures { result ≡ ended remaining }
 {
     if remaining == 0 {

@@ -91,7 +91,7 @@ impl<T: Deserialize, P: Parts> Parts for (T, P) {
 
     #[inline(always)]
     fn read(alloc: Global, mut items: SeqDeserializer) -> Result<(T, P), SerdeError> {
-        let first = Part::new(next(alloc, &mut items)?);
+        let first = Part::new(next_part(alloc, &mut items)?);
         let others = P::read(alloc, items)?;
         Ok((first.into_value(), others))
     }
@@ -117,7 +117,7 @@ impl<T: Deserialize, P: Parts> Parts for (T, P) {
 
 // The next item of a tuple.
 #[inline(always)]
-fn next<T: Deserialize>(alloc: Global, items: &mut SeqDeserializer) -> Result<T, SerdeError>
+fn next_part<T: Deserialize>(alloc: Global, items: &mut SeqDeserializer) -> Result<T, SerdeError>
     ensures ok { IfOk result (λ v. read_first T.reads (left items.old) ≡ Some (T.contents v)) }
     ensures err { IfErr result (λ e. RejectsAs (read_first T.reads (left items.old)) (FirstError T.read_error (left items.old)) e) }
     ensures gone { left items.new ≡ after_item (left items.old) }

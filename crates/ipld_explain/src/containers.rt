@@ -39,7 +39,7 @@ impl<T: Explain> Explain for Vec<T> {
         let found = value.kind();
         match value.deserialize_seq() {
             Ok(items) => explain_items::<T>(alloc, items),
-            Err(error) => Ok(Some(Explanation::here(alloc, found, Expected::List, error))),
+            Err(error) => Ok(Some(Explanation::at_value(alloc, found, Expected::List, error))),
         }
     }
 }
@@ -59,7 +59,7 @@ fn explain_items<T: Explain>(
             return Ok(None);
         };
         if let Some(explanation) = T::explain(alloc, item)? {
-            return Ok(Some(explanation.under(Segment::Index(index))?));
+            return Ok(Some(explanation.within_segment(Segment::Index(index))?));
         }
         index += 1;
     }
@@ -74,7 +74,7 @@ impl<T: Explain> Explain for BTreeMap<String, T> {
         let found = value.kind();
         match value.deserialize_map() {
             Ok(map) => explain_values::<T>(alloc, map),
-            Err(error) => Ok(Some(Explanation::here(alloc, found, Expected::Map, error))),
+            Err(error) => Ok(Some(Explanation::at_value(alloc, found, Expected::Map, error))),
         }
     }
 }
@@ -90,7 +90,7 @@ fn explain_values<T: Explain>(
 {
     while let Some((key, value)) = next_entry(alloc, &mut map)? {
         if let Some(explanation) = T::explain(alloc, value)? {
-            return Ok(Some(explanation.under(Segment::Key(key))?));
+            return Ok(Some(explanation.within_segment(Segment::Key(key))?));
         }
     }
     Ok(None)

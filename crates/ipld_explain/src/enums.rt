@@ -93,7 +93,7 @@ impl ExplainContent for NoContent {
             None => Ok(None),
             Some(content) => match <()>::explain(alloc, content)? {
                 None => Ok(None),
-                Some(explanation) => Ok(Some(explanation.under(Segment::Key(name))?)),
+                Some(explanation) => Ok(Some(explanation.within_segment(Segment::Key(name))?)),
             },
         }
     }
@@ -117,10 +117,10 @@ impl<T: Explain> ExplainContent for Holds<T> {
         _fields: &[&str],
     ) -> Result<Option<Explanation>, AllocError> {
         match content {
-            None => Ok(Some(without_content(alloc))),
+            None => Ok(Some(variant_needs_content(alloc))),
             Some(content) => match T::explain(alloc, content)? {
                 None => Ok(None),
-                Some(explanation) => Ok(Some(explanation.under(Segment::Key(name))?)),
+                Some(explanation) => Ok(Some(explanation.within_segment(Segment::Key(name))?)),
             },
         }
     }
@@ -144,24 +144,24 @@ impl<F: ExplainFields> ExplainContent for HasFields<F> {
         fields: &[&str],
     ) -> Result<Option<Explanation>, AllocError> {
         match content {
-            None => Ok(Some(without_content(alloc))),
+            None => Ok(Some(variant_needs_content(alloc))),
             Some(content) => match explain_struct::<F>(alloc, content, fields)? {
                 None => Ok(None),
-                Some(explanation) => Ok(Some(explanation.under(Segment::Key(name))?)),
+                Some(explanation) => Ok(Some(explanation.within_segment(Segment::Key(name))?)),
             },
         }
     }
 }
 
 // A string that is the name of a variant with content.
-fn without_content(alloc: Global) -> Explanation
+fn variant_needs_content(alloc: Global) -> Explanation
     ensures path { (failure_of result).path ≡ [] }
     ensures found { result.found ≡ IpldKind.String }
     ensures expected { result.expected ≡ Expected.Map }
     ensures error { result.error ≡ SerdeError.VariantContent }
     ensures wrong { (failure_of result).wrong ≡ value }
 {
-    Explanation::here(
+    Explanation::at_value(
         alloc,
         IpldKind::String,
         Expected::Map,
@@ -264,7 +264,7 @@ impl<C: ExplainContent, V: ExplainVariants> ExplainVariants for (C, V) {
 }
 
 // The content of a variant, where there is some.
-fn taken(alloc: Global, content: VariantDeserializer) -> Result<Option<Ipld>, AllocError>
+fn take_content(alloc: Global, content: VariantDeserializer) -> Result<Option<Ipld>, AllocError>
     ensures { IfOk result (λ o. option_map tree_of o ≡ content_of content) }
 {
     match content.newtype_variant::<Ipld>(alloc) {
@@ -294,9 +294,9 @@ pub fn explain_enum<V: ExplainVariants>(
     match value.deserialize_enum("", &[]) {
         Ok(variant) => {
             let (name, content) = variant.variant();
-            let content = taken(alloc, content)?;
+            let content = take_content(alloc, content)?;
             V::explain_variant(alloc, name, content, names)
         }
-        Err(error) => Ok(Some(Explanation::here(alloc, found, Expected::Variant, error))),
+        Err(error) => Ok(Some(Explanation::at_value(alloc, found, Expected::Variant, error))),
     }
 }

@@ -52,6 +52,6 @@ pub fn explain_whole<T: Deserialize>(
             Ok(None)
         }
         Err(SerdeError::Memory) => Err(AllocError),
-        Err(error) => Ok(Some(Explanation::here(alloc, found, expected, error))),
+        Err(error) => Ok(Some(Explanation::at_value(alloc, found, expected, error))),
     }
 }

@@ -88,7 +88,7 @@ pub struct Explanation {
 
 impl Explanation {
     // The value itself is at fault.
-    pub(crate) fn here(
+    pub(crate) fn at_value(
         alloc: Global,
         found: IpldKind,
         expected: Expected,
@@ -110,7 +110,7 @@ impl Explanation {
     }
 
     // A map lacks the name.
-    pub(crate) fn missing(alloc: Global, name: &str) -> Result<Explanation, AllocError>
+    pub(crate) fn missing_field(alloc: Global, name: &str) -> Result<Explanation, AllocError>
         ensures path { IfOk result (λ x. (failure_of x).path ≡ []) }
         ensures found { IfOk result (λ x. x.found ≡ IpldKind.Map) }
         ensures expected { IfOk result (λ x. x.expected ≡ Expected.Map) }
@@ -161,7 +161,7 @@ impl Explanation {
     }
 
     // A list of `found` items, where there have to be `expected`.
-    pub(crate) fn other_length(
+    pub(crate) fn wrong_length(
         alloc: Global,
         expected: usize,
         found: usize,
@@ -183,7 +183,7 @@ impl Explanation {
     }
 
     // This fault, with its path seen from the list or the map that the segment leads out of.
-    pub(crate) fn under(self, segment: Segment) -> Result<Explanation, AllocError>
+    pub(crate) fn within_segment(self, segment: Segment) -> Result<Explanation, AllocError>
         ensures { IfOk result (λ x. failure_of x ≡ under (step_of segment) (failure_of self)) }
     {
         let Explanation {

@@ -179,11 +179,11 @@ fn explain_fields<F: ExplainFields>(
         Ok(map) => match explain_entries::<F>(alloc, map, names, strict)? {
             Some(explanation) => Ok(Some(explanation)),
             None => match missing {
-                Some(name) => Ok(Some(Explanation::missing(alloc, name)?)),
+                Some(name) => Ok(Some(Explanation::missing_field(alloc, name)?)),
                 None => Ok(None),
             },
         },
-        Err(error) => Ok(Some(Explanation::here(alloc, found, Expected::Map, error))),
+        Err(error) => Ok(Some(Explanation::at_value(alloc, found, Expected::Map, error))),
     }
 }
 
@@ -206,12 +206,12 @@ fn explain_entries<F: ExplainFields>(
             value.discard();
             if strict {
                 let unknown = Explanation::unknown_field(alloc, found);
-                return Ok(Some(unknown.under(Segment::Key(key))?));
+                return Ok(Some(unknown.within_segment(Segment::Key(key))?));
             }
             continue;
         };
         if let Some(explanation) = F::explain_at(alloc, index, value)? {
-            return Ok(Some(explanation.under(Segment::Key(key))?));
+            return Ok(Some(explanation.within_segment(Segment::Key(key))?));
         }
     }
     Ok(None)

@@ -62,7 +62,7 @@ impl Parts for () {
     ) -> Result<Option<Explanation>, AllocError> {
         match items.end() {
             Ok(()) => Ok(None),
-            Err(error) => Ok(Some(Explanation::other_length(alloc, expected, found, error))),
+            Err(error) => Ok(Some(Explanation::wrong_length(alloc, expected, found, error))),
         }
     }
 }
@@ -85,10 +85,10 @@ impl<T: Explain, P: Parts> Parts for (T, P) {
     ) -> Result<Option<Explanation>, AllocError> {
         let Some(item) = next_item(alloc, &mut items)? else {
             let error = SerdeError::WrongLength;
-            return Ok(Some(Explanation::other_length(alloc, expected, found, error)));
+            return Ok(Some(Explanation::wrong_length(alloc, expected, found, error)));
         };
         if let Some(explanation) = T::explain(alloc, item)? {
-            return Ok(Some(explanation.under(Segment::Index(index))?));
+            return Ok(Some(explanation.within_segment(Segment::Index(index))?));
         }
         P::explain_parts(alloc, items, index + 1, expected, found)
     }
@@ -110,7 +110,7 @@ fn explain_tuple<P: Parts>(
             let found = items.remaining();
             P::explain_parts(alloc, items, 0, expected, found)
         }
-        Err(error) => Ok(Some(Explanation::here(alloc, kind, Expected::List, error))),
+        Err(error) => Ok(Some(Explanation::at_value(alloc, kind, Expected::List, error))),
     }
 }
 

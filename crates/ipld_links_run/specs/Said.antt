@@ -15,8 +15,8 @@ use Rattle.ipld_links_run.specs.declared.token_lines.TokenLines.{TokenLines}
 use Rattle.ipld_links_run.specs.declared.token_lines.TokenLines.TheVariants.{Tokens, BadLine}
 use Rattle.ipld_links_run.specs.declared.byte_lines.Content.{Content}
 use Rattle.ipld_links_run.specs.declared.byte_lines.Content.TheVariants as content
-use Rattle.ipld_links_run.specs.declared.items.Wanted.{Wanted}
-use Rattle.ipld_links_run.specs.declared.items.Wanted.TheVariants as wanted
+use Rattle.ipld_links_run.specs.declared.items.ReadAs.{ReadAs}
+use Rattle.ipld_links_run.specs.declared.items.ReadAs.TheVariants as wanted
 use Rattle.ipld_links_run.specs.declared.verdict.Rejection.{Rejection}
 use Rattle.ipld_links_run.specs.declared.verdict.Rejection.TheVariants.{Token, Cid, End, DuplicateKey, NoCid, NoBlock}
 use Rattle.ipld_links_run.specs.declared.verdict.Verdict as code
@@ -55,7 +55,7 @@ outcome_of (Ok found) = Ok (map link_of found.items)
 outcome_of (Err rejection) = Err (name_of rejection)
 
 -- what tokens come to that are read as this
-abbrev pub OutcomeFor : Wanted → List TokenModel → Outcome → Type 0
+abbrev pub OutcomeFor : ReadAs → List TokenModel → Outcome → Type 0
 OutcomeFor wanted.Item = LinksOutcome
 OutcomeFor wanted.Tree = ReferencesOutcome
 

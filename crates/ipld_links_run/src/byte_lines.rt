@@ -31,7 +31,7 @@ pub(crate) enum Content {
 }
 
 /// Writes the texts of the links of each line, and then how the lines ended. The reader is read to its end.
-pub(crate) fn write_links<R: BufRead, W: Write>(
+pub(crate) fn write_links_of_lines<R: BufRead, W: Write>(
     alloc: Global,
     content: Content,
     reader: &mut R,
@@ -50,11 +50,11 @@ pub(crate) fn write_links<R: BufRead, W: Write>(
             return write_verdict(writer, Verdict::Done(texts));
         }
         if !decode_line(&line, &mut bytes)? {
-            return end(reader, writer, Verdict::BadLine(count + 1));
+            return end_output(reader, writer, Verdict::BadLine(count + 1));
         }
         match read_links(alloc, content, &bytes, &mut found)? {
             Ok(()) => texts = write_counted(writer, &found, texts)?,
-            Err(rejection) => return end(reader, writer, Verdict::Refused(rejection)),
+            Err(rejection) => return end_output(reader, writer, Verdict::Refused(rejection)),
         }
     }
     Err(RunFault::Read)
@@ -149,7 +149,7 @@ fn write_counted<W: Write>(writer: &mut W, cids: &[Cid], before: u64) -> Result<
 }
 
 /// Writes how the run ends before the end of the lines, and reads the rest of them.
-fn end<R: BufRead, W: Write>(
+fn end_output<R: BufRead, W: Write>(
     reader: &mut R,
     writer: &mut W,
     verdict: Verdict,

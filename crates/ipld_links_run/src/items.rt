@@ -22,7 +22,7 @@ type Outcome = Result<Vec<Cid>, Rejection>;
 
 /// What the tokens are read as.
 #[derive(Clone, Copy)]
-pub(crate) enum Wanted {
+pub(crate) enum ReadAs {
     /// Any item.
     Item,
     /// An item that has a tree.
@@ -30,9 +30,9 @@ pub(crate) enum Wanted {
 }
 
 /// Writes the links of the item or of the tree that comes first. The reader is read to its end.
-pub(crate) fn write_links<R: BufRead, W: Write>(
+pub(crate) fn write_links_of_tokens<R: BufRead, W: Write>(
     alloc: Global,
-    wanted: Wanted,
+    wanted: ReadAs,
     reader: &mut R,
     writer: &mut W,
 ) -> Result<Status, RunFault>
@@ -65,18 +65,18 @@ fn write_outcome<W: Write>(writer: &mut W, outcome: &Outcome) -> Result<Status, 
 /// The links of what comes first, or why it is not what is wanted.
 fn find_links<'a>(
     alloc: Global,
-    wanted: Wanted,
+    wanted: ReadAs,
     tokens: &'a [Token<'a>],
 ) -> Result<Outcome, RunFault>
     ensures { IfOk result (λ outcome. OutcomeFor wanted (map erase tokens.entry.now) (outcome_of outcome)) }
 {
     let mut source = SliceSource::new(tokens);
     match wanted {
-        Wanted::Item => match ExtractLinks::<64>::deserialize(alloc, &mut source) {
+        ReadAs::Item => match ExtractLinks::<64>::deserialize(alloc, &mut source) {
             Ok(links) => Ok(Ok(links.into_vec())),
-            Err(error) => Ok(Err(rejection(error)?)),
+            Err(error) => Ok(Err(rejection_of(error)?)),
         },
-        Wanted::Tree => match read_ipld(alloc, &mut source) {
+        ReadAs::Tree => match read_ipld(alloc, &mut source) {
             Ok(tree) => {
                 let mut links = Vec::new(alloc);
                 let found = tree.references(alloc, &mut links);
@@ -84,13 +84,13 @@ fn find_links<'a>(
                 found?;
                 Ok(Ok(links))
             }
-            Err(error) => Ok(Err(rejection(error)?)),
+            Err(error) => Ok(Err(rejection_of(error)?)),
         },
     }
 }
 
 /// What is wrong with the tokens. A failed allocation says nothing of them.
-fn rejection(error: TokenError<Stopped>) -> Result<Rejection, RunFault>
+fn rejection_of(error: TokenError<Stopped>) -> Result<Rejection, RunFault>
     requires { IsOfTokens error }
     ensures { IfOk result (λ rejection. error_name error ≡ Some (name_of rejection)) }
 {

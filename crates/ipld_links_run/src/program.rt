@@ -5,7 +5,7 @@ ghost use Rattle.ipld_codec.specs.Codec.{IsReadOut};
 ghost use Rattle.ipld_links_run.specs.Output.{Output, UsageOutput, IsWord, Writes};
 
 use crate::byte_lines::Content;
-use crate::items::Wanted;
+use crate::items::ReadAs;
 use crate::lines::write_line;
 use crate::status::{RunFault, Status};
 use crate::{byte_lines, items};
@@ -107,10 +107,10 @@ pub fn run<R: BufRead, W: Write>(
     ensures none_read { (IsWord word.now → ⊥) → reader.new ≡ reader.old }
 {
     match word {
-        "cid" => byte_lines::write_links(alloc, Content::Cid, reader, writer),
-        "links" => items::write_links(alloc, Wanted::Item, reader, writer),
-        "refs" => items::write_links(alloc, Wanted::Tree, reader, writer),
-        "cbor" => byte_lines::write_links(alloc, Content::Block, reader, writer),
+        "cid" => byte_lines::write_links_of_lines(alloc, Content::Cid, reader, writer),
+        "links" => items::write_links_of_tokens(alloc, ReadAs::Item, reader, writer),
+        "refs" => items::write_links_of_tokens(alloc, ReadAs::Tree, reader, writer),
+        "cbor" => byte_lines::write_links_of_lines(alloc, Content::Block, reader, writer),
         _ => write_usage(writer),
     }
 }

@@ -55,21 +55,21 @@ fn field_token(alloc: Global, name: &str, field: &str) -> Result<OwnedToken, Par
     ensures { Parses token_of (field_token name.now field.now) result }
 {
     match name {
-        "bool" => truth(field).map(OwnedToken::Bool),
-        "int" => int(field).map(OwnedToken::Int),
-        "u128" => unsigned(field).map(OwnedToken::U128),
-        "char" => character(alloc, field).map(OwnedToken::Char),
-        "str" => text(alloc, field).map(OwnedToken::Str),
-        "bytes" => bytes(alloc, field).map(OwnedToken::Bytes),
-        "unitvariant" => text(alloc, field).map(OwnedToken::UnitVariant),
-        "variant" => text(alloc, field).map(OwnedToken::Variant),
-        "seq" => hint(field).map(OwnedToken::Seq),
-        "map" => hint(field).map(OwnedToken::Map),
+        "bool" => parse_bool(field).map(OwnedToken::Bool),
+        "int" => parse_int(field).map(OwnedToken::Int),
+        "u128" => parse_unsigned(field).map(OwnedToken::U128),
+        "char" => parse_char(alloc, field).map(OwnedToken::Char),
+        "str" => parse_text(alloc, field).map(OwnedToken::Str),
+        "bytes" => parse_bytes(alloc, field).map(OwnedToken::Bytes),
+        "unitvariant" => parse_text(alloc, field).map(OwnedToken::UnitVariant),
+        "variant" => parse_text(alloc, field).map(OwnedToken::Variant),
+        "seq" => parse_hint(field).map(OwnedToken::Seq),
+        "map" => parse_hint(field).map(OwnedToken::Map),
         _ => Err(ParseError::NotUnderstood),
     }
 }
 
-fn truth(field: &str) -> Result<bool, ParseError>
+fn parse_bool(field: &str) -> Result<bool, ParseError>
     ensures { Parses (λ b. b) (bool_field field.now) result }
 {
     match field {
@@ -79,7 +79,7 @@ fn truth(field: &str) -> Result<bool, ParseError>
     }
 }
 
-fn int(field: &str) -> Result<i128, ParseError>
+fn parse_int(field: &str) -> Result<i128, ParseError>
     ensures { Parses (λ n. n) (int_field field.now) result }
 {
     match field.parse::<i128>() {
@@ -88,7 +88,7 @@ fn int(field: &str) -> Result<i128, ParseError>
     }
 }
 
-fn unsigned(field: &str) -> Result<u128, ParseError>
+fn parse_unsigned(field: &str) -> Result<u128, ParseError>
     ensures { Parses (λ n. n) (number_below (2 ^ 128) field.now) result }
 {
     match field.parse::<u128>() {
@@ -98,7 +98,7 @@ fn unsigned(field: &str) -> Result<u128, ParseError>
 }
 
 /// A hint of a length.
-fn hint(field: &str) -> Result<Option<usize>, ParseError>
+fn parse_hint(field: &str) -> Result<Option<usize>, ParseError>
     ensures { Parses (λ hint. hint) (option_map Some (number_below (2 ^ 64) field.now)) result }
 {
     match field.parse::<usize>() {
@@ -107,17 +107,17 @@ fn hint(field: &str) -> Result<Option<usize>, ParseError>
     }
 }
 
-fn bytes(alloc: Global, field: &str) -> Result<Vec<u8>, ParseError>
+fn parse_bytes(alloc: Global, field: &str) -> Result<Vec<u8>, ParseError>
     ensures { Parses (λ bytes. bytes.items) (bytes_field field.now) result }
 {
     match field {
         "" => Err(ParseError::NotUnderstood),
         "-" => Ok(Vec::new(alloc)),
-        _ => decoded(alloc, field),
+        _ => decode_hex(alloc, field),
     }
 }
 
-fn decoded(alloc: Global, digits: &str) -> Result<Vec<u8>, ParseError>
+fn decode_hex(alloc: Global, digits: &str) -> Result<Vec<u8>, ParseError>
     ensures { Parses (λ bytes. bytes.items) (result_ok (decode_of digits.now)) result }
 {
     match hex::decode(alloc, digits) {
@@ -127,19 +127,19 @@ fn decoded(alloc: Global, digits: &str) -> Result<Vec<u8>, ParseError>
     }
 }
 
-fn text(alloc: Global, field: &str) -> Result<String, ParseError>
+fn parse_text(alloc: Global, field: &str) -> Result<String, ParseError>
     ensures { Parses string_bytes (text_field field.now) result }
 {
-    match String::from_utf8(bytes(alloc, field)?) {
+    match String::from_utf8(parse_bytes(alloc, field)?) {
         Ok(text) => Ok(text),
         Err(_) => Err(ParseError::NotUnderstood),
     }
 }
 
-fn character(alloc: Global, field: &str) -> Result<char, ParseError>
+fn parse_char(alloc: Global, field: &str) -> Result<char, ParseError>
     ensures { Parses (λ c. c) (char_field field.now) result }
 {
-    let text = text(alloc, field)?;
+    let text = parse_text(alloc, field)?;
     match text.as_str().parse::<char>() {
         Ok(character) => Ok(character),
         Err(_) => Err(ParseError::NotUnderstood),

@@ -168,7 +168,7 @@ fn order_of<'a, F: SerializeFields>(
 {
     let mut order = Vec::with_capacity(alloc, RESERVED)?;
     while let Some(name) = fields.name_at(order.len()) {
-        file_name(&mut order, name)?;
+        insert_name(&mut order, name)?;
     }
     Ok(order)
 }
@@ -177,7 +177,7 @@ fn order_of<'a, F: SerializeFields>(
 const RESERVED: usize = 8;
 
 // Puts a name at its place among names in order, with their number as its index.
-fn file_name<'a>(order: &mut Vec<(&'a str, usize)>, name: &'a str) -> Result<(), AllocError>
+fn insert_name<'a>(order: &mut Vec<(&'a str, usize)>, name: &'a str) -> Result<(), AllocError>
     ensures filed { OnOk result (indexed order.new.items ≡ filed name.entry.now (length order.old.items) (indexed order.old.items)) }
     ensures len { OnOk result (length order.new.items ≡ length order.old.items + 1) }
 {
@@ -194,7 +194,7 @@ fn place_of(order: &[(&str, usize)], name: &str) -> usize
 {
     let mut place = 0;
     for entry in order {
-        if !goes_first(entry, name) {
+        if !precedes(entry, name) {
             return place;
         }
         place += 1;
@@ -204,7 +204,7 @@ fn place_of(order: &[(&str, usize)], name: &str) -> usize
 
 // Whether the name of an entry comes before another: by length, and by bytes where the lengths are the same.
 #[inline(always)]
-fn goes_first(entry: &(&str, usize), name: &str) -> bool
+fn precedes(entry: &(&str, usize), name: &str) -> bool
     ensures { result ≡ comes_first entry.now.0.now name.now }
 {
     let first = entry.0;

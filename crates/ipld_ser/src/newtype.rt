@@ -45,7 +45,7 @@ impl Serializer {
     {
         let content = value.serialize(alloc, self)?;
         if name == CID_SERDE_PRIVATE_IDENTIFIER {
-            as_link(content)
+            link_of_bytes(content)
         } else {
             Ok(content)
         }
@@ -53,7 +53,7 @@ impl Serializer {
 }
 
 // The content, where bytes are the link that they encode.
-fn as_link(content: Ipld) -> Result<Ipld, SerdeError>
+fn link_of_bytes(content: Ipld) -> Result<Ipld, SerdeError>
     ensures { MatchResult result
         (λ t. link_from_bytes (tree_of content) ≡ Ok (tree_of t))
         (λ e. link_from_bytes (tree_of content) ≡ Err e) }

@@ -54,7 +54,7 @@ impl Serializer {
     {
         let name = string_of(alloc, variant)?;
         let content = value.serialize(alloc, self)?;
-        under(alloc, name, content)
+        map_of_one(alloc, name, content)
     }
 
     /// A Map of the variant's name to the List of its fields, which follow. `len` is a hint of how many: it reserves as much capacity,
@@ -144,7 +144,7 @@ impl SerializeTupleVariant {
         ensures err { IfErr result (λ e. e ≡ SerdeError.Memory) }
     {
         let content = self.list.end()?;
-        under(self.alloc, self.variant, content)
+        map_of_one(self.alloc, self.variant, content)
     }
 }
 
@@ -175,12 +175,12 @@ impl SerializeStructVariant {
         ensures err { IfErr result (λ e. e ≡ SerdeError.Memory) }
     {
         let content = self.map.end()?;
-        under(self.alloc, self.variant, content)
+        map_of_one(self.alloc, self.variant, content)
     }
 }
 
 // The Map of one name to its content.
-fn under(alloc: Global, name: String, content: Ipld) -> Result<Ipld, SerdeError>
+fn map_of_one(alloc: Global, name: String, content: Ipld) -> Result<Ipld, SerdeError>
     ensures ok { IfOk result (λ t. tree_of t ≡ variant_tree (string_bytes name) (tree_of content)) }
     ensures err { IfErr result (λ e. e ≡ SerdeError.Memory) }
 {

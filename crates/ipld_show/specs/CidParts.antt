@@ -5,9 +5,9 @@ use Rattle.ipld_cid.specs.Cid.{Link}
 use Rattle.ipld_cid.specs.Bytes.{bytes_of}
 use Rattle.ipld_cid.specs.declared.cid.Version.{Version}
 use Rattle.ipld_cid.specs.declared.cid.Version.TheVariants.{V0, V1}
-use Rattle.cid_text.specs.declared.base.Base.{Base}
-use Rattle.cid_text.specs.declared.base.Base.TheVariants.{Base16Lower, Base32Lower, Base32Upper, Base36Lower, Base58Btc, Base64Url}
-use Rattle.cid_text.specs.Text.{IsTextIn}
+use Rattle.ipld_cid_text.specs.declared.base.Base.{Base}
+use Rattle.ipld_cid_text.specs.declared.base.Base.TheVariants.{Base16Lower, Base32Lower, Base32Upper, Base36Lower, Base58Btc, Base64Url}
+use Rattle.ipld_cid_text.specs.Text.{IsTextIn}
 use Rattle.ipld_block.specs.Codes.{codec_name_of}
 use Rattle.ipld_block.specs.Texts.{usual_text}
 use Rattle.ipld_show.specs.Scalars.{hex_text}

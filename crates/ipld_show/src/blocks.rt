@@ -38,7 +38,7 @@ fn as_cbor(alloc: Global, codec: BlockCodec, bytes: &[u8]) -> Result<Option<Vec<
 }
 
 // What was made, or the bytes themselves.
-fn made_or<'a>(made: &'a Option<Vec<u8>>, bytes: &'a [u8]) -> &'a [u8]
+fn cbor_or<'a>(made: &'a Option<Vec<u8>>, bytes: &'a [u8]) -> &'a [u8]
     ensures { MatchOption made.now (result.now ≡ bytes.now) (λ block. result.now ≡ block.items) }
 {
     match made {
@@ -103,7 +103,7 @@ pub fn show<W: Write>(
     ensures unwritten { IfErr result (λ error. IsUnwritten error (W.contents writer.old) (W.contents writer.new)) }
 {
     match as_cbor(alloc, codec, bytes) {
-        Ok(made) => show_at(alloc, made_or(&made, bytes), path, json, writer),
+        Ok(made) => show_at(alloc, cbor_or(&made, bytes), path, json, writer),
         Err(error) => Err(error),
     }
 }
@@ -126,7 +126,7 @@ pub fn link_on_path(
     ensures { OfBlock codec bytes.now result (λ d. IsLinkOnPath d path.now result) }
 {
     match as_cbor(alloc, codec, bytes) {
-        Ok(made) => link_before_end(made_or(&made, bytes), path),
+        Ok(made) => link_before_end(cbor_or(&made, bytes), path),
         Err(error) => Err(error),
     }
 }

@@ -12,9 +12,9 @@ ghost use Rattle.ipld_show.specs.Scalars.{hex_text, IsOutputError};
 
 use crate::error::ShowError;
 use crate::scalars::write_hex;
-use cid_text::{Base, ToStringError, to_string_of_base};
 use ipld_block::{BlockCodec, check, cid_of, codec_name, hash_name, write_cid};
 use ipld_cid::{Cid, Version};
+use ipld_cid_text::{Base, ToStringError, to_string_of_base};
 use std::alloc::Global;
 use std::io::Write;
 

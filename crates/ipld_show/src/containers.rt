@@ -8,7 +8,7 @@ ghost use Rattle.ipld_show.specs.Heads.{IsHeadOf};
 ghost use Rattle.ipld_show.specs.Scalars.{IsOutputError};
 ghost use Rattle.ipld_show.specs.Skipping.{items_within};
 
-use crate::error::{ShowError, not_checked};
+use crate::error::{ShowError, unchecked_error};
 use crate::path::items_in;
 use dag_cbor_format::item::{ItemHead, read_item};
 use std::alloc::{AllocError, Global};
@@ -96,7 +96,7 @@ pub(crate) fn containers_of(alloc: Global, value: &[u8]) -> Result<Vec<Extent>, 
     let mut rest = value;
     loop {
         let Ok((head, after)) = read_item(rest) else {
-            return Err(not_checked());
+            return Err(unchecked_error());
         };
         begin_item(&mut opened, &mut containers, &head, rest.len())?;
         end_finished(&mut opened, &mut containers, after.len())?;

@@ -15,8 +15,8 @@ ghost use Rattle.ipld_show.specs.Scalars.{IsOutputError};
 ghost use Rattle.ipld_show.specs.TreeLevels.{HasCid};
 
 use crate::containers::containers_of;
-use crate::error::{ShowError, not_checked};
-use crate::places::{Entry, Place, are_reserved, behind_container, entries_at, inside};
+use crate::error::{ShowError, unchecked_error};
+use crate::places::{Entry, Place, after_container, are_reserved, entries_at, first_place};
 use crate::scalars::{write_cid_bytes, write_float, write_string};
 use base64::engine::general_purpose::STANDARD_NO_PAD;
 use dag_cbor_format::item::{ItemHead, read_item};
@@ -42,7 +42,11 @@ enum Step<'a> {
 }
 
 // Bytes, which are an object.
-fn write_bytes<W: Write>(alloc: Global, writer: &mut W, bytes: &[u8]) -> Result<(), ShowError>
+fn write_bytes_object<W: Write>(
+    alloc: Global,
+    writer: &mut W,
+    bytes: &[u8],
+) -> Result<(), ShowError>
     ensures { MatchResult result (λ _. Appends (W.contents writer.old) (W.contents writer.new) (bytes_json bytes.now)) IsOutputError }
 {
     let text = STANDARD_NO_PAD.encode(alloc, bytes)?;
@@ -53,7 +57,7 @@ fn write_bytes<W: Write>(alloc: Global, writer: &mut W, bytes: &[u8]) -> Result<
 }
 
 // A link by the bytes of its CID, which is an object.
-fn write_link<W: Write>(alloc: Global, writer: &mut W, bytes: &[u8]) -> Result<(), ShowError>
+fn write_link_object<W: Write>(alloc: Global, writer: &mut W, bytes: &[u8]) -> Result<(), ShowError>
     ensures { (cid : Link) → IsCid 64 bytes.now cid → MatchResult result (λ _. Appends (W.contents writer.old) (W.contents writer.new) (link_json cid)) IsOutputError }
 {
     writer.write_all(b"{\"/\":\"")?;
@@ -81,8 +85,8 @@ fn write_scalar<W: Write>(
         ItemHead::Integer(number) => write!(writer, "{number}")?,
         ItemHead::Float(bits) => return write_float(writer, *bits),
         ItemHead::Str(text) => return write_string(writer, text, false),
-        ItemHead::Bytes(bytes) => return write_bytes(alloc, writer, bytes),
-        ItemHead::Link(cid) => return write_link(alloc, writer, cid),
+        ItemHead::Bytes(bytes) => return write_bytes_object(alloc, writer, bytes),
+        ItemHead::Link(cid) => return write_link_object(alloc, writer, cid),
     }
     Ok(())
 }
@@ -100,7 +104,7 @@ fn enter_list<'a, W: Write>(
 {
     writer.write_all(b"[")?;
     frames.push(Frame::List(items))?;
-    Ok(inside(place, rest))
+    Ok(first_place(place, rest))
 }
 
 // Begins a map of so many entries, unless it is reserved, in a value of so many bytes in all.
@@ -116,7 +120,7 @@ fn enter_map<'a, W: Write>(
     ensures { (whole : DataItem) (w : List ℕ) (n : ℕ) (c : Coming whole total (reverse frames.old.items) place.entry w n) → IsHeadOf (begin.Map count) c.value rest.now c.part.mid
         → MatchResult result (λ _. Wrote whole total (reverse frames.new.items) place.entry false w n (W.contents writer.old) (W.contents writer.new)) (IsJsonError whole) }
 {
-    let mut entries = match entries_at(alloc, count, inside(place, rest)) {
+    let mut entries = match entries_at(alloc, count, first_place(place, rest)) {
         Ok(entries) => entries,
         Err(error) => return Err(error),
     };
@@ -125,8 +129,8 @@ fn enter_map<'a, W: Write>(
         Ok(false) => {}
         Err(error) => return Err(error),
     }
-    let Some(after) = behind_container(place) else {
-        return Err(not_checked());
+    let Some(after) = after_container(place) else {
+        return Err(unchecked_error());
     };
     entries.reverse();
     writer.write_all(b"{")?;
@@ -146,7 +150,7 @@ fn write_value<'a, W: Write>(
         → MatchResult result (λ wrote. Wrote whole total (reverse frames.new.items) wrote.0 wrote.1 w n (W.contents writer.old) (W.contents writer.new)) (IsJsonError whole) }
 {
     let Ok((head, rest)) = read_item(place.rest) else {
-        return Err(not_checked());
+        return Err(unchecked_error());
     };
     match head {
         ItemHead::List(items) => match enter_list(items, place, rest, frames, writer) {
@@ -192,7 +196,7 @@ fn write_key<W: Write>(writer: &mut W, key: &str) -> Result<(), ShowError>
 }
 
 // Goes on in a list of which so many items are to come, the first of them at a place, or ends it.
-fn go_on_in_list<'a, W: Write>(
+fn write_next_item<'a, W: Write>(
     items: u64,
     place: Place<'a>,
     others: bool,
@@ -213,7 +217,7 @@ fn go_on_in_list<'a, W: Write>(
 }
 
 // Goes on in a map of which these entries are to come, the next one last, or ends it.
-fn go_on_in_map<'a, W: Write>(
+fn write_next_member<'a, W: Write>(
     mut entries: Vec<Entry<'a>>,
     after: Place<'a>,
     others: bool,
@@ -240,7 +244,7 @@ fn go_on_in_map<'a, W: Write>(
 }
 
 // Goes on in a list or a map, or ends it, where a value ended at a place, or none was written.
-fn go_on<'a, W: Write>(
+fn write_next<'a, W: Write>(
     frame: Frame<'a>,
     place: Place<'a>,
     others: bool,
@@ -252,13 +256,13 @@ fn go_on<'a, W: Write>(
         → MatchResult result (λ step. Steps whole total (reverse frames.new.items) step w n (W.contents writer.old) (W.contents writer.new)) IsOutputError }
 {
     match frame {
-        Frame::List(items) => go_on_in_list(items, place, others, frames, writer),
-        Frame::Map(entries, after) => go_on_in_map(entries, after, others, frames, writer),
+        Frame::List(items) => write_next_item(items, place, others, frames, writer),
+        Frame::Map(entries, after) => write_next_member(entries, after, others, frames, writer),
     }
 }
 
 // Writes what stands between the value that ended at a place and the next value, and returns where that begins.
-fn next_place<'a, W: Write>(
+fn next_value_place<'a, W: Write>(
     frames: &mut Vec<Frame<'a>>,
     ended: Place<'a>,
     others: bool,
@@ -270,7 +274,7 @@ fn next_place<'a, W: Write>(
     let mut place = ended;
     let mut others = others;
     while let Some(frame) = frames.pop() {
-        match go_on(frame, place, others, frames, writer) {
+        match write_next(frame, place, others, frames, writer) {
             Ok(Step::Value(next)) => return Ok(Some(next)),
             Ok(Step::End(after)) => {
                 place = after;
@@ -315,11 +319,11 @@ pub fn write_json<W: Write>(alloc: Global, value: &[u8], writer: &mut W) -> Resu
             Ok(wrote) => wrote,
             Err(error) => return Err(error),
         };
-        match next_place(&mut frames, behind, others, writer) {
+        match next_value_place(&mut frames, behind, others, writer) {
             Ok(Some(next)) => place = next,
             Ok(None) => return Ok(()),
             Err(error) => return Err(error),
         }
     }
-    Err(not_checked())
+    Err(unchecked_error())
 }

@@ -3,7 +3,8 @@
 ghost use Rattle.std.specs.Prelude.{◌++◌};
 ghost use Rattle.std.specs.Fmt.{WritesOnOk, WritesStyledOnOk, decimal};
 
-use dag_cbor_blocks::{BlockError, BlockErrorKind, CborError};
+use dag_cbor_blocks::{BlockError, BlockErrorKind};
+use dag_cbor_format::CborError;
 use ipld_block::{CheckError, InvalidBlock};
 use ipld_cid::CidError;
 use itoa::Buffer;
@@ -139,7 +140,7 @@ impl From<CheckError> for ShowError {
 }
 
 // The error of bytes that were to be a valid block and aren't.
-pub(crate) fn not_checked() -> ShowError {
+pub(crate) fn unchecked_error() -> ShowError {
     ShowError::Invalid(InvalidBlock::Cbor(BlockError {
         kind: BlockErrorKind::Cbor(CborError::End),
         offset: 0,

@@ -9,7 +9,7 @@ ghost use Rattle.ipld_show.specs.DataItem.{DataItem, DataItems, DataEntries, ite
 ghost use Rattle.ipld_show.specs.OnPath.{link_in, IsLinkOr, IsLinkOnPath};
 ghost use Rattle.ipld_show.specs.Skipping.{items_within, parts_in, Finds, LeadsBehind};
 
-use crate::error::{ShowError, not_checked};
+use crate::error::{ShowError, unchecked_error};
 use dag_cbor_format::item::{ItemHead, read_item, read_key};
 use ipld_cid::Cid;
 
@@ -35,7 +35,7 @@ pub(crate) fn item_size(bytes: &[u8]) -> Result<usize, ShowError>
     let mut left = 1u64;
     while left > 0 {
         let Ok((head, after)) = read_item(rest) else {
-            return Err(not_checked());
+            return Err(unchecked_error());
         };
         left = (left - 1).saturating_add(items_in(&head));
         rest = after;
@@ -51,7 +51,7 @@ fn entry_at<'a>(entries: u64, bytes: &'a [u8], name: &str) -> Result<Option<&'a 
     let mut left = entries;
     while left > 0 {
         let Ok((key, value)) = read_key(rest) else {
-            return Err(not_checked());
+            return Err(unchecked_error());
         };
         if name == key {
             return Ok(Some(value));
@@ -63,7 +63,7 @@ fn entry_at<'a>(entries: u64, bytes: &'a [u8], name: &str) -> Result<Option<&'a 
     Ok(None)
 }
 
-fn parsed(segment: &str) -> Option<u64>
+fn parse_index(segment: &str) -> Option<u64>
     ensures { result ≡ number_of segment.now }
 {
     segment.parse::<u64>().ok()
@@ -73,7 +73,7 @@ fn parsed(segment: &str) -> Option<u64>
 fn item_at<'a>(items: u64, bytes: &'a [u8], segment: &str) -> Result<Option<&'a [u8]>, ShowError>
     ensures { (ds : DataItems) (behind : List ℕ) → AreDataItems ds → items ≡ item_count ds → bytes.now ≡ items_encoding ds ++ behind → Finds (item_numbered (number_of segment.now) ds) result }
 {
-    let Some(index) = parsed(segment) else {
+    let Some(index) = parse_index(segment) else {
         return Ok(None);
     };
     if index >= items {
@@ -90,7 +90,10 @@ fn item_at<'a>(items: u64, bytes: &'a [u8], segment: &str) -> Result<Option<&'a 
 }
 
 // What was found at a segment, the one of this number.
-fn if_found(found: Result<Option<&[u8]>, ShowError>, number: usize) -> Result<&[u8], ShowError>
+fn found_or_error(
+    found: Result<Option<&[u8]>, ShowError>,
+    number: usize,
+) -> Result<&[u8], ShowError>
     ensures { (o : Option DataItem) → Finds o found.entry → LeadsTo (if_found number o) result }
 {
     match found {
@@ -101,21 +104,29 @@ fn if_found(found: Result<Option<&[u8]>, ShowError>, number: usize) -> Result<&[
 }
 
 // What a segment, the one of this number, leads to from the item that the bytes begin with.
-fn step<'a>(value: &'a [u8], segment: &str, number: usize) -> Result<&'a [u8], ShowError>
+fn value_of_segment<'a>(
+    value: &'a [u8],
+    segment: &str,
+    number: usize,
+) -> Result<&'a [u8], ShowError>
     ensures { (d : DataItem) (behind : List ℕ) → BeginsWithItem d value.now behind → LeadsTo (at_segment number segment.now d) result }
 {
     let Ok((head, rest)) = read_item(value) else {
-        return Err(not_checked());
+        return Err(unchecked_error());
     };
     match head {
-        ItemHead::Map(entries) => if_found(entry_at(entries, rest, segment), number),
-        ItemHead::List(items) => if_found(item_at(items, rest, segment), number),
+        ItemHead::Map(entries) => found_or_error(entry_at(entries, rest, segment), number),
+        ItemHead::List(items) => found_or_error(item_at(items, rest, segment), number),
         _ => Err(ShowError::NotAContainer(number)),
     }
 }
 
 // What a part of a path leads to behind so many segments, and how many segments were passed then. An empty part is none.
-fn enter<'a>(value: &'a [u8], part: &str, before: usize) -> Result<(&'a [u8], usize), ShowError>
+fn enter_segment<'a>(
+    value: &'a [u8],
+    part: &str,
+    before: usize,
+) -> Result<(&'a [u8], usize), ShowError>
     requires { before + length part.now < 2 ^ 64 }
     ensures passed { IfOk result (λ inner. inner.1 ≤ before + length part.now) }
     ensures exact { (d : DataItem) (behind : List ℕ) → BeginsWithItem d value.now behind
@@ -124,7 +135,7 @@ fn enter<'a>(value: &'a [u8], part: &str, before: usize) -> Result<(&'a [u8], us
     if part.is_empty() {
         return Ok((value, before));
     }
-    match step(value, part, before + 1) {
+    match value_of_segment(value, part, before + 1) {
         Ok(value) => Ok((value, before + 1)),
         Err(error) => Err(error),
     }
@@ -149,7 +160,7 @@ pub fn value_at<'a>(block: &'a [u8], path: &str) -> Result<&'a [u8], ShowError>
     let mut before = 0usize;
     let mut rest = path;
     while let Some((part, more)) = rest.split_once('/') {
-        match enter(value, part, before) {
+        match enter_segment(value, part, before) {
             Ok((inner, passed)) => {
                 value = inner;
                 before = passed;
@@ -158,7 +169,7 @@ pub fn value_at<'a>(block: &'a [u8], path: &str) -> Result<&'a [u8], ShowError>
         }
         rest = more;
     }
-    match enter(value, rest, before) {
+    match enter_segment(value, rest, before) {
         Ok((value, _)) => Ok(value),
         Err(error) => Err(error),
     }
@@ -174,11 +185,11 @@ pub struct LinkOnPath {
 }
 
 // The link that the value at the front is, if it is one.
-fn as_link(value: &[u8]) -> Result<Option<Cid>, ShowError>
+fn link_of_value(value: &[u8]) -> Result<Option<Cid>, ShowError>
     ensures { (d : DataItem) (behind : List ℕ) → BeginsWithItem d value.now behind → MatchResult result (λ cid. option_map link_of cid ≡ link_in d) (λ _. ⊥) }
 {
     let Ok((head, _)) = read_item(value) else {
-        return Err(not_checked());
+        return Err(unchecked_error());
     };
     match head {
         ItemHead::Link(bytes) => match Cid::try_from(bytes) {
@@ -193,7 +204,7 @@ fn as_link(value: &[u8]) -> Result<Option<Cid>, ShowError>
 fn link_or(value: &[u8], segments: usize, error: ShowError) -> Result<Option<LinkOnPath>, ShowError>
     ensures { (d : DataItem) (behind : List ℕ) → BeginsWithItem d value.now behind → IsLinkOr (link_in d) segments error result }
 {
-    match as_link(value) {
+    match link_of_value(value) {
         Ok(Some(cid)) => Ok(Some(LinkOnPath { cid, segments })),
         Ok(None) => Err(error),
         Err(error) => Err(error),
@@ -208,7 +219,7 @@ pub(crate) fn link_before_end(block: &[u8], path: &str) -> Result<Option<LinkOnP
     let mut before = 0usize;
     let mut rest = path;
     while let Some((part, more)) = rest.split_once('/') {
-        match enter(value, part, before) {
+        match enter_segment(value, part, before) {
             Ok((inner, passed)) => {
                 value = inner;
                 before = passed;
@@ -217,7 +228,7 @@ pub(crate) fn link_before_end(block: &[u8], path: &str) -> Result<Option<LinkOnP
         }
         rest = more;
     }
-    match enter(value, rest, before) {
+    match enter_segment(value, rest, before) {
         Ok(_) => Ok(None),
         Err(error) => link_or(value, before, error),
     }

@@ -7,7 +7,7 @@ ghost use Rattle.ipld_show.specs.Places.{IsContainer, HoldsItem, IsBehind, Holds
 ghost use Rattle.ipld_show.specs.Scalars.{IsOutputError};
 
 use crate::containers::Extent;
-use crate::error::{ShowError, not_checked};
+use crate::error::{ShowError, unchecked_error};
 use dag_cbor_format::item::{ItemHead, read_item, read_key};
 use std::alloc::Global;
 
@@ -27,7 +27,7 @@ pub(crate) struct Entry<'a> {
 
 // Where the first value in the list or the map at a place begins, behind its head.
 #[inline(always)]
-pub(crate) fn inside<'a>(place: Place<'a>, rest: &'a [u8]) -> Place<'a>
+pub(crate) fn first_place<'a>(place: Place<'a>, rest: &'a [u8]) -> Place<'a>
     ensures rest { result.rest.now ≡ rest.now }
     ensures containers { (x : Extent) (inner : List Extent) → place.entry.containers.now ≡ x ∷ inner → result.containers.now ≡ inner }
 {
@@ -39,7 +39,7 @@ pub(crate) fn inside<'a>(place: Place<'a>, rest: &'a [u8]) -> Place<'a>
 }
 
 // What follows the list or the map at a place.
-pub(crate) fn behind_container(place: Place<'_>) -> Option<Place<'_>>
+pub(crate) fn after_container(place: Place<'_>) -> Option<Place<'_>>
     ensures { (d : DataItem) (mid : List ℕ) (post : List Extent) → HoldsItem d place.entry mid post → IsContainer d → IsBehind result mid post }
 {
     let [extent, ..] = place.containers else {
@@ -55,15 +55,15 @@ pub(crate) fn behind_container(place: Place<'_>) -> Option<Place<'_>>
 }
 
 // What follows the value at a place.
-fn behind(place: Place<'_>) -> Option<Place<'_>>
+fn after_item(place: Place<'_>) -> Option<Place<'_>>
     ensures { (d : DataItem) (mid : List ℕ) (post : List Extent) → HoldsItem d place.entry mid post → IsBehind result mid post }
 {
     let Ok((head, rest)) = read_item(place.rest) else {
         return None;
     };
     match head {
-        ItemHead::List(_) => behind_container(place),
-        ItemHead::Map(_) => behind_container(place),
+        ItemHead::List(_) => after_container(place),
+        ItemHead::Map(_) => after_container(place),
         _ => Some(Place {
             rest,
             containers: place.containers,
@@ -84,15 +84,15 @@ pub(crate) fn entries_at<'a>(
     let mut place = first;
     for _ in 0..count {
         let Ok((key, rest)) = read_key(place.rest) else {
-            return Err(not_checked());
+            return Err(unchecked_error());
         };
         let value = Place {
             rest,
             containers: place.containers,
         };
         entries.push(Entry { key, value })?;
-        let Some(next) = behind(value) else {
-            return Err(not_checked());
+        let Some(next) = after_item(value) else {
+            return Err(unchecked_error());
         };
         place = next;
     }
@@ -127,11 +127,11 @@ fn reads_as_content(alloc: Global, place: Place<'_>) -> Result<bool, ShowError>
     ensures { (whole : DataItem) (total : ℕ) (d : DataItem) → HoldsPart whole total d place.entry → MatchResult result (ReadsAsContent d) IsOutputError }
 {
     let Ok((head, rest)) = read_item(place.rest) else {
-        return Err(not_checked());
+        return Err(unchecked_error());
     };
     match head {
         ItemHead::Str(_) => Ok(true),
-        ItemHead::Map(count) => match entries_at(alloc, count, inside(place, rest)) {
+        ItemHead::Map(count) => match entries_at(alloc, count, first_place(place, rest)) {
             Ok(entries) => Ok(begin_with_bytes(&entries)),
             Err(error) => Err(error),
         },

@@ -7,7 +7,7 @@ ghost use Rattle.ipld_show.specs.Scalars.{hex_text, IsOutputError};
 ghost use Rattle.ipld_show.specs.TreeLevels.{HasCid, IsHeadText, opens, with_level, Holds, Open, Leaves, ComesTo};
 ghost use Rattle.ipld_show.specs.TreeText.{Line, spaces, indent, key_text, end_text, IsTreeText};
 
-use crate::error::{ShowError, not_checked};
+use crate::error::{ShowError, unchecked_error};
 use crate::scalars::{write_cid_bytes, write_float, write_hex, write_string};
 use dag_cbor_format::item::{ItemHead, read_item, read_key};
 use std::alloc::Global;
@@ -47,7 +47,7 @@ fn write_indent<W: Write>(writer: &mut W, level: usize) -> Result<(), ShowError>
 }
 
 // The key of a value, if it has one.
-fn write_key<W: Write>(writer: &mut W, key: Option<&str>) -> Result<(), ShowError>
+fn write_key_label<W: Write>(writer: &mut W, key: Option<&str>) -> Result<(), ShowError>
     ensures { MatchResult result (λ _. Appends (W.contents writer.old) (W.contents writer.new) (key_text (option_map (λ k. k.now) key.entry))) IsOutputError }
 {
     match key {
@@ -60,7 +60,7 @@ fn write_key<W: Write>(writer: &mut W, key: Option<&str>) -> Result<(), ShowErro
     }
 }
 
-fn write_bytes<W: Write>(writer: &mut W, bytes: &[u8]) -> Result<(), ShowError>
+fn write_bytes_text<W: Write>(writer: &mut W, bytes: &[u8]) -> Result<(), ShowError>
     ensures { MatchResult result (λ _. Appends (W.contents writer.old) (W.contents writer.new) (codes "h'" ++ (hex_text bytes.now ++ codes "'"))) IsOutputError }
 {
     writer.write_all(b"h'")?;
@@ -80,7 +80,7 @@ fn write_head<W: Write>(alloc: Global, writer: &mut W, head: &ItemHead<'_>) -> R
         ItemHead::Integer(number) => write!(writer, "{number}")?,
         ItemHead::Float(bits) => return write_float(writer, *bits),
         ItemHead::Str(text) => return write_string(writer, text, true),
-        ItemHead::Bytes(bytes) => return write_bytes(writer, bytes),
+        ItemHead::Bytes(bytes) => return write_bytes_text(writer, bytes),
         ItemHead::Link(cid) => return write_cid_bytes(alloc, writer, cid),
         ItemHead::List(0) => writer.write_all(b"[]")?,
         ItemHead::List(_) => writer.write_all(b"[")?,
@@ -102,7 +102,7 @@ fn write_line<W: Write>(
         × Appends (W.contents writer.old) (W.contents writer.new) (indent level ++ (key_text (option_map (λ k. k.now) key.entry) ++ (t ++ codes "\n")))) IsOutputError }
 {
     write_indent(writer, level)?;
-    write_key(writer, key)?;
+    write_key_label(writer, key)?;
     write_head(alloc, writer, head)?;
     writer.write_all(b"\n")?;
     Ok(())
@@ -173,7 +173,7 @@ fn leave<W: Write>(levels: &mut Vec<Level>, writer: &mut W) -> Result<Option<Lev
 }
 
 // Where the next value begins in a list or a map, and its key if it has one.
-fn next_place(level: Level, bytes: &[u8]) -> Result<(Option<&str>, &[u8]), ShowError>
+fn next_line_place(level: Level, bytes: &[u8]) -> Result<(Option<&str>, &[u8]), ShowError>
     ensures within { IfOk result (λ place. length place.1.now ≤ length bytes.now) }
     ensures exact { (n : ℕ) (own : List Line) (mid : List ℕ) → Holds level.is_map n (suc level.left) bytes.now own mid
         → MatchResult result (ComesTo n level own mid) (λ _. ⊥) }
@@ -183,7 +183,7 @@ fn next_place(level: Level, bytes: &[u8]) -> Result<(Option<&str>, &[u8]), ShowE
     }
     match read_key(bytes) {
         Ok((key, value)) => Ok((Some(key), value)),
-        Err(_) => Err(not_checked()),
+        Err(_) => Err(unchecked_error()),
     }
 }
 
@@ -207,7 +207,7 @@ pub fn write_tree<W: Write>(alloc: Global, value: &[u8], writer: &mut W) -> Resu
     let mut key = None;
     loop {
         let Ok((head, after)) = read_item(rest) else {
-            return Err(not_checked());
+            return Err(unchecked_error());
         };
         match write_line(alloc, writer, levels.len(), key, &head) {
             Ok(()) => {}
@@ -215,7 +215,7 @@ pub fn write_tree<W: Write>(alloc: Global, value: &[u8], writer: &mut W) -> Resu
         }
         enter(&mut levels, &head)?;
         match leave(&mut levels, writer) {
-            Ok(Some(level)) => match next_place(level, after) {
+            Ok(Some(level)) => match next_line_place(level, after) {
                 Ok((name, place)) => {
                     key = name;
                     rest = place;

@@ -106,7 +106,7 @@ impl<const S: usize> Extractor<S> {
 
     // An item has to come.
     #[inline(always)]
-    fn require(&mut self)
+    fn expect_item(&mut self)
         ensures { state_of self.new ≡ open_at true self.old.keeps self.old.frame (outer_of self.old) (links_found self.old) }
     {
         self.phase = Phase::Item;
@@ -114,7 +114,7 @@ impl<const S: usize> Extractor<S> {
 
     // The bytes of a link have to come.
     #[inline(always)]
-    fn mark(&mut self)
+    fn expect_link_bytes(&mut self)
         ensures { state_of self.new ≡ marked self.old.keeps self.old.frame (outer_of self.old) (links_found self.old) }
     {
         self.phase = Phase::LinkBytes;
@@ -122,7 +122,7 @@ impl<const S: usize> Extractor<S> {
 
     // Keeps the link of a value.
     #[inline(always)]
-    fn keep(&mut self, cid: CidGeneric<S>) -> Result<(), Rejection>
+    fn keep_link(&mut self, cid: CidGeneric<S>) -> Result<(), Rejection>
         ensures { Keeps self.old (link_of cid.entry) self.new result }
     {
         if self.keeps {
@@ -132,7 +132,7 @@ impl<const S: usize> Extractor<S> {
     }
 
     // The bytes after a link mark.
-    fn link(&mut self, bytes: &[u8]) -> Result<(), Rejection>
+    fn take_link_bytes(&mut self, bytes: &[u8]) -> Result<(), Rejection>
         ensures { Reads S self.old.keeps bytes.now (link_read (read_link S bytes.now) self.old.keeps self.old.frame (outer_of self.old) (links_found self.old)) (state_of self.new) result }
     {
         if S >= TOO_LARGE {
@@ -143,7 +143,7 @@ impl<const S: usize> Extractor<S> {
         match CidGeneric::try_from(bytes) {
             Err(cid_error) => Err(Rejection::Cid(cid_error)),
             Ok(cid) => {
-                self.keep(cid)?;
+                self.keep_link(cid)?;
                 self.close();
                 Ok(())
             }
@@ -214,8 +214,8 @@ impl<const S: usize> Extractor<S> {
         ensures { Follows (Opens (erase token.now)) (item_step must self.old.keeps self.old.frame (outer_of self.old) (links_found self.old) (erase token.now)) (state_of self.new) result }
     {
         match token {
-            Token::Some | Token::Variant(_) => self.require(),
-            Token::Link => self.mark(),
+            Token::Some | Token::Variant(_) => self.expect_item(),
+            Token::Link => self.expect_link_bytes(),
             Token::Seq(_) => return self.open_list(),
             Token::Map(_) => return self.open_map(),
             Token::SeqEnd | Token::MapEnd if must => return Err(Rejection::Token),
@@ -232,7 +232,7 @@ impl<const S: usize> Extractor<S> {
         ensures { Takes S (marked self.old.keeps self.old.frame (outer_of self.old) (links_found self.old)) (erase token.now) (state_of self.new) result }
     {
         match token {
-            Token::Bytes(bytes) => self.link(bytes.as_slice()),
+            Token::Bytes(bytes) => self.take_link_bytes(bytes.as_slice()),
             _ => Err(Rejection::Token),
         }
     }

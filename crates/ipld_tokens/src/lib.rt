@@ -33,7 +33,6 @@ mod tree_tokens;
 pub use error::{ReadError, TokenError};
 pub use extract_links::ExtractLinks;
 pub use fault_source::FaultSource;
-pub use ipld_tree::{Limits, list_capacity};
 pub use read::{read_ipld, read_ipld_within};
 pub use slice_source::SliceSource;
 pub use source::{Stopped, TokenSource};

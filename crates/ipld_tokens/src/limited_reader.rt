@@ -41,7 +41,7 @@ fn begins_value(token: &Token<'_>) -> bool
 }
 
 // Whether the token opens a list or a map, where a value may come.
-fn opens(token: &Token<'_>) -> bool
+fn begins_container(token: &Token<'_>) -> bool
     ensures { result ≡ machine.opens (erase token.now) }
 {
     matches!(token, Token::Seq(_) | Token::Map(_))
@@ -91,7 +91,7 @@ impl LimitedReader {
         ensures excess { option_map excess_of result ≡ limit.value_excess self.now.limits (kinds (levels_of self.now.reader)) self.now.values (erase token.now) }
         ensures fits { MatchOption result (self.now.values < 2 ^ 64 - 1) (λ _. Unit {0}) }
     {
-        if opens(token) {
+        if begins_container(token) {
             self.excess_of_container()
         } else {
             self.excess_of_value()

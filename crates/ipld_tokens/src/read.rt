@@ -36,7 +36,7 @@ use std::alloc::Global;
 /// - A list, a map and a link are what they are in a tree. Each key of a map is a `Str` or a `Char`, and no two have the same string.
 ///
 /// The source may not have failed before. It allocates the tree, and a slot for each list and map that is open within another. Where a
-/// list begins it reserves the capacity that [`list_capacity`](crate::list_capacity) says for its length hint, at most 4,096 values, and
+/// list begins it reserves the capacity that [`list_capacity`](ipld_tree::list_capacity) says for its length hint, at most 4,096 values, and
 /// for all lists together that are open at most 8,192; a wrong hint changes no result but `Memory`. Where a list ends that uses less than
 /// half of what its hint reserved, it gives the rest back.
 /// Tokens that nest deeply are read by a loop, and where an error is returned what was read is dropped by one. A tree that is
@@ -143,11 +143,11 @@ pub fn read_ipld_within<'a, T: TokenSource<'a>>(
 {
     // A law, which does nothing when it runs: it says that bytes are read as a CID exactly where they are one's.
     cid_bytes_law::<64>();
-    flatten(consume(source, LimitedReader::new(alloc, *limits)))
+    read_error_of(consume(source, LimitedReader::new(alloc, *limits)))
 }
 
 // The errors of both kinds as one.
-fn flatten<F>(read: Result<Result<Ipld, Excess>, TokenError<F>>) -> Result<Ipld, ReadError<F>>
+fn read_error_of<F>(read: Result<Result<Ipld, Excess>, TokenError<F>>) -> Result<Ipld, ReadError<F>>
     ensures { result ≡ flatten read }
 {
     match read {

@@ -69,7 +69,7 @@ fn text_of(alloc: Global, character: char) -> Result<String, AllocError>
 }
 
 // The link that the bytes encode.
-fn link_tree(bytes: &[u8]) -> Result<Ipld, Rejection>
+fn link_of_bytes(bytes: &[u8]) -> Result<Ipld, Rejection>
     ensures { MakesLink bytes.now result }
 {
     // A law, which does nothing when it runs: it says that bytes are read as a CID exactly where they are one's.
@@ -290,7 +290,7 @@ impl TreeReader {
     {
         match token {
             Token::Bytes(bytes) => {
-                let link = link_tree(bytes.as_slice())?;
+                let link = link_of_bytes(bytes.as_slice())?;
                 self.complete(link)
             }
             _ => Err(Rejection::Token),

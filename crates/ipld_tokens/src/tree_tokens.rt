@@ -109,11 +109,11 @@ impl<'a> TokenSource<'a> for IpldTokens<'a> {
         };
         match cursor_step(self.alloc, cursor) {
             Ok(step) => {
-                put(&mut self.stack, step.rest, step.inner);
+                push_cursors(&mut self.stack, step.rest, step.inner);
                 Ok(Some(step.token))
             }
             Err(cursor) => {
-                put(&mut self.stack, Some(cursor), None);
+                push_cursors(&mut self.stack, Some(cursor), None);
                 self.failed = true;
                 Err(AllocError)
             }
@@ -133,7 +133,7 @@ fn slots_needed(alloc: Global, tree: &Ipld) -> Result<Option<usize>, AllocError>
 }
 
 // Puts what is left back, below what opened.
-fn put<'a>(
+fn push_cursors<'a>(
     stack: &mut Vec<TokenCursor<'a>>,
     rest: Option<TokenCursor<'a>>,
     inner: Option<TokenCursor<'a>>,
@@ -151,7 +151,7 @@ fn put<'a>(
 }
 
 // The token that a value begins with, and what opens in it.
-fn opened<'a>(value: &'a Ipld) -> (Token<'a>, Option<TokenCursor<'a>>)
+fn begin_value<'a>(value: &'a Ipld) -> (Token<'a>, Option<TokenCursor<'a>>)
     ensures tokens { tokens_of_tree (tree_of value.now) ≡ erase result.0 ∷ all_left (cursors_in result.1) }
     ensures slots { slots (cursors_in result.1) ≤ suc (nest (tree_of value.now)) }
     ensures counts { Counts result.0 (tree_of value.now) }
@@ -181,7 +181,7 @@ fn step_into<'a>(value: &'a Ipld, rest: Option<TokenCursor<'a>>) -> Step<'a>
     ensures slots { slots (cursors_in result.inner) ≤ suc (nest (tree_of value.now)) }
     ensures counts { Counts result.token (tree_of value.now) }
 {
-    let (token, inner) = opened(value);
+    let (token, inner) = begin_value(value);
     Step { token, rest, inner }
 }
 

@@ -10,7 +10,7 @@ mod by_loop;
 use crate::growing::SHALLOW;
 use crate::ipld::Ipld;
 use crate::macros::{ListBuilder, MapBuilder};
-use by_loop::copied_by_loop;
+use by_loop::copy_by_loop;
 use std::alloc::{AllocError, Global};
 use std::collections::BTreeMap;
 use std::default::Emptied;
@@ -28,12 +28,12 @@ impl Clone for Ipld {
             Ipld::Null => Ok(Ipld::Null),
             Ipld::Bool(truth) => Ok(Ipld::Bool(*truth)),
             Ipld::Integer(number) => Ok(Ipld::Integer(*number)),
-            Ipld::String(text) => copied_text(*text.allocator(), text),
-            Ipld::Bytes(bytes) => copied_bytes(*bytes.allocator(), bytes),
-            Ipld::List(items) if holds_scalars(items) => copied_items(*items.allocator(), items),
-            Ipld::List(items) => copied_by_loop(*items.allocator(), self),
+            Ipld::String(text) => copy_text(*text.allocator(), text),
+            Ipld::Bytes(bytes) => copy_bytes(*bytes.allocator(), bytes),
+            Ipld::List(items) if holds_scalars(items) => copy_scalars(*items.allocator(), items),
+            Ipld::List(items) => copy_by_loop(*items.allocator(), self),
             Ipld::Map(members) => match members.first_key_value() {
-                Some((key, _)) => copied_by_loop(*key.allocator(), self),
+                Some((key, _)) => copy_by_loop(*key.allocator(), self),
                 None => Ok(Ipld::Map(BTreeMap::emptied(members)?)),
             },
             Ipld::Link(cid) => Ok(Ipld::Link(*cid)),
@@ -52,13 +52,13 @@ impl Ipld {
         ensures copy { IfOk result (λ v. tree_of v ≡ tree_of self.now) }
         ensures scalar { OnErr result (HoldsMemory (tree_of self.now)) }
     {
-        copied(alloc, self, SHALLOW)
+        copy_within(alloc, self, SHALLOW)
     }
 }
 
 // A copy of a value, made by recursion for so many levels, and by a loop below them.
 #[cycle(copied)]
-fn copied(alloc: Global, value: &Ipld, levels: usize) -> Result<Ipld, AllocError>
+fn copy_within(alloc: Global, value: &Ipld, levels: usize) -> Result<Ipld, AllocError>
     ensures copy { IfOk result (λ v. tree_of v ≡ tree_of value.now) }
     ensures scalar { OnErr result (HoldsMemory (tree_of value.now)) }
 {
@@ -66,15 +66,15 @@ fn copied(alloc: Global, value: &Ipld, levels: usize) -> Result<Ipld, AllocError
         Ipld::Null => Ok(Ipld::Null),
         Ipld::Bool(truth) => Ok(Ipld::Bool(*truth)),
         Ipld::Integer(number) => Ok(Ipld::Integer(*number)),
-        Ipld::String(text) => copied_text(alloc, text),
-        Ipld::Bytes(bytes) => copied_bytes(alloc, bytes),
+        Ipld::String(text) => copy_text(alloc, text),
+        Ipld::Bytes(bytes) => copy_bytes(alloc, bytes),
         Ipld::List(items) => match levels.checked_sub(1) {
-            Some(inner) => copied_list(alloc, items, inner),
-            None => copied_by_loop(alloc, value),
+            Some(inner) => copy_list(alloc, items, inner),
+            None => copy_by_loop(alloc, value),
         },
         Ipld::Map(members) => match levels.checked_sub(1) {
-            Some(inner) => copied_map(alloc, members, inner),
-            None => copied_by_loop(alloc, value),
+            Some(inner) => copy_map(alloc, members, inner),
+            None => copy_by_loop(alloc, value),
         },
         Ipld::Link(cid) => Ok(Ipld::Link(*cid)),
     }
@@ -82,14 +82,14 @@ fn copied(alloc: Global, value: &Ipld, levels: usize) -> Result<Ipld, AllocError
 
 // This and those below stand apart, so that a copy of a value that allocates nothing takes little of the stack.
 #[inline(never)]
-fn copied_text(alloc: Global, content: &str) -> Result<Ipld, AllocError>
+fn copy_text(alloc: Global, content: &str) -> Result<Ipld, AllocError>
     ensures { IfOk result (λ v. tree_of v ≡ text content.now) }
 {
     Ipld::from_text(alloc, content)
 }
 
 #[inline(never)]
-fn copied_bytes(alloc: Global, content: &[u8]) -> Result<Ipld, AllocError>
+fn copy_bytes(alloc: Global, content: &[u8]) -> Result<Ipld, AllocError>
     ensures { IfOk result (λ v. tree_of v ≡ bytes content.now) }
 {
     Ipld::from_byte_slice(alloc, content)
@@ -98,7 +98,7 @@ fn copied_bytes(alloc: Global, content: &[u8]) -> Result<Ipld, AllocError>
 // A list of copies of the items.
 #[cycle(copied)]
 #[inline(never)]
-fn copied_list(alloc: Global, items: &Vec<Ipld>, levels: usize) -> Result<Ipld, AllocError>
+fn copy_list(alloc: Global, items: &Vec<Ipld>, levels: usize) -> Result<Ipld, AllocError>
     ensures { IfOk result (λ v. tree_of v ≡ list (items_of items.now.items)) }
 {
     let mut copies = ListBuilder::with_capacity(alloc, items.len())?;
@@ -158,7 +158,7 @@ fn add_new_copy(
     ensures len { OnOk result (vec_len copies.new ≡ vec_len copies.old + 1) }
     ensures capacity { vec_capacity copies.new ≡ vec_capacity copies.old }
 {
-    match copied(alloc, value, levels) {
+    match copy_within(alloc, value, levels) {
         Ok(copy) => {
             copies.push_reserved(copy);
             Ok(())
@@ -170,7 +170,7 @@ fn add_new_copy(
 // A map of copies of the entries.
 #[cycle(copied)]
 #[inline(never)]
-fn copied_map(
+fn copy_map(
     alloc: Global,
     members: &BTreeMap<String, Ipld>,
     levels: usize,
@@ -178,12 +178,12 @@ fn copied_map(
     ensures { IfOk result (λ v. tree_of v ≡ entries (members_of members.now.entries)) }
 {
     if is_flat(members) {
-        return copied_flat_map(members);
+        return copy_flat_map(members);
     }
     let mut copies = MapBuilder::new(alloc);
     for (key, member) in members.iter() {
         let name = String::from_str(alloc, key)?;
-        match copied(alloc, member, levels) {
+        match copy_within(alloc, member, levels) {
             Ok(copy) => copies.put(name, copy)?,
             Err(error) => return Err(error),
         }
@@ -221,12 +221,12 @@ fn holds_scalars(items: &[Ipld]) -> bool {
 
 // A list of copies of the items. Lists and maps among them would each be copied by a loop of its own.
 #[inline(never)]
-fn copied_items(alloc: Global, items: &Vec<Ipld>) -> Result<Ipld, AllocError>
+fn copy_scalars(alloc: Global, items: &Vec<Ipld>) -> Result<Ipld, AllocError>
     ensures { IfOk result (λ v. tree_of v ≡ list (items_of items.now.items)) }
 {
     let mut copies = ListBuilder::with_capacity(alloc, items.len())?;
     for item in items {
-        let copy = copied_scalar(alloc, item)?;
+        let copy = copy_scalar(alloc, item)?;
         copies.items.push_reserved(copy);
     }
     Ok(Ipld::List(copies.finish()))
@@ -234,17 +234,17 @@ fn copied_items(alloc: Global, items: &Vec<Ipld>) -> Result<Ipld, AllocError>
 
 // A copy of a value: at once where it holds no others, and by a loop where it does.
 #[inline(always)]
-fn copied_scalar(alloc: Global, value: &Ipld) -> Result<Ipld, AllocError>
+fn copy_scalar(alloc: Global, value: &Ipld) -> Result<Ipld, AllocError>
     ensures { IfOk result (λ v. tree_of v ≡ tree_of value.now) }
 {
     match value {
         Ipld::Null => Ok(Ipld::Null),
         Ipld::Bool(truth) => Ok(Ipld::Bool(*truth)),
         Ipld::Integer(number) => Ok(Ipld::Integer(*number)),
-        Ipld::String(text) => copied_text(alloc, text),
-        Ipld::Bytes(bytes) => copied_bytes(alloc, bytes),
+        Ipld::String(text) => copy_text(alloc, text),
+        Ipld::Bytes(bytes) => copy_bytes(alloc, bytes),
         Ipld::Link(cid) => Ok(Ipld::Link(*cid)),
-        _ => copied_by_loop(alloc, value),
+        _ => copy_by_loop(alloc, value),
     }
 }
 
@@ -263,7 +263,7 @@ fn add_flat_copy(copies: &mut Vec<Ipld>, members: &BTreeMap<String, Ipld>) -> Re
 
 // A map of copies of the entries, in nodes like those of the map: no key is looked for.
 #[inline(never)]
-fn copied_flat_map(members: &BTreeMap<String, Ipld>) -> Result<Ipld, AllocError>
+fn copy_flat_map(members: &BTreeMap<String, Ipld>) -> Result<Ipld, AllocError>
     ensures { IfOk result (λ v. tree_of v ≡ entries (members_of members.now.entries)) }
 {
     let copies = members.clone()?;

@@ -24,7 +24,7 @@ impl PartialEq for Ipld {
     ghost laws = { partial_equiv_from_equiv (on_equiv tree_of tree_equiv) };
 
     fn eq(&self, other: &Ipld) -> bool {
-        same(self, other)
+        equal_trees(self, other)
     }
 }
 
@@ -37,7 +37,7 @@ impl Eq for Ipld {
 }
 
 #[cycle(same)]
-fn same(a: &Ipld, b: &Ipld) -> bool
+fn equal_trees(a: &Ipld, b: &Ipld) -> bool
     ensures { result ≡ tree_eq (tree_of a.now) (tree_of b.now) }
 {
     match (a, b) {
@@ -46,22 +46,22 @@ fn same(a: &Ipld, b: &Ipld) -> bool
         (Ipld::Integer(a), Ipld::Integer(b)) => *a == *b,
         (Ipld::String(a), Ipld::String(b)) => a == b,
         (Ipld::Bytes(a), Ipld::Bytes(b)) => a == b,
-        (Ipld::List(a), Ipld::List(b)) => same_items(a, b),
-        (Ipld::Map(a), Ipld::Map(b)) => same_members(a, b),
+        (Ipld::List(a), Ipld::List(b)) => equal_items(a, b),
+        (Ipld::Map(a), Ipld::Map(b)) => equal_members(a, b),
         (Ipld::Link(a), Ipld::Link(b)) => *a == *b,
         _ => false,
     }
 }
 
 #[cycle(same)]
-fn same_items(a: &[Ipld], b: &[Ipld]) -> bool
+fn equal_items(a: &[Ipld], b: &[Ipld]) -> bool
     ensures { result ≡ items_eq (items_of a.now) (items_of b.now) }
 {
     let mut others = b.iter();
     for item in a {
         match others.next() {
             Some(other) => {
-                if !same(item, other) {
+                if !equal_trees(item, other) {
                     return false;
                 }
             }
@@ -72,14 +72,14 @@ fn same_items(a: &[Ipld], b: &[Ipld]) -> bool
 }
 
 #[cycle(same)]
-fn same_members(a: &BTreeMap<String, Ipld>, b: &BTreeMap<String, Ipld>) -> bool
+fn equal_members(a: &BTreeMap<String, Ipld>, b: &BTreeMap<String, Ipld>) -> bool
     ensures { result ≡ members_eq (members_of a.now.entries) (members_of b.now.entries) }
 {
     let mut others = b.iter();
     for (key, member) in a.iter() {
         match others.next() {
             Some((other_key, other)) => {
-                if key != other_key || !same(member, other) {
+                if key != other_key || !equal_trees(member, other) {
                     return false;
                 }
             }

@@ -15,19 +15,19 @@ impl fmt::Debug for Ipld {
     fn fmt<W: fmt::Write>(&self, f: &mut fmt::Formatter<W>) -> fmt::Result {
         match self {
             Ipld::Null => f.write_str(if f.alternate() { "Null" } else { "null" }),
-            Ipld::Bool(truth) => shown("Bool", truth, f),
-            Ipld::Integer(number) => shown("Integer", number, f),
-            Ipld::String(text) => shown("String", text, f),
-            Ipld::Bytes(bytes) => shown_bytes(bytes, f),
-            Ipld::List(items) => shown("List", items, f),
-            Ipld::Map(members) => shown("Map", members, f),
-            Ipld::Link(cid) => shown_link(cid, f),
+            Ipld::Bool(truth) => fmt_content("Bool", truth, f),
+            Ipld::Integer(number) => fmt_content("Integer", number, f),
+            Ipld::String(text) => fmt_content("String", text, f),
+            Ipld::Bytes(bytes) => fmt_bytes(bytes, f),
+            Ipld::List(items) => fmt_content("List", items, f),
+            Ipld::Map(members) => fmt_content("Map", members, f),
+            Ipld::Link(cid) => fmt_link(cid, f),
         }
     }
 }
 
 // The content of a kind, on lines of its own with `#`.
-fn shown<T: fmt::Debug, W: fmt::Write>(
+fn fmt_content<T: fmt::Debug, W: fmt::Write>(
     kind: &str,
     content: &T,
     f: &mut fmt::Formatter<W>,
@@ -39,7 +39,7 @@ fn shown<T: fmt::Debug, W: fmt::Write>(
     }
 }
 
-fn shown_bytes<W: fmt::Write>(bytes: &Vec<u8>, f: &mut fmt::Formatter<W>) -> fmt::Result {
+fn fmt_bytes<W: fmt::Write>(bytes: &Vec<u8>, f: &mut fmt::Formatter<W>) -> fmt::Result {
     if f.alternate() {
         write!(f, "Bytes({bytes:?})")
     } else {
@@ -47,7 +47,7 @@ fn shown_bytes<W: fmt::Write>(bytes: &Vec<u8>, f: &mut fmt::Formatter<W>) -> fmt
     }
 }
 
-fn shown_link<W: fmt::Write>(cid: &Cid, f: &mut fmt::Formatter<W>) -> fmt::Result {
+fn fmt_link<W: fmt::Write>(cid: &Cid, f: &mut fmt::Formatter<W>) -> fmt::Result {
     if f.alternate() {
         write!(f, "Link({cid})")
     } else {

@@ -8,7 +8,7 @@ ghost use Rattle.ipld_tree.specs.TreeOf.{tree_of};
 ghost use Rattle.ipld_tree.specs.Walk.{nest};
 
 use crate::ipld::Ipld;
-use crate::iter::{Cursor, advance, opened};
+use crate::iter::{Cursor, advance, cursor_into};
 use crate::nesting::nesting_within;
 use std::alloc::{AllocError, Global};
 use std::mem;
@@ -41,7 +41,7 @@ impl<'a> GrowingWalk<'a> {
     {
         loop {
             if let Some(value) = advance(&mut self.innermost) {
-                self.enter(opened(value))?;
+                self.enter(cursor_into(value))?;
                 return Ok(Some(value));
             }
             match self.outer.pop() {
@@ -66,7 +66,7 @@ impl<'a> GrowingWalk<'a> {
 
     // How many cursors the walk holds.
     #[inline(always)]
-    fn held(&self) -> usize
+    fn cursor_count(&self) -> usize
         ensures { result ≡ length (levels_in self.now) }
     {
         self.outer.len() + 1
@@ -101,7 +101,7 @@ pub(crate) fn slots_needed(alloc: Global, value: &Ipld) -> Result<usize, AllocEr
     let mut walk = GrowingWalk::new(alloc, value);
     let mut most = 1;
     while let Some(_) = walk.next()? {
-        most = most.max(walk.held());
+        most = most.max(walk.cursor_count());
     }
     Ok(most)
 }

@@ -84,7 +84,7 @@ impl<'a> TryFrom<IpldIndex<'a>> for usize {
         (λ e. (number_meant (index_of index) ≡ None) × (lookup_error_of e ≡ no_number (index_of index))) };
 
     fn try_from(index: IpldIndex<'a>) -> Result<usize, IndexError<'a>> {
-        match position(&index) {
+        match list_position(&index) {
             Some(number) => Ok(number),
             None => Err(IndexError::ParseInteger(index)),
         }
@@ -119,8 +119,8 @@ impl Ipld {
     {
         let index = index.into_index();
         match self {
-            Ipld::List(items) => item(items, index),
-            Ipld::Map(members) => Ok(value(members, &index)),
+            Ipld::List(items) => item_at(items, index),
+            Ipld::Map(members) => Ok(member_at(members, &index)),
             neither => Err(IndexError::WrongKind(neither.kind())),
         }
     }
@@ -131,8 +131,8 @@ impl Ipld {
     {
         let index = index.into_index();
         match self {
-            Ipld::List(items) => take_item(items, index),
-            Ipld::Map(members) => Ok(take_by_index(members, &index)),
+            Ipld::List(items) => take_item_at(items, index),
+            Ipld::Map(members) => Ok(take_member_at(members, &index)),
             neither => Err(IndexError::WrongKind(neither.kind())),
         }
     }
@@ -158,20 +158,23 @@ impl Ipld {
         let mut reached = self;
         let mut rest = path;
         while let Some((segment, more)) = rest.split_once('/') {
-            match entered(reached, segment) {
+            match value_at_segment(reached, segment) {
                 Ok(Some(inner)) => reached = inner,
                 Ok(None) => return Ok(None),
                 Err(error) => return Err(error),
             }
             rest = more;
         }
-        entered(reached, rest)
+        value_at_segment(reached, rest)
     }
 }
 
 // What stands at a segment, or the value itself where that is empty.
 #[inline(always)]
-fn entered<'t, 'a>(value: &'t Ipld, segment: &'a str) -> Result<Option<&'t Ipld>, IndexError<'a>>
+fn value_at_segment<'t, 'a>(
+    value: &'t Ipld,
+    segment: &'a str,
+) -> Result<Option<&'t Ipld>, IndexError<'a>>
     ensures { outcome_of_get result ≡ found_along (filter (λ part. nat_lt 0 (length part)) (segment.now ∷ [])) (tree_of value.now) }
 {
     if segment.is_empty() {
@@ -181,35 +184,35 @@ fn entered<'t, 'a>(value: &'t Ipld, segment: &'a str) -> Result<Option<&'t Ipld>
     }
 }
 
-fn parsed(text: &str) -> Option<usize>
+fn parse_number(text: &str) -> Option<usize>
     ensures { result ≡ number_of text.now }
 {
     text.parse::<usize>().ok()
 }
 
-fn position(index: &IpldIndex) -> Option<usize>
+fn list_position(index: &IpldIndex) -> Option<usize>
     ensures { result ≡ number_meant (index_of index.now) }
 {
     match index {
         IpldIndex::List(number) => Some(*number),
-        IpldIndex::Map(text) => parsed(text),
-        IpldIndex::MapRef(text) => parsed(text),
+        IpldIndex::Map(text) => parse_number(text),
+        IpldIndex::MapRef(text) => parse_number(text),
     }
 }
 
-fn item<'t, 'a>(
+fn item_at<'t, 'a>(
     items: &'t Vec<Ipld>,
     index: IpldIndex<'a>,
 ) -> Result<Option<&'t Ipld>, IndexError<'a>>
     ensures { outcome_of_get result ≡ numbered (number_meant (index_of index.entry)) (index_of index.entry) (items_of items.now.items) }
 {
-    match position(&index) {
-        Some(number) => Ok(item_lent(items, number)),
+    match list_position(&index) {
+        Some(number) => Ok(item_at_position(items, number)),
         None => Err(IndexError::ParseInteger(index)),
     }
 }
 
-fn item_lent(items: &Vec<Ipld>, number: usize) -> Option<&Ipld>
+fn item_at_position(items: &Vec<Ipld>, number: usize) -> Option<&Ipld>
     ensures { option_map (λ v. tree_of v.now) result ≡ item_at number (items_of items.now.items) }
 {
     if number < items.len() {
@@ -219,27 +222,27 @@ fn item_lent(items: &Vec<Ipld>, number: usize) -> Option<&Ipld>
     }
 }
 
-fn value<'t>(members: &'t BTreeMap<String, Ipld>, index: &IpldIndex) -> Option<&'t Ipld>
+fn member_at<'t>(members: &'t BTreeMap<String, Ipld>, index: &IpldIndex) -> Option<&'t Ipld>
     ensures { option_map (λ v. tree_of v.now) result ≡ value_at (key_meant (index_of index.now)) (members_of members.now.entries) }
 {
     match index {
-        IpldIndex::List(number) => get_by_key(members, Buffer::new().format(*number)),
-        IpldIndex::Map(key) => get_by_key(members, key),
-        IpldIndex::MapRef(key) => get_by_key(members, key),
+        IpldIndex::List(number) => member_of_key(members, Buffer::new().format(*number)),
+        IpldIndex::Map(key) => member_of_key(members, key),
+        IpldIndex::MapRef(key) => member_of_key(members, key),
     }
 }
 
-fn get_by_key<'t>(members: &'t BTreeMap<String, Ipld>, key: &str) -> Option<&'t Ipld>
+fn member_of_key<'t>(members: &'t BTreeMap<String, Ipld>, key: &str) -> Option<&'t Ipld>
     ensures { option_map (λ v. tree_of v.now) result ≡ value_at key.now (members_of members.now.entries) }
 {
     members.get(key)
 }
 
-fn take_item<'a>(items: Vec<Ipld>, index: IpldIndex<'a>) -> Result<Option<Ipld>, IndexError<'a>>
+fn take_item_at<'a>(items: Vec<Ipld>, index: IpldIndex<'a>) -> Result<Option<Ipld>, IndexError<'a>>
     ensures { outcome_of_take result ≡ numbered (number_meant (index_of index.entry)) (index_of index.entry) (items_of items.items) }
 {
-    match position(&index) {
-        Some(number) => Ok(item_taken(items, number)),
+    match list_position(&index) {
+        Some(number) => Ok(take_item_at_position(items, number)),
         None => {
             Ipld::List(items).discard();
             Err(IndexError::ParseInteger(index))
@@ -247,7 +250,7 @@ fn take_item<'a>(items: Vec<Ipld>, index: IpldIndex<'a>) -> Result<Option<Ipld>,
     }
 }
 
-fn item_taken(mut items: Vec<Ipld>, number: usize) -> Option<Ipld>
+fn take_item_at_position(mut items: Vec<Ipld>, number: usize) -> Option<Ipld>
     ensures { option_map tree_of result ≡ item_at number (items_of items.items) }
 {
     if number >= items.len() {
@@ -259,17 +262,17 @@ fn item_taken(mut items: Vec<Ipld>, number: usize) -> Option<Ipld>
     Some(item)
 }
 
-fn take_by_index(members: BTreeMap<String, Ipld>, index: &IpldIndex) -> Option<Ipld>
+fn take_member_at(members: BTreeMap<String, Ipld>, index: &IpldIndex) -> Option<Ipld>
     ensures { option_map tree_of result ≡ value_at (key_meant (index_of index.now)) (members_of members.entries) }
 {
     match index {
-        IpldIndex::List(number) => take_by_key(members, Buffer::new().format(*number)),
-        IpldIndex::Map(key) => take_by_key(members, key),
-        IpldIndex::MapRef(key) => take_by_key(members, key),
+        IpldIndex::List(number) => take_member_of_key(members, Buffer::new().format(*number)),
+        IpldIndex::Map(key) => take_member_of_key(members, key),
+        IpldIndex::MapRef(key) => take_member_of_key(members, key),
     }
 }
 
-fn take_by_key(mut members: BTreeMap<String, Ipld>, key: &str) -> Option<Ipld>
+fn take_member_of_key(mut members: BTreeMap<String, Ipld>, key: &str) -> Option<Ipld>
     ensures { option_map tree_of result ≡ value_at key.now (members_of members.entries) }
 {
     let value = members.remove(key);

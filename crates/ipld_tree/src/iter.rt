@@ -142,15 +142,15 @@ fn nesting(value: &Ipld) -> Option<usize>
     ensures nested { MatchOption result (2 ^ 64 ≤ nest (tree_of value.now)) (λ n. n ≡ nest (tree_of value.now)) }
     ensures whole { OnSome result (IsWhole (tree_of value.now)) }
 {
-    match opened(value) {
+    match cursor_into(value) {
         None => Some(0),
-        Some(level) => deepest_of(level)?.checked_add(1),
+        Some(level) => deepest_level(level)?.checked_add(1),
     }
 }
 
 // How deep they nest in the deepest of what a cursor has left.
 #[cycle(nesting)]
-fn deepest_of(mut level: Cursor) -> Option<usize>
+fn deepest_level(mut level: Cursor) -> Option<usize>
     ensures nested { MatchOption result (2 ^ 64 ≤ deepest (left_of level.entry)) (λ n. n ≡ deepest (left_of level.entry)) }
     ensures whole { OnSome result (AllWhole (left_of level.entry)) }
 {
@@ -163,7 +163,7 @@ fn deepest_of(mut level: Cursor) -> Option<usize>
 
 // Lends bytes for what the type of a slice says of them.
 #[inline(always)]
-pub(crate) fn lend(bytes: &[u8])
+pub(crate) fn know_bytes(bytes: &[u8])
     ensures { IsBytes bytes.now }
 {
     let _bytes = bytes;
@@ -171,7 +171,7 @@ pub(crate) fn lend(bytes: &[u8])
 
 // A cursor over what a list or a map holds.
 #[inline(always)]
-pub(crate) fn opened(value: &Ipld) -> Option<Cursor<'_>>
+pub(crate) fn cursor_into(value: &Ipld) -> Option<Cursor<'_>>
     ensures opens { Opens (tree_of value.now) (levels_of (cursors_in result)) }
     ensures whole { AllWhole (values_in result) → IsWhole (tree_of value.now) }
 {
@@ -184,7 +184,7 @@ pub(crate) fn opened(value: &Ipld) -> Option<Cursor<'_>>
             None
         }
         Ipld::Bytes(bytes) => {
-            lend(bytes);
+            know_bytes(bytes);
             None
         }
         _ => None,
@@ -221,26 +221,26 @@ fn take_next<'a>(stack: &mut Vec<Cursor<'a>>) -> Iteration<'a>
 
 // Holds what opens in a value, if anything.
 #[inline(always)]
-fn hold<'a>(stack: &mut Vec<Cursor<'a>>, value: &'a Ipld)
+fn push_cursor_into<'a>(stack: &mut Vec<Cursor<'a>>, value: &'a Ipld)
     requires { length stack.old.items + container (tree_of value.now) ≤ vec_capacity stack.old }
     ensures holds { Holds (levels_of stack.old.items) (tree_of value.now) (levels_of stack.new.items) }
     ensures capacity { vec_capacity stack.new ≡ vec_capacity stack.old }
 {
     match value {
-        Ipld::List(_) => hold_opened(stack, value),
-        Ipld::Map(_) => hold_opened(stack, value),
+        Ipld::List(_) => push_container_cursor(stack, value),
+        Ipld::Map(_) => push_container_cursor(stack, value),
         _ => {}
     }
 }
 
-// Holds what opens in a list or a map. It stands apart, so that `hold` is small and a value in which nothing opens is taken fast.
+// Holds what opens in a list or a map. It stands apart, so that `push_cursor_into` is small and a value in which nothing opens is taken fast.
 #[inline(never)]
-fn hold_opened<'a>(stack: &mut Vec<Cursor<'a>>, value: &'a Ipld)
+fn push_container_cursor<'a>(stack: &mut Vec<Cursor<'a>>, value: &'a Ipld)
     requires { length stack.old.items + container (tree_of value.now) ≤ vec_capacity stack.old }
     ensures holds { Holds (levels_of stack.old.items) (tree_of value.now) (levels_of stack.new.items) }
     ensures capacity { vec_capacity stack.new ≡ vec_capacity stack.old }
 {
-    if let Some(inner) = opened(value) {
+    if let Some(inner) = cursor_into(value) {
         stack.push_reserved(inner);
     }
 }
@@ -254,7 +254,7 @@ fn iterate<'a>(stack: &mut Vec<Cursor<'a>>) -> Iteration<'a>
 {
     match take_next(stack) {
         Iteration::Yielded(value) => {
-            hold(stack, value);
+            push_cursor_into(stack, value);
             Iteration::Yielded(value)
         }
         Iteration::Dropped => Iteration::Dropped,

@@ -11,7 +11,7 @@ ghost use Rattle.ipld_tree.specs.TreeOf.{tree_of};
 ghost use Rattle.ipld_tree.specs.Walk.{nest};
 
 use crate::ipld::Ipld;
-use crate::iter::lend;
+use crate::iter::know_bytes;
 use std::collections::BTreeMap;
 use std::slice;
 
@@ -33,7 +33,7 @@ pub(crate) fn nesting_within(value: &Ipld, levels: usize) -> Option<usize>
             Some(0)
         }
         Ipld::Bytes(bytes) => {
-            lend(bytes);
+            know_bytes(bytes);
             Some(0)
         }
         _ => Some(0),

@@ -7,11 +7,11 @@ use Rattle.std.proofs.lemmas.Str.Ascii.{IsAscii-nil, IsAscii-cons}
 use Rattle.std.proofs.lemmas.Bool.Decides.{nat_tests}
 use Rattle.ipld_cid.specs.declared.cid.Version.TheVariants.{V0, V1}
 use Rattle.ipld_cid.specs.Cid.{Link}
-use Rattle.cid_text.specs.declared.base.Base.{Base}
-use Rattle.cid_text.specs.declared.base.Base.TheVariants.{Base58Btc}
-use Rattle.cid_text.specs.Base.{base_of}
-use Rattle.cid_text.specs.Text.{Form, IsText, has_path, path_len, begins_qm, form_of, multibase_form}
-use Rattle.cid_text.proofs.Writing.{encoded-ascii}
+use Rattle.ipld_cid_text.specs.declared.base.Base.{Base}
+use Rattle.ipld_cid_text.specs.declared.base.Base.TheVariants.{Base58Btc}
+use Rattle.ipld_cid_text.specs.Base.{base_of}
+use Rattle.ipld_cid_text.specs.Text.{Form, IsText, has_path, path_len, begins_qm, form_of, multibase_form}
+use Rattle.ipld_cid_text.proofs.Writing.{encoded-ascii}
 
 -- the prefix of a base
 base_of-ascii : (c : ℕ) (base : Base) → base_of c ≡ Some base → c < 128

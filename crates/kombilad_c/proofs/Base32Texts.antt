@@ -12,11 +12,11 @@ use Rattle.ipld_cid.specs.Text.{text_of}
 use Rattle.ipld_cid.specs.TextReading as reading
 use Rattle.ipld_cid.proofs.Encodings.{has_encoding, one_encoding}
 use Rattle.ipld_cid.proofs.TextReadings.{has_text, one_text}
-use Rattle.cid_text.specs.declared.base.Base.TheVariants.{Base32Lower}
-use Rattle.cid_text.specs.Base.{alphabet, letter}
-use Rattle.cid_text.specs.Digits.{IsGrouped}
-use Rattle.cid_text.specs.Text.{IsTextIn, IsTextAt, IsText}
-use Rattle.cid_text.proofs.Writing.{written_reads}
+use Rattle.ipld_cid_text.specs.declared.base.Base.TheVariants.{Base32Lower}
+use Rattle.ipld_cid_text.specs.Base.{alphabet, letter}
+use Rattle.ipld_cid_text.specs.Digits.{IsGrouped}
+use Rattle.ipld_cid_text.specs.Text.{IsTextIn, IsTextAt, IsText}
+use Rattle.ipld_cid_text.proofs.Writing.{written_reads}
 
 -- ---- the bytes of a CID are bytes
 

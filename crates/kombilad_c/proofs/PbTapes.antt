@@ -6,8 +6,8 @@ use Rattle.std.proofs.lemmas.Bool.{cases_lt, lt-ltb, le-ltb}
 use Rattle.std.proofs.lemmas.List.{append-nil}
 use Rattle.dag_cbor_blocks.specs.Tape.{entry}
 use Rattle.dag_cbor_blocks.specs.declared.tape.TapeEntry.{TapeEntry}
-use Rattle.cbor_tape.specs.Describes.{Refers}
-use Rattle.cbor_tape.specs.Entry.{content_of}
+use Rattle.dag_cbor_tape.specs.Describes.{Refers}
+use Rattle.dag_cbor_tape.specs.Entry.{content_of}
 use Rattle.dag_pb.specs.declared.spans.PbSpan.{PbSpan}
 use Rattle.dag_pb.specs.declared.spans.PbLinkSpans.{PbLinkSpans}
 use Rattle.dag_pb.specs.declared.spans.PbNodeSpans.{PbNodeSpans}

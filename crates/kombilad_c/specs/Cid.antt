@@ -5,12 +5,12 @@ use Rattle.ipld_cid.specs.declared.cid.Version.{Version}
 use Rattle.ipld_cid.specs.declared.cid.Version.TheVariants.{V0, V1}
 use Rattle.ipld_cid.specs.declared.error.CidError.{CidError}
 use Rattle.ipld_cid.specs.Cid.{Link}
-use Rattle.cid_text.specs.declared.base.Base.{Base}
-use Rattle.cid_text.specs.declared.base.Base.TheVariants.{Base32Lower, Base58Btc}
-use Rattle.cid_text.specs.declared.error.TextError.{TextError}
-use Rattle.cid_text.specs.declared.error.TextError.TheVariants as text
-use Rattle.cid_text.specs.Base.{base_of}
-use Rattle.cid_text.specs.Text.{IsTextIn, IsText, IsTextError}
+use Rattle.ipld_cid_text.specs.declared.base.Base.{Base}
+use Rattle.ipld_cid_text.specs.declared.base.Base.TheVariants.{Base32Lower, Base58Btc}
+use Rattle.ipld_cid_text.specs.declared.error.TextError.{TextError}
+use Rattle.ipld_cid_text.specs.declared.error.TextError.TheVariants as text
+use Rattle.ipld_cid_text.specs.Base.{base_of}
+use Rattle.ipld_cid_text.specs.Text.{IsTextIn, IsText, IsTextError}
 use Rattle.kombilad_c.specs.declared.cid_record.CidBytes.{CidBytes}
 use Rattle.kombilad_c.specs.Status.{cid_status, text_status}
 use Rattle.kombilad_c.specs.Fill.{Fills, IsUntouched}

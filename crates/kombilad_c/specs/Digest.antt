@@ -1,7 +1,7 @@
 -- What the export about the digest of a block returns.
 use Rattle.std.specs.Prelude.{◌≡◌, ◌⊎◌, ℕ, List, Some}
-use Rattle.block_cid.specs.Digest.{digest_by, IsVerifyError}
-use Rattle.block_cid.specs.declared.error.VerifyError.{VerifyError}
+use Rattle.ipld_block.specs.Digest.{digest_by, IsVerifyError}
+use Rattle.ipld_block.specs.declared.block_cid.error.VerifyError.{VerifyError}
 use Rattle.ipld_cid.specs.Cid.{Link}
 use Rattle.kombilad_c.specs.Status.{verify_status}
 

@@ -2,11 +2,11 @@
 use Rattle.std.specs.Prelude.{◌≡◌, ◌⊎◌, ℕ, List, length, Err}
 use Rattle.ipld_tokens.specs.Item.{Item}
 use Rattle.dag_cbor_blocks.specs.declared.tape.TapeEntry.{TapeEntry}
-use Rattle.cbor_tape.specs.declared.error.EncodeError.{EncodeError}
-use Rattle.cbor_tape.specs.Canonical.{Orders}
-use Rattle.cbor_tape.specs.Describes.{Describes}
-use Rattle.cbor_tape.specs.Encoding.{block_of}
-use Rattle.cbor_tape.specs.Memory.{IsOutOfMemory}
+use Rattle.dag_cbor_tape.specs.declared.error.EncodeError.{EncodeError}
+use Rattle.dag_cbor_tape.specs.Canonical.{Orders}
+use Rattle.dag_cbor_tape.specs.Describes.{Describes}
+use Rattle.dag_cbor_tape.specs.Encoding.{block_of}
+use Rattle.dag_cbor_tape.specs.Memory.{IsOutOfMemory}
 use Rattle.kombilad_c.specs.Fill.{Fills, IsUntouched}
 use Rattle.kombilad_c.specs.Status.{encode_status}
 

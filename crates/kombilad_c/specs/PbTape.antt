@@ -1,7 +1,7 @@
 -- What the export that lists the parts of a node of DAG-PB returns.
 use Rattle.std.specs.Prelude.{◌≡◌, ◌⊎◌, ◌^◌, ◌&&◌, nat_lt, if◌then◌else◌, ℕ, Bool, true, false, List, [], ◌∷◌, ◌++◌, length, Option, Some, None, Err}
 use Rattle.ipld_cid.specs.Bytes.{IsCid}
-use Rattle.cbor_tape.specs.Describes.{Refers}
+use Rattle.dag_cbor_tape.specs.Describes.{Refers}
 use Rattle.dag_cbor_blocks.specs.Tape.{entry}
 use Rattle.dag_cbor_blocks.specs.declared.tape.TapeEntry.{TapeEntry}
 use Rattle.dag_pb.specs.declared.error.PbError.{PbError}

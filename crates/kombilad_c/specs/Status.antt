@@ -2,14 +2,14 @@
 use Rattle.std.specs.Prelude.{ℕ}
 use Rattle.ipld_cid.specs.declared.error.CidError.{CidError}
 use Rattle.ipld_cid.specs.declared.error.CidError.TheVariants as cid
-use Rattle.cid_text.specs.declared.error.TextError.{TextError}
-use Rattle.cid_text.specs.declared.error.TextError.TheVariants as text
+use Rattle.ipld_cid_text.specs.declared.error.TextError.{TextError}
+use Rattle.ipld_cid_text.specs.declared.error.TextError.TheVariants as text
 use Rattle.dag_cbor_format.specs.declared.error.CborError.{CborError}
 use Rattle.dag_cbor_format.specs.declared.error.CborError.TheVariants as block
-use Rattle.block_cid.specs.declared.error.VerifyError.{VerifyError}
-use Rattle.block_cid.specs.declared.error.VerifyError.TheVariants.{UnknownHash, WrongDigest}
-use Rattle.cbor_tape.specs.declared.error.EncodeErrorKind.{EncodeErrorKind}
-use Rattle.cbor_tape.specs.declared.error.EncodeErrorKind.TheVariants as tape
+use Rattle.ipld_block.specs.declared.block_cid.error.VerifyError.{VerifyError}
+use Rattle.ipld_block.specs.declared.block_cid.error.VerifyError.TheVariants.{UnknownHash, WrongDigest}
+use Rattle.dag_cbor_tape.specs.declared.error.EncodeErrorKind.{EncodeErrorKind}
+use Rattle.dag_cbor_tape.specs.declared.error.EncodeErrorKind.TheVariants as tape
 use Rattle.dag_cbor_blocks.specs.declared.block_error.BlockErrorKind.{BlockErrorKind}
 use Rattle.dag_cbor_blocks.specs.declared.block_error.BlockErrorKind.TheVariants.{TooDeep, TooMany, Cbor}
 use Rattle.dag_pb.specs.declared.error.PbErrorKind.{PbErrorKind}

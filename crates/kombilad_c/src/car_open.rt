@@ -49,7 +49,7 @@ fn end_of(version: CarVersion, len: usize, end: u64) -> usize
 }
 
 // Writes the CIDs to the buffer's beginning, where it holds them, and how many they are in either case.
-fn list(cids: &[Cid], buffer: &mut [CidBytes], needed: &mut usize) -> u32
+fn fill_roots(cids: &[Cid], buffer: &mut [CidBytes], needed: &mut usize) -> u32
     ensures { Fills (map (λ cid. record_of (link_of cid)) cids.now) result buffer.old buffer.new needed.new }
 {
     *needed = cids.len();
@@ -86,7 +86,7 @@ pub extern "C" fn kombilad_car_open(
                 sections: reader.offset() as usize,
                 end: end_of(version, car.len(), reader.end()),
             };
-            list(reader.roots(), roots, needed)
+            fill_roots(reader.roots(), roots, needed)
         }
         Err(error) => {
             *offset = error.offset as usize;

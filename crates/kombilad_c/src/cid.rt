@@ -4,7 +4,7 @@ ghost use Rattle.std.specs.Prelude.{◌≡◌, ◌⊎◌, MatchResult, MatchOpti
 ghost use Rattle.ipld_cid.specs.Cid.{Link};
 ghost use Rattle.ipld_cid.specs.LinkOf.{link_of};
 ghost use Rattle.ipld_cid.specs.Bytes.{read_cid};
-ghost use Rattle.cid_text.specs.Text.{IsText, IsTextError};
+ghost use Rattle.ipld_cid_text.specs.Text.{IsText, IsTextError};
 ghost use Rattle.kombilad_c.specs.Status as numbers;
 ghost use Rattle.kombilad_c.specs.Fill.{IsUntouched};
 ghost use Rattle.kombilad_c.specs.CidRecord.{parts_of, record_of};
@@ -14,8 +14,8 @@ use crate::base32::fill_base32;
 use crate::cid_record::{CidBytes, CidParts};
 use crate::fill::fill;
 use crate::status::{MEMORY, OK, TEXT_UTF8, UNKNOWN_BASE, V0_BASE, cid_status, text_status};
-use cid_text::{Base, TextError, ToStringError, parse_any, to_string_of_base};
 use ipld_cid::{Cid, Version};
+use ipld_cid_text::{Base, TextError, ToStringError, parse_any, to_string_of_base};
 use std::alloc::Global;
 use std::str;
 
@@ -76,7 +76,7 @@ fn write_base32(cid: &Cid, bytes: &[u8], text: &mut [u8], needed: &mut usize) ->
 }
 
 // Writes the text of the CID in the base.
-fn write_in(alloc: Global, cid: &Cid, base: Base, text: &mut [u8], needed: &mut usize) -> u32
+fn write_in_base(alloc: Global, cid: &Cid, base: Base, text: &mut [u8], needed: &mut usize) -> u32
     ensures { WritesText base (link_of cid.now) result text.old text.new needed.old needed.new }
 {
     match to_string_of_base(alloc, cid, base) {
@@ -105,7 +105,7 @@ fn write_quickly(
     };
     match written {
         Some(status) => status,
-        None => write_in(alloc, cid, base, text, needed),
+        None => write_in_base(alloc, cid, base, text, needed),
     }
 }
 
@@ -147,7 +147,7 @@ fn cid_of(text: &str) -> Result<Cid, TextError>
 }
 
 // The CID of a text, or the place of the letter that is none.
-fn parse(text: &str, cid: &mut CidBytes, place: &mut usize) -> u32
+fn parse_text(text: &str, cid: &mut CidBytes, place: &mut usize) -> u32
     ensures read { IsParsed text.now result cid.new place.old place.new ⊎ IsRejected text.now result cid.old cid.new place.old place.new }
     ensures only { (link : Link) → IsText link text.now → (result ≡ 0) × (cid.new ≡ record_of link) }
 {
@@ -174,7 +174,7 @@ pub extern "C" fn kombilad_cid_from_text(text: &[u8], cid: &mut CidBytes, place:
     ensures only { (link : Link) → IsText link text.now → (result ≡ 0) × (cid.new ≡ record_of link) }
 {
     match str::from_utf8(text) {
-        Ok(text) => parse(text, cid, place),
+        Ok(text) => parse_text(text, cid, place),
         Err(_) => TEXT_UTF8,
     }
 }

@@ -6,7 +6,7 @@ ghost use Rattle.kombilad_c.specs.Digest.{Verifies};
 ghost use Rattle.kombilad_c.specs.Status as numbers;
 
 use crate::status::{OK, cid_status, verify_status};
-use block_cid::verify;
+use ipld_block::verify;
 use ipld_cid::Cid;
 
 /// Compares the digest of a block with that of the CID that the bytes are.

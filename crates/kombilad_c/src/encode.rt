@@ -2,13 +2,13 @@
 
 ghost use Rattle.std.specs.Prelude.{ℕ, List};
 ghost use Rattle.ipld_tokens.specs.Item.{Item};
-ghost use Rattle.cbor_tape.specs.Describes.{Describes};
+ghost use Rattle.dag_cbor_tape.specs.Describes.{Describes};
 ghost use Rattle.kombilad_c.specs.Encode.{WritesTape, WritesItem};
 
 use crate::fill::fill;
 use crate::status::encode_status;
-use cbor_tape::encode_tape;
 use dag_cbor_blocks::tape::TapeEntry;
+use dag_cbor_tape::encode_tape;
 use std::alloc::Global;
 
 /// Writes the canonical block of the value that the entries describe, the pairs of a map in any order, over the data to which they refer.

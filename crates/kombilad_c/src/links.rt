@@ -24,7 +24,7 @@ fn bytes_at<'a>(block: &'a [u8], position: &LinkPosition) -> &'a [u8]
 }
 
 // Writes the bytes at the positions to the buffer's beginning, where it holds them, and how many they are in either case.
-fn list(
+fn fill_links(
     block: &[u8],
     positions: &[LinkPosition],
     buffer: &mut [CidBytes],
@@ -61,7 +61,7 @@ pub extern "C" fn kombilad_links(
         floats: true,
     };
     match link_positions(alloc, block, &options) {
-        Ok(found) => list(block, &found, links, needed),
+        Ok(found) => fill_links(block, &found, links, needed),
         Err(error) => stop_status(error, offset),
     }
 }

@@ -5,7 +5,7 @@ ghost use Rattle.dag_pb.specs.Node.{NodeParts, IsNode};
 ghost use Rattle.kombilad_c.specs.PbTape.{ListsPbTape, IsOfNode, joined, content_at, content_where, tsize_entry, link_at, node_at, entries_of};
 
 use crate::status::{MEMORY, TOO_LONG, pb_status};
-use crate::tape::list;
+use crate::tape::fill_entries;
 use dag_cbor_blocks::tape::{BYTES, LINK, STRING, TapeEntry, UNSIGNED};
 use dag_pb::{PbLinkSpans, PbNodeSpans, PbSpan, node_spans};
 use std::alloc::{AllocError, Global};
@@ -29,7 +29,7 @@ impl NodeTape {
     }
 
     // Content at a span.
-    fn content(&mut self, kind: u32, span: PbSpan) -> Result<(), AllocError>
+    fn push_content(&mut self, kind: u32, span: PbSpan) -> Result<(), AllocError>
         ensures { OnOk result (entries_of self.new ≡ joined (entries_of self.old) (content_at kind span)) }
     {
         match u32::try_from(span.len) {
@@ -46,17 +46,17 @@ impl NodeTape {
     }
 
     // The same, where there is any.
-    fn content_where(&mut self, kind: u32, span: Option<PbSpan>) -> Result<(), AllocError>
+    fn push_content_if_any(&mut self, kind: u32, span: Option<PbSpan>) -> Result<(), AllocError>
         ensures { OnOk result (entries_of self.new ≡ joined (entries_of self.old) (content_where kind span)) }
     {
         match span {
-            Some(span) => self.content(kind, span),
+            Some(span) => self.push_content(kind, span),
             None => Ok(()),
         }
     }
 
     // A size, where there is one.
-    fn tsize(&mut self, tsize: Option<u64>) -> Result<(), AllocError>
+    fn push_tsize(&mut self, tsize: Option<u64>) -> Result<(), AllocError>
         ensures { OnOk result (entries_of self.new ≡ joined (entries_of self.old) (Some (tsize_entry tsize))) }
     {
         match tsize {
@@ -73,12 +73,12 @@ impl NodeTape {
     }
 
     // A link.
-    fn link(&mut self, spans: &PbLinkSpans) -> Result<(), AllocError>
+    fn push_link(&mut self, spans: &PbLinkSpans) -> Result<(), AllocError>
         ensures { OnOk result (entries_of self.new ≡ joined (entries_of self.old) (link_at spans.now)) }
     {
-        self.content(LINK, spans.hash)?;
-        self.content_where(STRING, spans.name)?;
-        self.tsize(spans.tsize)
+        self.push_content(LINK, spans.hash)?;
+        self.push_content_if_any(STRING, spans.name)?;
+        self.push_tsize(spans.tsize)
     }
 }
 
@@ -89,10 +89,10 @@ fn node_tape(alloc: Global, spans: &PbNodeSpans) -> Result<NodeTape, AllocError>
     let mut tape = NodeTape::new(alloc);
     let mut rest: &[PbLinkSpans] = &spans.links;
     while let Some((link, more)) = rest.split_first() {
-        tape.link(link)?;
+        tape.push_link(link)?;
         rest = more;
     }
-    tape.content_where(BYTES, spans.data)?;
+    tape.push_content_if_any(BYTES, spans.data)?;
     Ok(tape)
 }
 
@@ -112,7 +112,7 @@ pub extern "C" fn kombilad_pb_tape(
         Ok(spans) => match node_tape(alloc, &spans) {
             Ok(tape) => {
                 if tape.fits {
-                    list(&tape.entries, entries, needed)
+                    fill_entries(&tape.entries, entries, needed)
                 } else {
                     TOO_LONG
                 }

@@ -33,7 +33,7 @@ impl Span {
 }
 
 // Writes the places to the buffer's beginning, where it holds them, and how many they are in either case.
-fn list(positions: &[LinkPosition], buffer: &mut [Span], needed: &mut usize) -> u32
+fn fill_positions(positions: &[LinkPosition], buffer: &mut [Span], needed: &mut usize) -> u32
     ensures { Fills (map (λ position. span_of (position_of position)) positions.now) result buffer.old buffer.new needed.new }
 {
     *needed = positions.len();
@@ -64,7 +64,7 @@ pub extern "C" fn kombilad_link_positions(
         floats: true,
     };
     match link_positions(alloc, block, &options) {
-        Ok(found) => list(&found, positions, needed),
+        Ok(found) => fill_positions(&found, positions, needed),
         Err(error) => stop_status(error, offset),
     }
 }

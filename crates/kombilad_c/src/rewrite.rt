@@ -4,8 +4,8 @@ ghost use Rattle.kombilad_c.specs.Rewrite.{Rewrites};
 
 use crate::fill::fill;
 use crate::status::{TOO_LONG, stop_status};
-use cbor_tape::canonicalize;
 use dag_cbor_blocks::tape::TapeError;
+use dag_cbor_tape::canonicalize;
 use ipld_tree::Limits;
 use std::alloc::Global;
 

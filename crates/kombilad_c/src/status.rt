@@ -3,13 +3,14 @@
 ghost use Rattle.std.specs.Prelude.{◌≡◌};
 ghost use Rattle.kombilad_c.specs.Status as numbers;
 
-use block_cid::VerifyError;
-use cbor_tape::EncodeErrorKind;
-use cid_text::TextError;
-use dag_cbor_blocks::{BlockError, BlockErrorKind, CborError};
+use dag_cbor_blocks::{BlockError, BlockErrorKind};
+use dag_cbor_format::CborError;
+use dag_cbor_tape::EncodeErrorKind;
 use dag_pb::PbErrorKind;
+use ipld_block::VerifyError;
 use ipld_car::CarErrorKind;
 use ipld_cid::CidError;
+use ipld_cid_text::TextError;
 
 /// The call did what it is for.
 pub(crate) const OK: u32 = 0;

@@ -14,7 +14,11 @@ use ipld_tree::Limits;
 use std::alloc::Global;
 
 // Writes the entries to the buffer's beginning, where it holds them, and how many they are in either case.
-pub(crate) fn list(entries: &[TapeEntry], buffer: &mut [TapeEntry], needed: &mut usize) -> u32
+pub(crate) fn fill_entries(
+    entries: &[TapeEntry],
+    buffer: &mut [TapeEntry],
+    needed: &mut usize,
+) -> u32
     ensures { Fills entries.now result buffer.old buffer.new needed.new }
 {
     *needed = entries.len();
@@ -41,7 +45,7 @@ pub extern "C" fn kombilad_tape(
     ensures only { (t : Tree) → EncodesTreeIn true t block.now → Within (record { levels = levels; values = values }) t → IsListed result ⊎ ((result ≡ 1) ⊎ (result ≡ 8)) }
 {
     match read_tape(alloc, block, &Limits { levels, values }) {
-        Ok(found) => list(&found, entries, needed),
+        Ok(found) => fill_entries(&found, entries, needed),
         Err(TapeError::TooLong) => TOO_LONG,
         Err(TapeError::Block(error)) => stop_status(error, offset),
     }

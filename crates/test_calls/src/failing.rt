@@ -27,30 +27,30 @@ const MAP: [Token<'static>; 4] = [
 ];
 
 // A source that failed fails again, and one that all was taken from fails at the next call.
-fn fails(rt: &impl Abort, source: &mut FaultSource<'_>, has_failed: bool) {
+fn assert_still_fails(rt: &impl Abort, source: &mut FaultSource<'_>, has_failed: bool) {
     assert_eq!(rt; source.has_failed(), has_failed);
     assert!(rt; source.next_token() == Err(Stopped) && source.has_failed());
     assert!(rt; source.next_token() == Err(Stopped) && source.has_failed());
 }
 
-fn links_before<'a>(rt: &impl Abort, alloc: Global, tokens: &'a [Token<'a>], calls: usize) {
+fn assert_links_fail<'a>(rt: &impl Abort, alloc: Global, tokens: &'a [Token<'a>], calls: usize) {
     let mut source = FaultSource::new(tokens, calls);
     let outcome = ExtractLinks::<64>::deserialize(alloc, &mut source);
     assert!(rt;
         matches!(outcome, Err(TokenError::Source(Stopped))),
         "{calls}"
     );
-    fails(rt, &mut source, true);
+    assert_still_fails(rt, &mut source, true);
 }
 
-fn tree_before<'a>(rt: &impl Abort, alloc: Global, tokens: &'a [Token<'a>], calls: usize) {
+fn assert_tree_fails<'a>(rt: &impl Abort, alloc: Global, tokens: &'a [Token<'a>], calls: usize) {
     let mut source = FaultSource::new(tokens, calls);
     let outcome = read_ipld(alloc, &mut source);
     assert!(rt;
         matches!(outcome, Err(TokenError::Source(Stopped))),
         "{calls}"
     );
-    fails(rt, &mut source, true);
+    assert_still_fails(rt, &mut source, true);
 }
 
 // No item ends before the source fails.
@@ -58,12 +58,12 @@ fn tree_before<'a>(rt: &impl Abort, alloc: Global, tokens: &'a [Token<'a>], call
 fn a_source_that_fails_after_some_calls(rt: HostRuntime) {
     let links = LINKS;
     for calls in 0..8 {
-        links_before(&rt, rt.alloc(), &links, calls);
+        assert_links_fail(&rt, rt.alloc(), &links, calls);
     }
     let map = MAP;
     for calls in 0..4 {
-        links_before(&rt, rt.alloc(), &map, calls);
-        tree_before(&rt, rt.alloc(), &map, calls);
+        assert_links_fail(&rt, rt.alloc(), &map, calls);
+        assert_tree_fails(&rt, rt.alloc(), &map, calls);
     }
 }
 
@@ -72,5 +72,5 @@ fn a_source_that_fails_behind_the_item(rt: HostRuntime) {
     let map = MAP;
     let mut source = FaultSource::new(&map, 4);
     assert!(rt; read_ipld(rt.alloc(), &mut source).is_ok());
-    fails(&rt, &mut source, false);
+    assert_still_fails(&rt, &mut source, false);
 }

@@ -57,7 +57,7 @@ fn number(alloc: Global) -> Result<u8, ConversionError> {
 }
 
 // The debug string is the Rust crate's.
-fn is(rt: &impl Abort, alloc: Global, tree: Ipld, expected: &str) -> Result<(), Fail> {
+fn assert_tree_is(rt: &impl Abort, alloc: Global, tree: Ipld, expected: &str) -> Result<(), Fail> {
     assert_eq!(rt; format!(in alloc; "{tree:?}")?.as_str(), expected);
     Ok(())
 }
@@ -65,20 +65,20 @@ fn is(rt: &impl Abort, alloc: Global, tree: Ipld, expected: &str) -> Result<(), 
 #[test]
 fn builds_what_is_written(rt: HostRuntime) -> Result<(), Fail> {
     let alloc = rt.alloc();
-    is(
+    assert_tree_is(
         &rt,
         alloc,
         some_of_each(alloc)?,
         "[null, true, [], {}, \"x\"]",
     )?;
-    is(&rt, alloc, computed(alloc)?, "[5, [0, 255]]")?;
+    assert_tree_is(&rt, alloc, computed(alloc)?, "[5, [0, 255]]")?;
     let expected = "{\"p\": {\"serde\": \"json\"}, \"q\": 2}";
-    is(&rt, alloc, keyed(alloc)?, expected)?;
+    assert_tree_is(&rt, alloc, keyed(alloc)?, expected)?;
     let tree = overwritten(alloc, String::from_str(alloc, "a")?)?;
-    is(&rt, alloc, tree, "{\"a\": null, \"b\": {\"c\": {}}}")?;
+    assert_tree_is(&rt, alloc, tree, "{\"a\": null, \"b\": {\"c\": {}}}")?;
     let expected = "[[[]], [null, null], {\"a\": null}, [null]]";
-    is(&rt, alloc, nested(alloc)?, expected)?;
-    is(&rt, alloc, linked(alloc)?, "{\"or\": [bafkqaaa, bafkqaaa]}")
+    assert_tree_is(&rt, alloc, nested(alloc)?, expected)?;
+    assert_tree_is(&rt, alloc, linked(alloc)?, "{\"or\": [bafkqaaa, bafkqaaa]}")
 }
 
 #[test]
@@ -125,11 +125,11 @@ fn noted_until_rejected(alloc: Global, log: &mut [bool; 4]) -> Result<Ipld, Allo
 }
 
 #[test]
-fn turns_expressions_in_order_until_one_is_rejected(rt: HostRuntime) -> Result<(), Fail> {
+fn evaluates_in_order_until_one_is_rejected(rt: HostRuntime) -> Result<(), Fail> {
     let mut log = [false; 4];
     let built = noted_by_each(rt.alloc(), &mut log)?;
     assert_eq!(rt; log, [true; 4]);
-    is(&rt, rt.alloc(), built, "[\"x\", {\"a\": 1}, true]")?;
+    assert_tree_is(&rt, rt.alloc(), built, "[\"x\", {\"a\": 1}, true]")?;
     let mut log = [false; 4];
     assert!(rt; noted_until_rejected(rt.alloc(), &mut log).is_err());
     assert_eq!(rt; log, [true, true, false, false]);

@@ -1,10 +1,10 @@
 //! The two texts of each error: its name, and with `#` a sentence. Those of CIDs' texts and of blocks that aren't a CID's have a sentence alone.
 
-use block_cid::VerifyError;
-use cid_text::{TextError, ToStringError};
 use dag_cbor::{BlockError, BlockErrorKind, CborError};
 use dag_cbor_serde::{DecodeError, EncodeError};
+use ipld_block::VerifyError;
 use ipld_cid::CidError;
+use ipld_cid_text::{TextError, ToStringError};
 use ipld_core::codec::RawError;
 use ipld_core::ipld::{IndexError, IpldIndex, IpldKind};
 use ipld_core::serde::{ReadError, SerdeError, Stopped, TokenError};

@@ -3,7 +3,6 @@
 use crate::codecs::BLOCK;
 use crate::ended::{Ended, Rejection, reported};
 use crate::samples::{A, B, cid, is_same, two_links};
-use cbor_tape::{canonicalize, encode_tape};
 use dag_cbor::tape::{self, TapeEntry, read_tape};
 use dag_cbor::{
     BlockSize, CborTokens, DagCborCodec, LinkPosition, ReadOptions, check_block, count_links,
@@ -12,6 +11,7 @@ use dag_cbor::{
 use dag_cbor_serde::{
     from_reader, from_reader_within, from_slice, from_slice_within, to_vec, to_writer,
 };
+use dag_cbor_tape::{canonicalize, encode_tape};
 use ipld_cid::Cid;
 use ipld_core::codec::Links;
 use ipld_core::serde::TokenSource;

@@ -1,14 +1,14 @@
 //! How a test reports a failed allocation.
 
 use car_files::CarFileError;
-use cbor_tape::EncodeErrorKind;
-use cid_text::ToStringError;
 use dag_cbor::tape::TapeError;
 use dag_cbor::{BlockError, BlockErrorKind, CborError};
 use dag_cbor_serde::{DecodeError, EncodeError};
+use dag_cbor_tape::EncodeErrorKind;
 use dag_json::{DagJsonError, ReadErrorKind};
 use ipld_car::{CarError, CarErrorKind, CarWriteError};
 use ipld_cid::CidError;
+use ipld_cid_text::ToStringError;
 use ipld_core::codec::RawError;
 use ipld_core::serde::{ReadError, Stopped, TokenError};
 use ipld_links_run::RunFault;
@@ -58,7 +58,7 @@ impl Rejection for AllocError {
     }
 }
 
-impl Rejection for cbor_tape::EncodeError {
+impl Rejection for dag_cbor_tape::EncodeError {
     fn is_out_of_memory(&self) -> bool {
         self.kind == EncodeErrorKind::Memory
     }

@@ -2,8 +2,8 @@
 
 use crate::ended::{Ended, reported};
 use crate::samples::cid;
-use cid_text::{Base, to_string_of_base};
 use ipld_cid::{CidGeneric, IDENTITY, Multihash, RAW};
+use ipld_cid_text::{Base, to_string_of_base};
 use std::alloc::Global;
 use std::process::Abort;
 

@@ -2,10 +2,11 @@
 
 use crate::ended::{Ended, reported};
 use crate::samples::{A, B, cid, entry, is_bytes, is_same, is_text, list, nested};
-use cbor_tape::encode_tape;
+use dag_cbor_tape::encode_tape;
 use dag_json::floats::{self, Number};
-use dag_json::{DagJsonError, from_canonical, from_slice, from_str, to_string, to_vec};
-use dag_json_tape::tape_from_slice;
+use dag_json::{
+    DagJsonError, from_canonical, from_slice, from_str, tape_from_slice, to_string, to_vec,
+};
 use ipld_cid::Cid;
 use ipld_tree::convert::{IntoIpld, IntoKey};
 use ipld_tree::{Ipld, IpldIndex, IpldIter, Limits, ipld};

@@ -1,8 +1,8 @@
 //! Texts of CIDs in each base.
 
 use crate::identifiers;
-use cid_text::{Base, parse_any, to_string_of_base};
 use ipld_cid::Cid;
+use ipld_cid_text::{Base, parse_any, to_string_of_base};
 use std::alloc::{AllocError, Global};
 
 const BASES: [Base; 6] = [

@@ -17,7 +17,7 @@ pub fn block(alloc: Global, digits: &str) -> Result<String, AllocError> {
         return String::from_str(alloc, "no bytes");
     };
     let tree = decoded(alloc, bytes.as_slice())?;
-    let links = linked(alloc, bytes.as_slice())?;
+    let links = links_of_row(alloc, bytes.as_slice())?;
     if decode_slice(alloc, bytes.as_slice()) != tree_of_tokens(alloc, bytes.as_slice()) {
         return format!(in alloc; "{tree}; {links}; its tokens are another tree");
     }
@@ -90,7 +90,7 @@ fn links_found(alloc: Global, block: &[u8]) -> Result<Vec<Cid>, CborError> {
     }
 }
 
-fn linked(alloc: Global, block: &[u8]) -> Result<String, AllocError> {
+fn links_of_row(alloc: Global, block: &[u8]) -> Result<String, AllocError> {
     match links_found(alloc, block) {
         Ok(links) => format!(in alloc; "{links:?}"),
         Err(error) => format!(in alloc; "{error:?}"),
@@ -99,7 +99,7 @@ fn linked(alloc: Global, block: &[u8]) -> Result<String, AllocError> {
 
 /// How many links a block has, and whether the tree that it is decoded as is encoded as the same block; or the errors. The tree isn't looked
 /// at, so that it may nest as deep as it likes.
-pub fn again(alloc: Global, groups: &str) -> Result<String, AllocError> {
+pub fn encode_again(alloc: Global, groups: &str) -> Result<String, AllocError> {
     let Some(bytes) = bytes(alloc, groups)? else {
         return String::from_str(alloc, "no bytes");
     };

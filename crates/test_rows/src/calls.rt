@@ -17,7 +17,7 @@ pub fn call(alloc: Global, row: &str) -> Result<String, AllocError> {
     }
 }
 
-fn shown<T: Debug + Drop>(
+fn text_of_outcome<T: Debug + Drop>(
     alloc: Global,
     outcome: Result<T, SerdeError>,
 ) -> Result<String, AllocError> {
@@ -30,12 +30,12 @@ fn content<D: Deserializer + Drop>(
     tree: D,
 ) -> Result<String, AllocError> {
     match call {
-        "str" => shown(alloc, tree.deserialize_str()),
-        "string" => shown(alloc, tree.deserialize_string()),
-        "identifier" => shown(alloc, tree.deserialize_identifier()),
-        "bytes" => shown(alloc, tree.deserialize_bytes()),
-        "byte_buf" => shown(alloc, tree.deserialize_byte_buf()),
-        "option" => shown(alloc, tree.deserialize_option()),
+        "str" => text_of_outcome(alloc, tree.deserialize_str()),
+        "string" => text_of_outcome(alloc, tree.deserialize_string()),
+        "identifier" => text_of_outcome(alloc, tree.deserialize_identifier()),
+        "bytes" => text_of_outcome(alloc, tree.deserialize_bytes()),
+        "byte_buf" => text_of_outcome(alloc, tree.deserialize_byte_buf()),
+        "option" => text_of_outcome(alloc, tree.deserialize_option()),
         _ => structure(alloc, call, tree),
     }
 }
@@ -46,18 +46,18 @@ fn structure<D: Deserializer + Drop>(
     tree: D,
 ) -> Result<String, AllocError> {
     match call {
-        "unit" => shown(alloc, tree.deserialize_unit()),
-        "unit_struct" => shown(alloc, tree.deserialize_unit_struct("Unit")),
-        "any" => shown(alloc, tree.deserialize_any()),
-        "ignored_any" => shown(alloc, tree.deserialize_ignored_any()),
+        "unit" => text_of_outcome(alloc, tree.deserialize_unit()),
+        "unit_struct" => text_of_outcome(alloc, tree.deserialize_unit_struct("Unit")),
+        "any" => text_of_outcome(alloc, tree.deserialize_any()),
+        "ignored_any" => text_of_outcome(alloc, tree.deserialize_ignored_any()),
         "is_human_readable" => format!(in alloc; "{}", tree.is_human_readable()),
         "newtype of CIDs" => {
-            shown(
+            text_of_outcome(
                 alloc,
                 tree.deserialize_newtype_struct(CID_SERDE_PRIVATE_IDENTIFIER),
             )
         }
-        "newtype" => shown(alloc, tree.deserialize_newtype_struct("Wrapped")),
+        "newtype" => text_of_outcome(alloc, tree.deserialize_newtype_struct("Wrapped")),
         _ => cursor(alloc, call, tree),
     }
 }

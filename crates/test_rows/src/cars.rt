@@ -13,7 +13,7 @@ pub fn car(alloc: Global, row: &str) -> Result<String, AllocError> {
     };
     match CarReader::new(alloc, bytes.as_slice(), limit) {
         Ok(car) => sections(alloc, car, bytes.as_slice()),
-        Err(error) => failed(alloc, &error),
+        Err(error) => text_of_error(alloc, &error),
     }
 }
 
@@ -35,7 +35,7 @@ fn name(kind: &CarErrorKind) -> &'static str {
     }
 }
 
-fn failed(alloc: Global, error: &CarError) -> Result<String, AllocError> {
+fn text_of_error(alloc: Global, error: &CarError) -> Result<String, AllocError> {
     let name = name(&error.kind);
     format!(in alloc; "{name} {} {}", error.section, error.offset)
 }
@@ -67,7 +67,7 @@ fn sections<'a>(alloc: Global, mut car: Car<'a>, bytes: &[u8]) -> Result<String,
                 return format!(in alloc; "{said} end {} {written}", car.offset());
             }
             Err(error) => {
-                let error = failed(alloc, &error)?;
+                let error = text_of_error(alloc, &error)?;
                 return format!(in alloc; "{said} {error}");
             }
         }

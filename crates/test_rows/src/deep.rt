@@ -5,9 +5,9 @@ use ipld_tree::Ipld;
 use std::alloc::{AllocError, Global};
 
 /// How many values a tree has, how deep it nests and how many links are in it.
-pub fn walked(alloc: Global, words: &str) -> Result<String, AllocError> {
+pub fn walk_row(alloc: Global, words: &str) -> Result<String, AllocError> {
     match tree_words::tree(alloc, words)? {
-        Some(tree) => looped_over(alloc, tree),
+        Some(tree) => describe_by_loop(alloc, tree),
         None => String::from_str(alloc, "no tree"),
     }
 }
@@ -22,7 +22,7 @@ fn length(alloc: Global, tree: &Ipld) -> Result<usize, AllocError> {
     Ok(usize::MAX)
 }
 
-fn looped_over(alloc: Global, tree: Ipld) -> Result<String, AllocError> {
+fn describe_by_loop(alloc: Global, tree: Ipld) -> Result<String, AllocError> {
     let (values, levels) = (length(alloc, &tree)?, tree.try_nesting(alloc)?);
     let mut links = Vec::new(alloc);
     tree.references(alloc, &mut links)?;

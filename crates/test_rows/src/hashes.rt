@@ -1,7 +1,7 @@
 //! Multihashes, and the CIDs of blocks.
 
 use crate::identifiers;
-use block_cid::{cid_of, verify};
+use ipld_block::{cid_of, verify};
 use ipld_cid::{
     CID_SERDE_PRIVATE_IDENTIFIER, DAG_CBOR, DAG_PB, IDENTITY, MAX_CID_LEN, Multihash, RAW, SHA2_256,
 };

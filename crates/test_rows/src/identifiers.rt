@@ -13,11 +13,11 @@ pub fn from_bytes(alloc: Global, line: &str) -> Result<String, AllocError> {
         return String::from_str(alloc, "no bytes");
     };
     match capacity {
-        "0" => shown(alloc, CidGeneric::<0>::try_from(bytes.as_slice())),
-        "16" => shown(alloc, CidGeneric::<16>::try_from(bytes.as_slice())),
-        "32" => shown(alloc, CidGeneric::<32>::try_from(bytes.as_slice())),
-        "64" => shown(alloc, Cid::try_from(bytes.as_slice())),
-        "128" => shown(alloc, CidGeneric::<128>::try_from(bytes.as_slice())),
+        "0" => text_of_reading(alloc, CidGeneric::<0>::try_from(bytes.as_slice())),
+        "16" => text_of_reading(alloc, CidGeneric::<16>::try_from(bytes.as_slice())),
+        "32" => text_of_reading(alloc, CidGeneric::<32>::try_from(bytes.as_slice())),
+        "64" => text_of_reading(alloc, Cid::try_from(bytes.as_slice())),
+        "128" => text_of_reading(alloc, CidGeneric::<128>::try_from(bytes.as_slice())),
         _ => String::from_str(alloc, "no such capacity"),
     }
 }
@@ -28,10 +28,10 @@ pub fn from_text(alloc: Global, text: &str) -> Result<String, AllocError> {
     if text.parse::<Cid>() != read || Cid::try_from(text) != read {
         return String::from_str(alloc, "parsed as something else");
     }
-    shown(alloc, read)
+    text_of_reading(alloc, read)
 }
 
-fn shown<const S: usize>(
+fn text_of_reading<const S: usize>(
     alloc: Global,
     read: Result<CidGeneric<S>, CidError>,
 ) -> Result<String, AllocError>

@@ -7,20 +7,20 @@ use std::alloc::{AllocError, Global};
 /// What stands in a tree at an index, a text: `INDEX|TREE`.
 pub fn by_text(alloc: Global, line: &str) -> Result<String, AllocError> {
     let (index, words) = line.split_once('|').unwrap_or((line, ""));
-    looked_up(alloc, words, index)
+    look_up(alloc, words, index)
 }
 
 /// What stands in a tree at an index, a number: `INDEX|TREE`.
 pub fn by_number(alloc: Global, line: &str) -> Result<String, AllocError> {
     let (index, words) = line.split_once('|').unwrap_or((line, ""));
     match index.parse::<usize>() {
-        Ok(index) => looked_up(alloc, words, index),
+        Ok(index) => look_up(alloc, words, index),
         Err(_) => String::from_str(alloc, "no number"),
     }
 }
 
 // What is lent at the index, and what is taken.
-fn looked_up<'a, T: IntoIndex<'a> + Copy>(
+fn look_up<'a, T: IntoIndex<'a> + Copy>(
     alloc: Global,
     words: &str,
     index: T,
@@ -28,19 +28,25 @@ fn looked_up<'a, T: IntoIndex<'a> + Copy>(
     let Some(tree) = tree(alloc, words)? else {
         return String::from_str(alloc, "no tree");
     };
-    let lent = lent(alloc, tree.get(index))?;
-    let taken = taken(alloc, tree.take(index))?;
+    let lent = text_of_lent(alloc, tree.get(index))?;
+    let taken = text_of_taken(alloc, tree.take(index))?;
     format!(in alloc; "{lent}; {taken}")
 }
 
-fn lent(alloc: Global, found: Result<Option<&Ipld>, IndexError<'_>>) -> Result<String, AllocError> {
+fn text_of_lent(
+    alloc: Global,
+    found: Result<Option<&Ipld>, IndexError<'_>>,
+) -> Result<String, AllocError> {
     match found {
         Ok(found) => format!(in alloc; "{found:?}"),
         Err(error) => format!(in alloc; "{error}"),
     }
 }
 
-fn taken(alloc: Global, found: Result<Option<Ipld>, IndexError<'_>>) -> Result<String, AllocError> {
+fn text_of_taken(
+    alloc: Global,
+    found: Result<Option<Ipld>, IndexError<'_>>,
+) -> Result<String, AllocError> {
     match found {
         Ok(found) => format!(in alloc; "{found:?}"),
         Err(error) => format!(in alloc; "{error}"),
@@ -51,7 +57,7 @@ fn taken(alloc: Global, found: Result<Option<Ipld>, IndexError<'_>>) -> Result<S
 pub fn by_path(alloc: Global, line: &str) -> Result<String, AllocError> {
     let (path, words) = line.split_once('|').unwrap_or((line, ""));
     match tree(alloc, words)? {
-        Some(tree) => lent(alloc, tree.at_path(path)),
+        Some(tree) => text_of_lent(alloc, tree.at_path(path)),
         None => String::from_str(alloc, "no tree"),
     }
 }

@@ -87,7 +87,7 @@ fn of_trees(alloc: Global, word: &str, rest: &str) -> Result<String, AllocError>
         "at" => indexes::by_number(alloc, rest),
         "path" => indexes::by_path(alloc, rest),
         "debug" => debug::tree(alloc, rest),
-        "deep" => deep::walked(alloc, rest),
+        "deep" => deep::walk_row(alloc, rest),
         "json" => json::tree(alloc, rest),
         "fromjson" => json::read(alloc, rest),
         "as" => convert::tree(alloc, rest),
@@ -113,7 +113,7 @@ fn of_tokens(alloc: Global, word: &str, rest: &str) -> Result<String, AllocError
 fn of_blocks(alloc: Global, word: &str, rest: &str) -> Result<String, AllocError> {
     match word {
         "block" => blocks::block(alloc, rest),
-        "again" => blocks::again(alloc, rest),
+        "again" => blocks::encode_again(alloc, rest),
         "blocktokens" => tokens::of_block(alloc, rest),
         "parts" => parts::parts(alloc, rest),
         "cuts" => parts::cuts(alloc, rest),

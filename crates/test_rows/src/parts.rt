@@ -19,7 +19,7 @@ pub fn parts(alloc: Global, digits: &str) -> Result<String, AllocError> {
     let Ok(bytes) = hex::decode(alloc, digits) else {
         return String::from_str(alloc, "no bytes");
     };
-    both(alloc, bytes.as_slice())
+    check_both(alloc, bytes.as_slice())
 }
 
 /// What each beginning of a block comes to that is shorter.
@@ -35,7 +35,7 @@ pub fn cuts(alloc: Global, digits: &str) -> Result<String, AllocError> {
         let Some(front) = bytes.as_slice().get(..length) else {
             continue;
         };
-        let outcome = both(alloc, front)?;
+        let outcome = check_both(alloc, front)?;
         outcomes.push_str(outcome.as_str())?;
     }
     Ok(outcomes)
@@ -53,7 +53,7 @@ pub fn changes(alloc: Global, row: &str) -> Result<String, AllocError> {
             outcomes.push_str("; ")?;
         }
         flip(bytes.as_mut_slice(), index, mask);
-        let outcome = both(alloc, bytes.as_slice())?;
+        let outcome = check_both(alloc, bytes.as_slice())?;
         outcomes.push_str(outcome.as_str())?;
         flip(bytes.as_mut_slice(), index, mask);
     }
@@ -121,7 +121,7 @@ fn flip(bytes: &mut [u8], index: usize, mask: u8) {
     }
 }
 
-fn both(alloc: Global, block: &[u8]) -> Result<String, AllocError> {
+fn check_both(alloc: Global, block: &[u8]) -> Result<String, AllocError> {
     let with = of_floats(alloc, block, ALL)?;
     let without = of_plain(alloc, block)?;
     if with == without {
@@ -146,7 +146,7 @@ fn described(
     Ok(text)
 }
 
-fn failed(alloc: Global, error: BlockError) -> Result<String, AllocError> {
+fn text_of_error(alloc: Global, error: BlockError) -> Result<String, AllocError> {
     format!(in alloc; "{}@{}", error.kind, error.offset)
 }
 
@@ -176,7 +176,7 @@ fn read(alloc: Global, block: &[u8], options: &ReadOptions) -> Result<String, Al
             if first != second || first != third || first != fourth || first != fifth {
                 return String::from_str(alloc, "other errors");
             }
-            failed(alloc, first)
+            text_of_error(alloc, first)
         }
         _ => String::from_str(alloc, "a block and none"),
     }

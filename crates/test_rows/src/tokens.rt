@@ -102,7 +102,7 @@ where
     let mut text = String::new(alloc);
     for _ in 0..100u8 {
         match source.next_token() {
-            Ok(Some(token)) => text.push_str(shown(alloc, &token)?.as_str())?,
+            Ok(Some(token)) => text.push_str(text_of_token(alloc, &token)?.as_str())?,
             Ok(None) => return Ok(text),
             Err(error) => return format!(in alloc; "{text}{error:?} {}", source.has_failed()),
         }
@@ -111,7 +111,7 @@ where
 }
 
 // The token, with a blank behind it.
-fn shown(alloc: Global, token: &Token<'_>) -> Result<String, AllocError> {
+fn text_of_token(alloc: Global, token: &Token<'_>) -> Result<String, AllocError> {
     match token {
         Token::Bytes(bytes) => format!(in alloc; "Bytes({:?}) ", bytes.as_slice()),
         token => format!(in alloc; "{token:?} "),

@@ -1,7 +1,7 @@
 //! Trees written as words, as `{ place: text:Brno degrees: -4 }`.
 
-use cid_text::parse_any;
 use ipld_cid::Cid;
+use ipld_cid_text::parse_any;
 use ipld_tree::Ipld;
 use ipld_tree::macros::put;
 use std::alloc::{AllocError, Global};

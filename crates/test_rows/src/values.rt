@@ -45,12 +45,15 @@ fn no_such_type(alloc: Global) -> Result<String, AllocError> {
 
 fn read<T: Lawful + PartialEq + Debug>(alloc: Global, tree: Ipld) -> Result<String, AllocError> {
     match from_ipld::<T>(alloc, tree) {
-        Ok(value) => written(alloc, &value),
+        Ok(value) => write_and_compare(alloc, &value),
         Err(error) => format!(in alloc; "{error:?}"),
     }
 }
 
-fn written<T: Lawful + PartialEq + Debug>(alloc: Global, value: &T) -> Result<String, AllocError> {
+fn write_and_compare<T: Lawful + PartialEq + Debug>(
+    alloc: Global,
+    value: &T,
+) -> Result<String, AllocError> {
     match to_ipld(alloc, value) {
         Ok(tree) if keeps(alloc, value) => format!(in alloc; "{value:?}; {tree:?}"),
         Ok(_) => format!(in alloc; "{value:?} is read as something else"),
@@ -173,14 +176,14 @@ fn own(alloc: Global, name: &str, tree: Ipld) -> Result<String, AllocError> {
 // A type whose values may hold deep trees, which aren't printed.
 fn part(alloc: Global, name: &str, tree: Ipld) -> Result<String, AllocError> {
     match name {
-        "ignored" => taken::<IgnoredAny>(alloc, tree),
-        "after ignored" => taken::<(IgnoredAny, bool)>(alloc, tree),
-        "last of two" => taken::<((), Ipld)>(alloc, tree),
-        "list of pairs" => taken::<Vec<(Ipld, bool)>>(alloc, tree),
-        "map of pairs" => taken::<BTreeMap<String, (Ipld, bool)>>(alloc, tree),
-        "first of three" => taken::<(Ipld, Ipld, bool)>(alloc, tree),
-        "first of four" => taken::<(Ipld, (), Ipld, bool)>(alloc, tree),
-        "Tagged" => taken::<Tagged<Ipld>>(alloc, tree),
+        "ignored" => read_any::<IgnoredAny>(alloc, tree),
+        "after ignored" => read_any::<(IgnoredAny, bool)>(alloc, tree),
+        "last of two" => read_any::<((), Ipld)>(alloc, tree),
+        "list of pairs" => read_any::<Vec<(Ipld, bool)>>(alloc, tree),
+        "map of pairs" => read_any::<BTreeMap<String, (Ipld, bool)>>(alloc, tree),
+        "first of three" => read_any::<(Ipld, Ipld, bool)>(alloc, tree),
+        "first of four" => read_any::<(Ipld, (), Ipld, bool)>(alloc, tree),
+        "Tagged" => read_any::<Tagged<Ipld>>(alloc, tree),
         _ => before_bool(alloc, name, tree),
     }
 }
@@ -188,23 +191,23 @@ fn part(alloc: Global, name: &str, tree: Ipld) -> Result<String, AllocError> {
 // The first of a pair with a bool.
 fn before_bool(alloc: Global, name: &str, tree: Ipld) -> Result<String, AllocError> {
     match name {
-        "tree" => taken::<(Ipld, bool)>(alloc, tree),
-        "option" => taken::<(Option<Ipld>, bool)>(alloc, tree),
-        "list" => taken::<(Vec<Ipld>, bool)>(alloc, tree),
-        "map" => taken::<(BTreeMap<String, Ipld>, bool)>(alloc, tree),
-        "pair" => taken::<(((), Ipld), bool)>(alloc, tree),
-        "three" => taken::<((Ipld, (), Ipld), bool)>(alloc, tree),
-        "four" => taken::<(((), Ipld, Ipld, ()), bool)>(alloc, tree),
-        "newtype" => taken::<(Wrapped<Ipld>, bool)>(alloc, tree),
-        "struct" => taken::<(Tagged<Ipld>, bool)>(alloc, tree),
-        "deeper" => taken::<(Inner, bool)>(alloc, tree),
+        "tree" => read_any::<(Ipld, bool)>(alloc, tree),
+        "option" => read_any::<(Option<Ipld>, bool)>(alloc, tree),
+        "list" => read_any::<(Vec<Ipld>, bool)>(alloc, tree),
+        "map" => read_any::<(BTreeMap<String, Ipld>, bool)>(alloc, tree),
+        "pair" => read_any::<(((), Ipld), bool)>(alloc, tree),
+        "three" => read_any::<((Ipld, (), Ipld), bool)>(alloc, tree),
+        "four" => read_any::<(((), Ipld, Ipld, ()), bool)>(alloc, tree),
+        "newtype" => read_any::<(Wrapped<Ipld>, bool)>(alloc, tree),
+        "struct" => read_any::<(Tagged<Ipld>, bool)>(alloc, tree),
+        "deeper" => read_any::<(Inner, bool)>(alloc, tree),
         _ => no_such_type(alloc),
     }
 }
 
 type Inner = Vec<Option<BTreeMap<String, ((), Wrapped<Ipld>)>>>;
 
-fn taken<T: Deserialize>(alloc: Global, tree: Ipld) -> Result<String, AllocError> {
+fn read_any<T: Deserialize>(alloc: Global, tree: Ipld) -> Result<String, AllocError> {
     match from_ipld::<T>(alloc, tree) {
         Ok(value) => {
             value.discard();

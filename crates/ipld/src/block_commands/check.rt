@@ -1,10 +1,12 @@
 //! The command that checks blocks.
 
 use crate::arguments::codec_of;
-use crate::block_commands::links::not_valid;
+use crate::block_commands::links::report_not_valid;
 use clap::ArgMatches;
 use ipld_block::{BlockCodec, check, check_canonical};
-use ipld_files::{Each, Outcome, cannot_read, json, read_file, run_to_end, wrong_arguments};
+use ipld_cli::{
+    Outcome, PerWord, json, read_file, report_unreadable, report_wrong_arguments, run_to_end,
+};
 use ipld_show::ShowError;
 use std::io::Write;
 
@@ -16,7 +18,7 @@ struct Check {
     json: bool,
 }
 
-impl Each for Check {
+impl PerWord for Check {
     fn run<W: Write>(
         &self,
         rt: &HostRuntime,
@@ -25,7 +27,7 @@ impl Each for Check {
     ) -> Result<Outcome, ShowError> {
         let bytes = match read_file(rt, file) {
             Ok(bytes) => bytes,
-            Err(error) => return Ok(cannot_read(rt, file, &error)),
+            Err(error) => return Ok(report_unreadable(rt, file, &error)),
         };
         let checked = if self.canonical {
             check_canonical(rt.alloc(), &bytes)
@@ -36,7 +38,7 @@ impl Each for Check {
             Ok(()) if self.json => json::write_valid(rt.alloc(), file, writer)?,
             Ok(()) => writeln!(writer, "{file}: valid")?,
             Err(error) => {
-                return not_valid(rt, file, self.codec, self.json, &bytes, error, writer);
+                return report_not_valid(rt, file, self.codec, self.json, &bytes, error, writer);
             }
         }
         Ok(Outcome::Done)
@@ -51,7 +53,7 @@ pub fn run_check(rt: &HostRuntime, matches: &ArgMatches<'_>) -> Outcome {
         json: matches.get_flag("json"),
     };
     if check.canonical && check.codec != BlockCodec::DagCbor {
-        return wrong_arguments(rt, &"--canonical is for blocks of dag-cbor");
+        return report_wrong_arguments(rt, &"--canonical is for blocks of dag-cbor");
     }
     match matches.get_strs("files") {
         Some(files) => run_to_end(rt, files, &check),

@@ -1,13 +1,14 @@
 //! The command that prints CIDs.
 
 use crate::arguments::{codec_of, names_codec};
-use crate::block_commands::links::not_valid;
-use cid_text::{Base, parse_any, to_string_of_base};
+use crate::block_commands::links::report_not_valid;
 use clap::ArgMatches;
 use ipld_block::{BlockCodec, check, cid_of};
 use ipld_cid::{Cid, DAG_PB, Version};
-use ipld_files::{
-    Each, NoCid, Outcome, cannot_read, complain, json, named_cid, read_file, run_over,
+use ipld_cid_text::{Base, parse_any, to_string_of_base};
+use ipld_cli::{
+    NoCid, Outcome, PerWord, json, parse_cid_argument, read_file, report, report_unreadable,
+    run_over,
 };
 use ipld_show::{ShowError, write_cid_parts};
 use std::alloc::Global;
@@ -26,7 +27,7 @@ pub const BASES: &[&str] = &[
 
 // What is asked of CIDs.
 #[derive(Clone, Copy)]
-struct Asked {
+struct CidOptions {
     codec: BlockCodec,
     // Whether the codec was named.
     names_codec: bool,
@@ -60,9 +61,9 @@ fn version_of(matches: &ArgMatches<'_>) -> Option<Version> {
     }
 }
 
-impl Asked {
-    fn of(matches: &ArgMatches<'_>) -> Asked {
-        Asked {
+impl CidOptions {
+    fn new(matches: &ArgMatches<'_>) -> CidOptions {
+        CidOptions {
             codec: codec_of(matches),
             names_codec: names_codec(matches),
             base: matches.get_str("base").and_then(base_of),
@@ -92,21 +93,21 @@ impl Asked {
 }
 
 // Writes a CID, of a file's block or of a text, as is asked for.
-fn write_one<W: Write>(
+fn write_cid<W: Write>(
     alloc: Global,
-    asked: &Asked,
+    options: &CidOptions,
     file: Option<&str>,
     cid: &Cid,
     writer: &mut W,
 ) -> Result<(), ShowError> {
-    let is_text = file.is_some() || asked.base.is_some() || asked.version.is_some();
-    if !is_text && !asked.json {
+    let is_text = file.is_some() || options.base.is_some() || options.version.is_some();
+    if !is_text && !options.json {
         return write_cid_parts(alloc, cid, writer);
     }
-    let Ok(text) = to_string_of_base(alloc, cid, asked.base_of(cid)) else {
+    let Ok(text) = to_string_of_base(alloc, cid, options.base_of(cid)) else {
         return Err(ShowError::Memory);
     };
-    if asked.json {
+    if options.json {
         return json::write_cid_object(alloc, file, cid, &text, writer);
     }
     writeln!(writer, "{text}")?;
@@ -116,34 +117,34 @@ fn write_one<W: Write>(
 // Prints a CID, of a file's block or of a text.
 fn print_one<W: Write>(
     rt: &HostRuntime,
-    asked: &Asked,
+    options: &CidOptions,
     what: &str,
     file: Option<&str>,
     cid: &Cid,
     writer: &mut W,
 ) -> Result<Outcome, ShowError> {
-    let Some(cid) = asked.in_version(cid) else {
+    let Some(cid) = options.in_version(cid) else {
         let why = "no CID of version 0: those are of DAG-PB, with a SHA2-256 digest";
-        return Ok(complain(rt, what, &why, Outcome::NotSo));
+        return Ok(report(rt, what, &why, Outcome::NotSo));
     };
-    if cid.version() == Version::V0 && asked.base_of(&cid) != Base::Base58Btc {
+    if cid.version() == Version::V0 && options.base_of(&cid) != Base::Base58Btc {
         let why =
             "a CID of version 0 has a text in base58btc alone: --v1 makes it one of version 1";
-        return Ok(complain(rt, what, &why, Outcome::NotSo));
+        return Ok(report(rt, what, &why, Outcome::NotSo));
     }
-    write_one(rt.alloc(), asked, file, &cid, writer)?;
+    write_cid(rt.alloc(), options, file, &cid, writer)?;
     Ok(Outcome::Done)
 }
 
 // Prints the CID of a text.
 fn print_text<W: Write>(
     rt: &HostRuntime,
-    asked: &Asked,
+    options: &CidOptions,
     text: &str,
     writer: &mut W,
 ) -> Result<Outcome, ShowError> {
-    match named_cid(rt, text) {
-        Some(cid) => print_one(rt, asked, text, None, &cid, writer),
+    match parse_cid_argument(rt, text) {
+        Some(cid) => print_one(rt, options, text, None, &cid, writer),
         None => Ok(Outcome::NotSo),
     }
 }
@@ -151,16 +152,16 @@ fn print_text<W: Write>(
 // Prints the CID of each line.
 fn print_lines<W: Write>(
     rt: &HostRuntime,
-    asked: &Asked,
+    options: &CidOptions,
     input: &[u8],
     writer: &mut W,
 ) -> Result<Outcome, ShowError> {
     let Ok(lines) = str::from_utf8(input) else {
-        return Ok(complain(rt, "-", &"the lines are not UTF-8", Outcome::NotSo));
+        return Ok(report(rt, "-", &"the lines are not UTF-8", Outcome::NotSo));
     };
     let mut worst = Outcome::Done;
     for line in lines.lines() {
-        match print_text(rt, asked, line, writer) {
+        match print_text(rt, options, line, writer) {
             Ok(outcome) => worst = worst.worse(outcome),
             // Nobody reads the rest, and what is no CID stays none.
             Err(ShowError::Write(ErrorKind::BrokenPipe)) => return Ok(worst),
@@ -173,35 +174,35 @@ fn print_lines<W: Write>(
 // Prints the CID of a file's block.
 fn print_file<W: Write>(
     rt: &HostRuntime,
-    asked: &Asked,
+    options: &CidOptions,
     file: &str,
     bytes: &[u8],
     writer: &mut W,
 ) -> Result<Outcome, ShowError> {
-    if let Err(error) = check(rt.alloc(), asked.codec, bytes) {
-        return not_valid(rt, file, asked.codec, false, bytes, error, writer);
+    if let Err(error) = check(rt.alloc(), options.codec, bytes) {
+        return report_not_valid(rt, file, options.codec, false, bytes, error, writer);
     }
-    let cid = cid_of(asked.codec.code(), bytes);
-    print_one(rt, asked, file, Some(file), &cid, writer)
+    let cid = cid_of(options.codec.code(), bytes);
+    print_one(rt, options, file, Some(file), &cid, writer)
 }
 
 // Prints the CID that a word is, or else that of the block of the file that it names.
 fn print_word<W: Write>(
     rt: &HostRuntime,
-    asked: &Asked,
+    options: &CidOptions,
     word: &str,
     writer: &mut W,
 ) -> Result<Outcome, ShowError> {
     let no_cid = match parse_any(word) {
-        Ok(_) if asked.names_codec => {
+        Ok(_) if options.names_codec => {
             let why = "a CID has its codec: --codec is for a file";
-            return Ok(complain(rt, word, &why, Outcome::Failed));
+            return Ok(report(rt, word, &why, Outcome::Failed));
         }
-        Ok(cid) => return print_one(rt, asked, word, None, &cid, writer),
+        Ok(cid) => return print_one(rt, options, word, None, &cid, writer),
         Err(error) => error,
     };
     match read_file(rt, word) {
-        Ok(bytes) => print_file(rt, asked, word, &bytes, writer),
+        Ok(bytes) => print_file(rt, options, word, &bytes, writer),
         Err(error) => {
             let name = if word.is_empty() { "''" } else { word };
             let why = NoCid(&no_cid);
@@ -214,10 +215,10 @@ fn print_word<W: Write>(
 // Prints the CIDs of texts; `-` is standard input, with a text on each line.
 #[derive(Clone, Copy)]
 struct Texts {
-    asked: Asked,
+    options: CidOptions,
 }
 
-impl Each for Texts {
+impl PerWord for Texts {
     fn run<W: Write>(
         &self,
         rt: &HostRuntime,
@@ -225,11 +226,11 @@ impl Each for Texts {
         writer: &mut W,
     ) -> Result<Outcome, ShowError> {
         if word != "-" {
-            return print_text(rt, &self.asked, word, writer);
+            return print_text(rt, &self.options, word, writer);
         }
         match read_file(rt, word) {
-            Ok(input) => print_lines(rt, &self.asked, &input, writer),
-            Err(error) => Ok(cannot_read(rt, word, &error)),
+            Ok(input) => print_lines(rt, &self.options, &input, writer),
+            Err(error) => Ok(report_unreadable(rt, word, &error)),
         }
     }
 }
@@ -237,17 +238,17 @@ impl Each for Texts {
 // Prints the CIDs that words are, or else those of the blocks of the files that they name.
 #[derive(Clone, Copy)]
 struct Words {
-    asked: Asked,
+    options: CidOptions,
 }
 
-impl Each for Words {
+impl PerWord for Words {
     fn run<W: Write>(
         &self,
         rt: &HostRuntime,
         word: &str,
         writer: &mut W,
     ) -> Result<Outcome, ShowError> {
-        print_word(rt, &self.asked, word, writer)
+        print_word(rt, &self.options, word, writer)
     }
 }
 
@@ -256,10 +257,10 @@ pub fn run_cid(rt: &HostRuntime, matches: &ArgMatches<'_>) -> Outcome {
     let Some(words) = matches.get_strs("what") else {
         return Outcome::Failed;
     };
-    let asked = Asked::of(matches);
+    let options = CidOptions::new(matches);
     if matches.get_flag("text") {
-        run_over(rt, words, &Texts { asked })
+        run_over(rt, words, &Texts { options })
     } else {
-        run_over(rt, words, &Words { asked })
+        run_over(rt, words, &Words { options })
     }
 }

@@ -1,14 +1,13 @@
 //! The command that makes a block of DAG-JSON.
 
-use cbor_tape::{EncodeErrorKind, encode_tape};
 use clap::ArgMatches;
-use dag_json::{ReadError, ReadErrorKind, from_canonical, from_slice, to_vec};
-use dag_json_tape::tape_from_slice;
-use ipld_codec::{Codec, RawCodec, RawError};
-use ipld_files::{
-    Content, Outcome, Output, OutputError, cannot_read, cannot_write, complain, no_memory,
-    output_of, read_file, write,
+use dag_cbor_tape::{EncodeErrorKind, encode_tape};
+use dag_json::{ReadError, ReadErrorKind, from_canonical, from_slice, tape_from_slice, to_vec};
+use ipld_cli::{
+    Content, Outcome, Output, OutputError, output_of, read_file, report, report_out_of_memory,
+    report_unreadable, report_unwritable, write,
 };
+use ipld_codec::{Codec, RawCodec, RawError};
 use ipld_show::write_json;
 use ipld_tree::{Ipld, Limits};
 use std::alloc::Global;
@@ -23,7 +22,7 @@ pub fn run_encode(rt: &HostRuntime, matches: &ArgMatches<'_>) -> Outcome {
     let name = matches.get_str("output").unwrap_or("-");
     match output_of(rt, name, matches.get_flag("force"), &[file]) {
         Ok(output) => encode_file(rt, matches, file, name, output),
-        Err(error) => cannot_write(rt, name, &error),
+        Err(error) => report_unwritable(rt, name, &error),
     }
 }
 
@@ -37,19 +36,19 @@ fn encode_file(
 ) -> Outcome {
     let text = match read_file(rt, file) {
         Ok(text) => text,
-        Err(error) => return cannot_read(rt, file, &error),
+        Err(error) => return report_unreadable(rt, file, &error),
     };
     let format = format_of(matches);
     match block_of(rt.alloc(), &text, format, matches.get_flag("canonical")) {
-        Ok(bytes) => write_block(rt, name, output, Block { bytes }),
-        Err(error) => say_error(rt, file, &text, format, &error),
+        Ok(bytes) => write_encoded(rt, name, output, Block { bytes }),
+        Err(error) => report_error(rt, file, &text, format, &error),
     }
 }
 
-fn write_block(rt: &HostRuntime, name: &str, output: Output, block: Block) -> Outcome {
+fn write_encoded(rt: &HostRuntime, name: &str, output: Output, block: Block) -> Outcome {
     match write(rt, name, output, &block) {
         Ok(()) => Outcome::Done,
-        Err(error) => cannot_write(rt, name, &error),
+        Err(error) => report_unwritable(rt, name, &error),
     }
 }
 
@@ -89,7 +88,7 @@ impl Content for Block {
 #[derive(Clone, Copy, Drop)]
 enum EncodeError {
     Text(ReadError),
-    Tape(cbor_tape::EncodeError),
+    Tape(dag_cbor_tape::EncodeError),
     NotBytes,
     Memory,
 }
@@ -241,7 +240,7 @@ impl fmt::Display for Wrong {
 }
 
 // Says why no block is made.
-fn say_error(
+fn report_error(
     rt: &HostRuntime,
     file: &str,
     text: &[u8],
@@ -249,9 +248,13 @@ fn say_error(
     error: &EncodeError,
 ) -> Outcome {
     match error {
-        EncodeError::Memory => no_memory(rt, file),
-        EncodeError::Text(error) if error.kind == ReadErrorKind::Memory => no_memory(rt, file),
-        EncodeError::Tape(error) if error.kind == EncodeErrorKind::Memory => no_memory(rt, file),
+        EncodeError::Memory => report_out_of_memory(rt, file),
+        EncodeError::Text(error) if error.kind == ReadErrorKind::Memory => report_out_of_memory(
+            rt, file,
+        ),
+        EncodeError::Tape(error) if error.kind == EncodeErrorKind::Memory => report_out_of_memory(
+            rt, file,
+        ),
         EncodeError::Text(error) => {
             let place = place_of(text, error.offset);
             let wrong = Wrong {
@@ -267,7 +270,7 @@ fn say_error(
         }
         EncodeError::NotBytes => {
             let why = "the value is no bytes, and only bytes are a block of raw";
-            complain(rt, file, &why, Outcome::NotSo)
+            report(rt, file, &why, Outcome::NotSo)
         }
     }
 }

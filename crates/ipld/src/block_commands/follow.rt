@@ -1,11 +1,11 @@
 //! Paths that lead through the blocks of a CAR.
 
-use crate::block_commands::show::Asked;
-use cid_text::parse_any;
+use crate::block_commands::show::ShowRequest;
 use indexmap::IndexSet;
 use ipld_block::{BlockCodec, codec_name, verify};
 use ipld_cid::{Cid, IDENTITY};
-use ipld_files::{Blocks, DigestExplanation, Explanation, Named, Outcome, complain, hasher_of};
+use ipld_cid_text::parse_any;
+use ipld_cli::{Blocks, DigestExplanation, Explanation, NamedCid, Outcome, hasher_of, report};
 use ipld_show::{LinkOnPath, ShowError, link_on_path, show};
 use std::io::Write;
 
@@ -33,7 +33,7 @@ fn split_segment(path: &str) -> (&str, &str) {
 }
 
 // What stands behind so many segments of a path.
-fn behind(path: &str, segments: usize) -> &str {
+fn rest_of_path(path: &str, segments: usize) -> &str {
     let mut rest = path;
     for _ in 0..segments {
         rest = split_segment(rest).1;
@@ -56,7 +56,7 @@ fn split_cid(path: &str) -> Option<(Cid, &str)> {
 }
 
 // Where a path begins: at the CID that it begins with, else at the first root.
-fn beginning<'a>(blocks: &Blocks<'_>, path: &'a str) -> Option<Place<'a>> {
+fn first_place<'a>(blocks: &Blocks<'_>, path: &'a str) -> Option<Place<'a>> {
     if let Some((cid, rest)) = split_cid(path) {
         return Some(Place {
             cid,
@@ -73,14 +73,14 @@ fn beginning<'a>(blocks: &Blocks<'_>, path: &'a str) -> Option<Place<'a>> {
 }
 
 // Says that a path leads to nothing in a block.
-fn complain_of_step(
+fn report_step_error(
     rt: &HostRuntime,
     file: &str,
     place: &Place<'_>,
     bytes: &[u8],
     error: &ShowError,
 ) -> Outcome {
-    let cid = Named::new(rt.alloc(), &place.cid);
+    let cid = NamedCid::new(rt.alloc(), &place.cid);
     let _ = match error {
         ShowError::NoSegment(segment) => {
             let segment = segment.saturating_add(place.segments);
@@ -104,8 +104,8 @@ fn complain_of_step(
 }
 
 // Says that blocks of this codec aren't read.
-fn say_codec(rt: &HostRuntime, file: &str, cid: &Cid) -> Outcome {
-    let (named, code) = (Named::new(rt.alloc(), cid), cid.codec());
+fn report_unknown_codec(rt: &HostRuntime, file: &str, cid: &Cid) -> Outcome {
+    let (named, code) = (NamedCid::new(rt.alloc(), cid), cid.codec());
     let _ = match codec_name(code) {
         Some(name) => {
             eprintln!(rt; "ipld: {file}: {named}: blocks of the codec {name} are not read")
@@ -119,37 +119,37 @@ fn say_codec(rt: &HostRuntime, file: &str, cid: &Cid) -> Outcome {
 fn take_step<W: Write>(
     rt: &HostRuntime,
     file: &str,
-    asked: &Asked<'_>,
+    request: &ShowRequest<'_>,
     place: &Place<'_>,
     bytes: &[u8],
     writer: &mut W,
 ) -> Result<Step, ShowError> {
     let cid = &place.cid;
-    if !asked.is_unchecked {
+    if !request.is_unchecked {
         if let Err(error) = verify(cid, bytes) {
-            let (cid, why) = (Named::new(rt.alloc(), cid), DigestExplanation(error));
+            let (cid, why) = (NamedCid::new(rt.alloc(), cid), DigestExplanation(error));
             let _ = eprintln!(rt; "ipld: {file}: {cid}: {why}");
             return Ok(Step::Ended(Outcome::NotSo));
         }
     }
     let Some(codec) = BlockCodec::from_code(cid.codec()) else {
-        return Ok(Step::Ended(say_codec(rt, file, cid)));
+        return Ok(Step::Ended(report_unknown_codec(rt, file, cid)));
     };
     let shown = match link_on_path(rt.alloc(), codec, bytes, place.rest) {
         Ok(Some(link)) => return Ok(Step::Link(link)),
-        Ok(None) => show(rt.alloc(), codec, bytes, place.rest, asked.json, writer),
+        Ok(None) => show(rt.alloc(), codec, bytes, place.rest, request.json, writer),
         Err(error) => Err(error),
     };
     match shown {
         Ok(()) => Ok(Step::Ended(Outcome::Done)),
         Err(ShowError::Write(kind)) => Err(ShowError::Write(kind)),
-        Err(error) => Ok(Step::Ended(complain_of_step(rt, file, place, bytes, &error))),
+        Err(error) => Ok(Step::Ended(report_step_error(rt, file, place, bytes, &error))),
     }
 }
 
 // Says that a block isn't there.
-fn say_lacking(rt: &HostRuntime, file: &str, place: &Place<'_>) -> Outcome {
-    let (cid, segments) = (Named::new(rt.alloc(), &place.cid), place.segments);
+fn report_lacking_block(rt: &HostRuntime, file: &str, place: &Place<'_>) -> Outcome {
+    let (cid, segments) = (NamedCid::new(rt.alloc(), &place.cid), place.segments);
     let _ = if segments > 0 {
         eprintln!(rt;
             "ipld: {file}: segment {segments} of the path leads to the link {cid}, and no block has this CID"
@@ -161,8 +161,8 @@ fn say_lacking(rt: &HostRuntime, file: &str, place: &Place<'_>) -> Outcome {
 }
 
 // Says that blocks which are links lead back to one of them. Where digests are computed they don't.
-fn say_circle(rt: &HostRuntime, file: &str, cid: &Cid) -> Outcome {
-    let cid = Named::new(rt.alloc(), cid);
+fn report_circle(rt: &HostRuntime, file: &str, cid: &Cid) -> Outcome {
+    let cid = NamedCid::new(rt.alloc(), cid);
     let _ = eprintln!(rt; "ipld: {file}: {cid}: the links lead back to this block");
     Outcome::NotSo
 }
@@ -171,18 +171,18 @@ fn say_circle(rt: &HostRuntime, file: &str, cid: &Cid) -> Outcome {
 fn step_in<W: Write>(
     rt: &HostRuntime,
     blocks: &mut Blocks<'_>,
-    asked: &Asked<'_>,
+    request: &ShowRequest<'_>,
     place: &Place<'_>,
     writer: &mut W,
 ) -> Result<Step, ShowError> {
     let file = blocks.file();
     let hash = place.cid.hash();
     if hash.code() == IDENTITY {
-        return take_step(rt, file, asked, place, hash.digest(), writer);
+        return take_step(rt, file, request, place, hash.digest(), writer);
     }
     match blocks.find(&place.cid) {
-        Ok(Some(section)) => take_step(rt, file, asked, place, section.data(), writer),
-        Ok(None) => Ok(Step::Ended(say_lacking(rt, file, place))),
+        Ok(Some(section)) => take_step(rt, file, request, place, section.data(), writer),
+        Ok(None) => Ok(Step::Ended(report_lacking_block(rt, file, place))),
         Err(outcome) => Ok(Step::Ended(outcome)),
     }
 }
@@ -191,14 +191,14 @@ fn step_in<W: Write>(
 pub fn show_in_car<W: Write>(
     rt: &HostRuntime,
     blocks: Blocks<'_>,
-    asked: &Asked<'_>,
+    request: &ShowRequest<'_>,
     writer: &mut W,
 ) -> Result<Outcome, ShowError> {
     let mut blocks = blocks;
-    let Some(mut place) = beginning(&blocks, asked.path) else {
+    let Some(mut place) = first_place(&blocks, request.path) else {
         let file = blocks.file();
         let why = "the CAR has no root: a path begins with the CID of a block";
-        return Ok(complain(rt, file, &why, Outcome::NotSo));
+        return Ok(report(rt, file, &why, Outcome::NotSo));
     };
     let hasher = match hasher_of(rt) {
         Ok(hasher) => hasher,
@@ -207,17 +207,17 @@ pub fn show_in_car<W: Write>(
     // The blocks that are links themselves, since the last segment.
     let mut links = IndexSet::with_hasher(rt.alloc(), hasher);
     for _ in 0..u64::MAX {
-        match step_in(rt, &mut blocks, asked, &place, writer)? {
+        match step_in(rt, &mut blocks, request, &place, writer)? {
             Step::Ended(outcome) => return Ok(outcome),
             Step::Link(link) => {
                 if link.segments > 0 {
                     links = IndexSet::with_hasher(rt.alloc(), hasher);
                 } else if !links.insert(place.cid)? {
-                    return Ok(say_circle(rt, blocks.file(), &place.cid));
+                    return Ok(report_circle(rt, blocks.file(), &place.cid));
                 }
                 place = Place {
                     cid: link.cid,
-                    rest: behind(place.rest, link.segments),
+                    rest: rest_of_path(place.rest, link.segments),
                     segments: place.segments.saturating_add(link.segments),
                 };
             }

@@ -3,14 +3,15 @@
 use crate::arguments::codec_of;
 use clap::ArgMatches;
 use ipld_block::{BlockCodec, CheckError, links_of, write_links};
-use ipld_files::{
-    Each, Outcome, cannot_read, complain_of, complain_of_block, json, read_file, run_over,
+use ipld_cli::{
+    Outcome, PerWord, json, read_file, report_invalid_block, report_show_error, report_unreadable,
+    run_over,
 };
 use ipld_show::ShowError;
 use std::io::Write;
 
 /// Says that a file is no valid block of this codec: with `--json` on standard output.
-pub(crate) fn not_valid<W: Write>(
+pub(crate) fn report_not_valid<W: Write>(
     rt: &HostRuntime,
     file: &str,
     codec: BlockCodec,
@@ -24,8 +25,8 @@ pub(crate) fn not_valid<W: Write>(
             json::write_invalid(rt.alloc(), file, bytes, why, writer)?;
             Ok(Outcome::NotSo)
         }
-        CheckError::Invalid(why) => Ok(complain_of_block(rt, file, codec, bytes, why)),
-        CheckError::Memory => Ok(complain_of(rt, file, &ShowError::Memory)),
+        CheckError::Invalid(why) => Ok(report_invalid_block(rt, file, codec, bytes, why)),
+        CheckError::Memory => Ok(report_show_error(rt, file, &ShowError::Memory)),
     }
 }
 
@@ -36,7 +37,7 @@ struct Links {
     json: bool,
 }
 
-impl Each for Links {
+impl PerWord for Links {
     fn run<W: Write>(
         &self,
         rt: &HostRuntime,
@@ -45,13 +46,13 @@ impl Each for Links {
     ) -> Result<Outcome, ShowError> {
         let bytes = match read_file(rt, file) {
             Ok(bytes) => bytes,
-            Err(error) => return Ok(cannot_read(rt, file, &error)),
+            Err(error) => return Ok(report_unreadable(rt, file, &error)),
         };
         match links_of(rt.alloc(), self.codec, &bytes) {
             Ok(links) if self.json => json::write_links(rt.alloc(), file, &links, writer)?,
             Ok(links) => write_links(rt.alloc(), &links, writer)?,
             Err(error) => {
-                return not_valid(rt, file, self.codec, self.json, &bytes, error, writer);
+                return report_not_valid(rt, file, self.codec, self.json, &bytes, error, writer);
             }
         }
         Ok(Outcome::Done)

@@ -4,16 +4,16 @@ use crate::arguments::{codec_of, limit_of, names_codec};
 use crate::block_commands::follow::show_in_car;
 use clap::ArgMatches;
 use ipld_block::BlockCodec;
-use ipld_files::{
-    Each, Named, Opened, Outcome, cannot_read, complain, complain_of, complain_of_block, is_file,
-    no_memory, open, run_over, wrong_arguments,
+use ipld_cli::{
+    NamedCid, Opened, Outcome, PerWord, is_file, open_blocks, report, report_invalid_block,
+    report_out_of_memory, report_show_error, report_unreadable, report_wrong_arguments, run_over,
 };
 use ipld_show::{ShowError, link_on_path, show};
 use std::io::Write;
 
 /// What is to be shown of each file.
 #[derive(Clone, Copy)]
-pub struct Asked<'a> {
+pub struct ShowRequest<'a> {
     /// The codec of the block.
     pub codec: BlockCodec,
     /// Whether the codec was named, so that a file is a block of it, also where it begins as a CAR does.
@@ -29,23 +29,23 @@ pub struct Asked<'a> {
 }
 
 // Says that a path leads to nothing, and why.
-fn complain_of_path(
+fn report_path_error(
     rt: &HostRuntime,
     file: &str,
-    asked: &Asked<'_>,
+    request: &ShowRequest<'_>,
     bytes: &[u8],
     error: &ShowError,
 ) -> Outcome {
-    if let Ok(Some(link)) = link_on_path(rt.alloc(), asked.codec, bytes, asked.path) {
-        let (segments, cid) = (link.segments, Named::new(rt.alloc(), &link.cid));
+    if let Ok(Some(link)) = link_on_path(rt.alloc(), request.codec, bytes, request.path) {
+        let (segments, cid) = (link.segments, NamedCid::new(rt.alloc(), &link.cid));
         let _ = eprintln!(rt;
             "ipld: {file}: segment {segments} of the path leads to the link {cid}, and links are not followed"
         );
         return Outcome::NotSo;
     }
-    let path = asked.path;
+    let path = request.path;
     if !is_file(rt, path) {
-        return complain(rt, file, error, Outcome::NotSo);
+        return report(rt, file, error, Outcome::NotSo);
     }
     let _ = eprintln!(rt; "ipld: {file}: {error} ({path} is a file: --path shows several)");
     Outcome::NotSo
@@ -55,50 +55,52 @@ fn complain_of_path(
 fn show_block<W: Write>(
     rt: &HostRuntime,
     file: &str,
-    asked: &Asked<'_>,
+    request: &ShowRequest<'_>,
     bytes: &[u8],
     writer: &mut W,
 ) -> Result<Outcome, ShowError> {
     match show(
         rt.alloc(),
-        asked.codec,
+        request.codec,
         bytes,
-        asked.path,
-        asked.json,
+        request.path,
+        request.json,
         writer,
     ) {
         Ok(()) => Ok(Outcome::Done),
         Err(ShowError::Write(kind)) => Err(ShowError::Write(kind)),
         Err(error @ (ShowError::NoSegment(_) | ShowError::NotAContainer(_))) => {
-            Ok(complain_of_path(rt, file, asked, bytes, &error))
+            Ok(report_path_error(rt, file, request, bytes, &error))
         }
-        Err(ShowError::Invalid(why)) => { Ok(complain_of_block(rt, file, asked.codec, bytes, why)) }
-        Err(error) => Ok(complain_of(rt, file, &error)),
+        Err(ShowError::Invalid(why)) => {
+            Ok(report_invalid_block(rt, file, request.codec, bytes, why))
+        }
+        Err(error) => Ok(report_show_error(rt, file, &error)),
     }
 }
 
-impl<'a> Each for Asked<'a> {
+impl<'a> PerWord for ShowRequest<'a> {
     fn run<W: Write>(
         &self,
         rt: &HostRuntime,
         word: &str,
         writer: &mut W,
     ) -> Result<Outcome, ShowError> {
-        match open(rt, word, self.limit, !self.names_codec) {
+        match open_blocks(rt, word, self.limit, !self.names_codec) {
             Ok(Opened::Block(bytes)) => show_block(rt, word, self, &bytes, writer),
             Ok(Opened::Car(blocks)) => show_in_car(rt, blocks, self, writer),
-            Err(error) => Ok(cannot_read(rt, word, &error)),
+            Err(error) => Ok(report_unreadable(rt, word, &error)),
         }
     }
 }
 
 // Says that there is an argument too many.
-fn takes_one_path(rt: &HostRuntime, word: &str) -> Outcome {
+fn report_second_path(rt: &HostRuntime, word: &str) -> Outcome {
     match format!(in rt.alloc();
         "unexpected argument '{word}' found: several files are shown with --path"
     ) {
-        Ok(why) => wrong_arguments(rt, &why),
-        Err(_) => no_memory(rt, word),
+        Ok(why) => report_wrong_arguments(rt, &why),
+        Err(_) => report_out_of_memory(rt, word),
     }
 }
 
@@ -111,14 +113,14 @@ pub fn run_show(rt: &HostRuntime, matches: &ArgMatches<'_>) -> Outcome {
     let (files, path) = match (matches.get_str("path"), words) {
         (Some(path), files) => (files, path),
         (None, [_, path]) => (words.get(..1).unwrap_or(words), *path),
-        (None, [_, _, word, ..]) => return takes_one_path(rt, word),
+        (None, [_, _, word, ..]) => return report_second_path(rt, word),
         (None, files) => (files, ""),
     };
     let limit = match limit_of(rt, matches) {
         Ok(limit) => limit,
         Err(outcome) => return outcome,
     };
-    let asked = Asked {
+    let request = ShowRequest {
         codec: codec_of(matches),
         names_codec: names_codec(matches),
         path,
@@ -126,5 +128,5 @@ pub fn run_show(rt: &HostRuntime, matches: &ArgMatches<'_>) -> Outcome {
         limit,
         is_unchecked: matches.get_flag("unchecked"),
     };
-    run_over(rt, files, &asked)
+    run_over(rt, files, &request)
 }

@@ -5,9 +5,10 @@ use crate::car_commands::split::{outputs_of, parts_of};
 use clap::ArgMatches;
 use ipld_block::BlockCodec;
 use ipld_cid::Cid;
-use ipld_files::{
-    Gathered, Named, NewBlock, NewCar, Outcome, Output, Source, cannot_write, framed_len,
-    hasher_of, header_len, named_cid, no_memory, output_of, reads_twice, write, wrong_arguments,
+use ipld_cli::{
+    CollectedBlocks, NamedCid, NewBlock, NewCar, Outcome, Output, Source, framed_len, hasher_of,
+    header_len, output_of, parse_cid_argument, reads_twice, report_out_of_memory,
+    report_unwritable, report_wrong_arguments, write,
 };
 use std::alloc::{AllocError, Global};
 
@@ -22,7 +23,7 @@ pub fn run_create(rt: &HostRuntime, matches: &ArgMatches<'_>) -> Outcome {
     let name = matches.get_str("output").unwrap_or("-");
     match sources_of(rt.alloc(), names, codec_of(matches)) {
         Ok((sources, files)) => create(rt, matches, name, &sources, &files),
-        Err(_) => no_memory(rt, name),
+        Err(_) => report_out_of_memory(rt, name),
     }
 }
 
@@ -53,87 +54,93 @@ fn create(
     if reads_twice(rt, files) {
         return Outcome::Failed;
     }
-    match Wanted::of(rt, matches) {
-        Ok(wanted) => create_wanted(rt, name, sources, files, wanted),
+    match CreateOptions::new(rt, matches) {
+        Ok(options) => create_by_options(rt, name, sources, files, options),
         Err(outcome) => outcome,
     }
 }
 
 // Makes the CAR that is wanted of these inputs, or the CARs.
-fn create_wanted(
+fn create_by_options(
     rt: &HostRuntime,
     name: &str,
     sources: &[Source<'_>],
     files: &[&str],
-    wanted: Wanted,
+    options: CreateOptions,
 ) -> Outcome {
-    match wanted.most {
-        None => create_one(rt, name, sources, files, wanted),
+    match options.most {
+        None => create_car(rt, name, sources, files, options),
         Some(_) if name == "-" => {
             let why = "several CARs are written to files: --output <CAR> names them";
-            wrong_arguments(rt, &why)
+            report_wrong_arguments(rt, &why)
         }
         // Their names are known once their blocks are.
-        Some(most) => match made_of(rt, name, sources, wanted) {
-            Ok(made) => write_several(rt, name, files, &made, most),
+        Some(most) => match select_blocks(rt, name, sources, options) {
+            Ok(content) => write_cars(rt, name, files, &content, most),
             Err(outcome) => outcome,
         },
     }
 }
 
 // Makes one CAR. What can't be written isn't made.
-fn create_one(
+fn create_car(
     rt: &HostRuntime,
     name: &str,
     sources: &[Source<'_>],
     files: &[&str],
-    wanted: Wanted,
+    options: CreateOptions,
 ) -> Outcome {
-    let output = match output_of(rt, name, wanted.force, files) {
+    let output = match output_of(rt, name, options.force, files) {
         Ok(output) => output,
-        Err(error) => return cannot_write(rt, name, &error),
+        Err(error) => return report_unwritable(rt, name, &error),
     };
-    match made_of(rt, name, sources, wanted) {
-        Ok(made) => write_one(rt, name, output, &made),
+    match select_blocks(rt, name, sources, options) {
+        Ok(content) => write_car(rt, name, output, &content),
         Err(outcome) => outcome,
     }
 }
 
 // The blocks of the inputs that are wanted, and the roots.
-fn made_of(
+fn select_blocks(
     rt: &HostRuntime,
     name: &str,
     sources: &[Source<'_>],
-    wanted: Wanted,
-) -> Result<Made, Outcome> {
-    match gather(rt, sources, wanted.limit, wanted.is_unchecked) {
-        Ok(gathered) => Made::of(rt, name, gathered, wanted),
+    options: CreateOptions,
+) -> Result<CarContent, Outcome> {
+    match collect_blocks(rt, sources, options.limit, options.is_unchecked) {
+        Ok(collected) => CarContent::new(rt, name, collected, options),
         Err(outcome) => Err(outcome),
     }
 }
 
 // Writes one CAR.
-fn write_one(rt: &HostRuntime, name: &str, output: Output, made: &Made) -> Outcome {
-    let Ok(blocks) = made.blocks(rt.alloc()) else {
-        return no_memory(rt, BLOCKS);
+fn write_car(rt: &HostRuntime, name: &str, output: Output, content: &CarContent) -> Outcome {
+    let Ok(blocks) = content.blocks(rt.alloc()) else {
+        return report_out_of_memory(rt, BLOCKS);
     };
-    match write(rt, name, output, &made.car_of(rt.alloc(), &blocks)) {
+    match write(rt, name, output, &content.car_of(rt.alloc(), &blocks)) {
         Ok(()) => Outcome::Done,
-        Err(error) => cannot_write(rt, name, &error),
+        Err(error) => report_unwritable(rt, name, &error),
     }
 }
 
 // Writes several CARs of at most so many bytes: none where one of them has no name that can be written to.
-fn write_several(rt: &HostRuntime, name: &str, files: &[&str], made: &Made, most: u64) -> Outcome {
-    let Ok(blocks) = made.blocks(rt.alloc()) else {
-        return no_memory(rt, BLOCKS);
+fn write_cars(
+    rt: &HostRuntime,
+    name: &str,
+    files: &[&str],
+    content: &CarContent,
+    most: u64,
+) -> Outcome {
+    let Ok(blocks) = content.blocks(rt.alloc()) else {
+        return report_out_of_memory(rt, BLOCKS);
     };
-    let ends = match ends_of(rt, name, made, &blocks, most) {
+    let ends = match ends_of(rt, name, content, &blocks, most) {
         Ok(ends) => ends,
         Err(outcome) => return outcome,
     };
-    match outputs_of(rt, name, made.force, files, ends.len()) {
-        Ok(outputs) => write_each(rt, made, &blocks, &ends, outputs),
+    match outputs_of(rt, name, content.force, files, ends.len()) {
+        Ok(outputs) => write_each(rt, content, &blocks, &ends, outputs),
         Err(outcome) => outcome,
     }
 }
@@ -142,7 +149,7 @@ fn write_several(rt: &HostRuntime, name: &str, files: &[&str], made: &Made, most
 fn ends_of(
     rt: &HostRuntime,
     name: &str,
-    made: &Made,
+    content: &CarContent,
     blocks: &[NewBlock<'_>],
     most: u64,
 ) -> Result<Vec<usize>, Outcome> {
@@ -153,29 +160,29 @@ fn ends_of(
     match parts_of(
         rt.alloc(),
         hasher,
-        &made.roots,
+        &content.roots,
         blocks,
-        made.has_index,
+        content.has_index,
         most,
     ) {
         Ok(ends) => Ok(ends),
-        Err(error) => Err(cannot_write(rt, name, &error)),
+        Err(error) => Err(report_unwritable(rt, name, &error)),
     }
 }
 
 // Writes the CARs that end so among these blocks, each to its output.
 fn write_each(
     rt: &HostRuntime,
-    made: &Made,
+    content: &CarContent,
     blocks: &[NewBlock<'_>],
     ends: &[usize],
     outputs: Vec<(String, Output)>,
 ) -> Outcome {
     let mut begin = 0;
     for ((name, output), end) in outputs.into_iter().zip(ends.iter()) {
-        let car = made.car_of(rt.alloc(), blocks.get(begin..*end).unwrap_or(&[]));
+        let car = content.car_of(rt.alloc(), blocks.get(begin..*end).unwrap_or(&[]));
         if let Err(error) = write(rt, &name, output, &car) {
-            return cannot_write(rt, &name, &error);
+            return report_unwritable(rt, &name, &error);
         }
         begin = *end;
     }
@@ -183,21 +190,21 @@ fn write_each(
 }
 
 // The blocks of the inputs, in their order.
-fn gather(
+fn collect_blocks(
     rt: &HostRuntime,
     sources: &[Source<'_>],
     limit: u64,
     is_unchecked: bool,
-) -> Result<Gathered, Outcome> {
+) -> Result<CollectedBlocks, Outcome> {
     let hasher = match hasher_of(rt) {
         Ok(hasher) => hasher,
         Err(outcome) => return Err(outcome),
     };
-    let mut gathered = Gathered::new(rt.alloc(), hasher, limit, is_unchecked);
+    let mut collected = CollectedBlocks::new(rt.alloc(), hasher, limit, is_unchecked);
     for source in sources {
-        gathered.add(rt, *source)?;
+        collected.add(rt, *source)?;
     }
-    Ok(gathered)
+    Ok(collected)
 }
 
 // The CIDs that an option names.
@@ -207,11 +214,11 @@ fn cids_of(rt: &HostRuntime, matches: &ArgMatches<'_>, option: &str) -> Result<V
         return Ok(cids);
     };
     for text in texts {
-        let Some(cid) = named_cid(rt, text) else {
+        let Some(cid) = parse_cid_argument(rt, text) else {
             return Err(Outcome::Failed);
         };
         if cids.push(cid).is_err() {
-            return Err(no_memory(rt, text));
+            return Err(report_out_of_memory(rt, text));
         }
     }
     Ok(cids)
@@ -219,7 +226,7 @@ fn cids_of(rt: &HostRuntime, matches: &ArgMatches<'_>, option: &str) -> Result<V
 
 // What of the inputs is wanted.
 #[derive(Drop)]
-struct Wanted {
+struct CreateOptions {
     // The roots, or none.
     roots: Vec<Cid>,
     // From where the blocks are reached that are taken, or none where all are.
@@ -236,9 +243,9 @@ struct Wanted {
     is_unchecked: bool,
 }
 
-impl Wanted {
-    fn of(rt: &HostRuntime, matches: &ArgMatches<'_>) -> Result<Wanted, Outcome> {
-        Ok(Wanted {
+impl CreateOptions {
+    fn new(rt: &HostRuntime, matches: &ArgMatches<'_>) -> Result<CreateOptions, Outcome> {
+        Ok(CreateOptions {
             roots: cids_of(rt, matches, "root")?,
             only: cids_of(rt, matches, "only")?,
             limit: limit_of(rt, matches)?,
@@ -252,43 +259,43 @@ impl Wanted {
 
 // The blocks that were gathered, the roots, and how the CAR of them is written.
 #[derive(Drop)]
-struct Made {
+struct CarContent {
     roots: Vec<Cid>,
-    gathered: Gathered,
+    collected: CollectedBlocks,
     has_index: bool,
     force: bool,
 }
 
-impl Made {
+impl CarContent {
     // Those of these blocks that are wanted, for the CAR of this name. It says what the roots lack.
-    fn of(
+    fn new(
         rt: &HostRuntime,
         name: &str,
-        gathered: Gathered,
-        wanted: Wanted,
-    ) -> Result<Made, Outcome> {
-        let mut gathered = gathered;
-        keep_only(rt, &mut gathered, &wanted.only)?;
-        let (limit, has_index, force) = (wanted.limit, wanted.has_index, wanted.force);
-        let Ok(roots) = roots_of(rt.alloc(), &gathered, wanted) else {
-            return Err(no_memory(rt, BLOCKS));
+        collected: CollectedBlocks,
+        options: CreateOptions,
+    ) -> Result<CarContent, Outcome> {
+        let mut collected = collected;
+        keep_only(rt, &mut collected, &options.only)?;
+        let (limit, has_index, force) = (options.limit, options.has_index, options.force);
+        let Ok(roots) = roots_of(rt.alloc(), &collected, options) else {
+            return Err(report_out_of_memory(rt, BLOCKS));
         };
         check_header(rt, name, &roots, limit)?;
-        let made = Made {
+        let content = CarContent {
             roots,
-            gathered,
+            collected,
             has_index,
             force,
         };
-        made.say_lacking(rt);
-        Ok(made)
+        content.report_lacking(rt);
+        Ok(content)
     }
 
     // Says which roots have no block.
-    fn say_lacking(&self, rt: &HostRuntime) {
+    fn report_lacking(&self, rt: &HostRuntime) {
         for root in self.roots.iter() {
-            if !self.gathered.has(root) || !self.gathered.keeps(root) {
-                let root = Named::new(rt.alloc(), root);
+            if !self.collected.has(root) || !self.collected.keeps(root) {
+                let root = NamedCid::new(rt.alloc(), root);
                 let _ = eprintln!(rt; "ipld: {root}: the block of this root is not in the CAR");
             }
         }
@@ -307,8 +314,8 @@ impl Made {
     // The blocks that aren't left out.
     fn blocks(&self, alloc: Global) -> Result<Vec<NewBlock<'_>>, AllocError> {
         let mut blocks = Vec::new(alloc);
-        for (cid, bytes) in self.gathered.blocks().iter() {
-            if self.gathered.keeps(cid) {
+        for (cid, bytes) in self.collected.blocks().iter() {
+            if self.collected.keeps(cid) {
                 match blocks.push(NewBlock { cid: *cid, bytes }) {
                     Ok(()) => {}
                     Err(_) => return Err(AllocError),
@@ -320,26 +327,30 @@ impl Made {
 }
 
 // The roots that are asked for; else the blocks from where the others are reached that are taken; else those that no other links to.
-fn roots_of(alloc: Global, gathered: &Gathered, wanted: Wanted) -> Result<Vec<Cid>, AllocError> {
-    if !wanted.roots.is_empty() {
-        return Ok(wanted.roots);
+fn roots_of(
+    alloc: Global,
+    collected: &CollectedBlocks,
+    options: CreateOptions,
+) -> Result<Vec<Cid>, AllocError> {
+    if !options.roots.is_empty() {
+        return Ok(options.roots);
     }
-    if !wanted.only.is_empty() {
-        return Ok(wanted.only);
+    if !options.only.is_empty() {
+        return Ok(options.only);
     }
-    gathered.unlinked(alloc)
+    collected.unlinked(alloc)
 }
 
 // Says that the header of these roots would be longer than those that are read, if it would.
 fn check_header(rt: &HostRuntime, name: &str, roots: &[Cid], limit: u64) -> Result<(), Outcome> {
     match header_len(rt.alloc(), roots) {
         Ok(len) if len <= framed_len(limit) => Ok(()),
-        Ok(_) => Err(say_long_header(rt, name, roots.len())),
-        Err(_) => Err(no_memory(rt, BLOCKS)),
+        Ok(_) => Err(report_long_header(rt, name, roots.len())),
+        Err(_) => Err(report_out_of_memory(rt, BLOCKS)),
     }
 }
 
-fn say_long_header(rt: &HostRuntime, name: &str, count: usize) -> Outcome {
+fn report_long_header(rt: &HostRuntime, name: &str, count: usize) -> Outcome {
     let name = if name == "-" { "standard output" } else { name };
     let _ = eprintln!(rt;
         "ipld: {name}: the header would have more bytes than the limit, which --limit sets (roots: {count}); --root names fewer"
@@ -348,19 +359,23 @@ fn say_long_header(rt: &HostRuntime, name: &str, count: usize) -> Outcome {
 }
 
 // Leaves out the blocks that are not reached from these, if there are any; each of these has to be there.
-fn keep_only(rt: &HostRuntime, gathered: &mut Gathered, only: &[Cid]) -> Result<(), Outcome> {
+fn keep_only(
+    rt: &HostRuntime,
+    collected: &mut CollectedBlocks,
+    only: &[Cid],
+) -> Result<(), Outcome> {
     if only.is_empty() {
         return Ok(());
     }
     for cid in only {
-        if !gathered.has(cid) {
-            let cid = Named::new(rt.alloc(), cid);
+        if !collected.has(cid) {
+            let cid = NamedCid::new(rt.alloc(), cid);
             let _ = eprintln!(rt; "ipld: {cid}: no file has this block");
             return Err(Outcome::NotSo);
         }
     }
-    match gathered.keep_reached(rt.alloc(), only) {
+    match collected.keep_reached(rt.alloc(), only) {
         Ok(()) => Ok(()),
-        Err(_) => Err(no_memory(rt, BLOCKS)),
+        Err(_) => Err(report_out_of_memory(rt, BLOCKS)),
     }
 }

@@ -7,10 +7,10 @@ use indexmap::IndexMap;
 use ipld_block::verify;
 use ipld_car::Section;
 use ipld_cid::Cid;
-use ipld_files::{
-    Content, DigestExplanation, Named, OpenCar, Outcome, OutputError, cannot_write, complain_of,
-    complain_of_car, hasher_of, named_cid, no_memory, open_car, open_indexed, output_of, write,
-    wrong_arguments,
+use ipld_cli::{
+    Content, DigestExplanation, NamedCid, OpenCar, Outcome, OutputError, hasher_of, open_car,
+    open_indexed, output_of, parse_cid_argument, report_car_error, report_out_of_memory,
+    report_show_error, report_unwritable, report_wrong_arguments, write,
 };
 use ipld_show::ShowError;
 use std::hash::RandomState;
@@ -19,7 +19,7 @@ use std::path::{Path, PathBuf};
 
 // A block that is asked for.
 #[derive(Clone, Copy)]
-struct Asked<'a> {
+struct RequestedBlock<'a> {
     // The CID, and the text that it was given as.
     cid: Cid,
     text: &'a str,
@@ -59,39 +59,42 @@ pub fn run_extract(rt: &HostRuntime, matches: &ArgMatches<'_>) -> Outcome {
     };
     if texts.len() > 1 && target.folder.is_none() {
         let why = "several blocks are written to files: --directory <DIR> names their folder";
-        return wrong_arguments(rt, &why);
+        return report_wrong_arguments(rt, &why);
     }
-    match asked_of(rt, texts) {
-        Ok((asked, places)) => extract(rt, target, limit, asked, &places),
+    match requested_blocks(rt, texts) {
+        Ok((requested, places)) => extract(rt, target, limit, requested, &places),
         Err(outcome) => outcome,
     }
 }
 
 // The blocks of these CIDs, each once, and their places.
-fn asked_of<'a>(rt: &HostRuntime, texts: &[&'a str]) -> Result<(Vec<Asked<'a>>, Places), Outcome> {
+fn requested_blocks<'a>(
+    rt: &HostRuntime,
+    texts: &[&'a str],
+) -> Result<(Vec<RequestedBlock<'a>>, Places), Outcome> {
     let hasher = match hasher_of(rt) {
         Ok(hasher) => hasher,
         Err(outcome) => return Err(outcome),
     };
-    let mut asked: Vec<Asked<'a>> = Vec::new(rt.alloc());
+    let mut requested: Vec<RequestedBlock<'a>> = Vec::new(rt.alloc());
     let mut places = IndexMap::with_hasher(rt.alloc(), hasher);
     for text in texts {
-        let Some(cid) = named_cid(rt, text) else {
+        let Some(cid) = parse_cid_argument(rt, text) else {
             return Err(Outcome::Failed);
         };
         if places.contains_key(&cid) {
             continue;
         }
-        let block = Asked {
+        let block = RequestedBlock {
             cid,
             text,
             is_found: false,
         };
-        if places.insert(cid, asked.len()).is_err() || asked.push(block).is_err() {
-            return Err(no_memory(rt, text));
+        if places.insert(cid, requested.len()).is_err() || requested.push(block).is_err() {
+            return Err(report_out_of_memory(rt, text));
         }
     }
-    Ok((asked, places))
+    Ok((requested, places))
 }
 
 // Writes the blocks of a CAR, reads no further than it must, and says which aren't there.
@@ -99,16 +102,16 @@ fn extract(
     rt: &HostRuntime,
     target: Target<'_>,
     limit: u64,
-    asked: Vec<Asked<'_>>,
+    requested: Vec<RequestedBlock<'_>>,
     places: &Places,
 ) -> Outcome {
-    let mut asked = asked;
-    let indexed = extract_indexed(rt, target, limit, &mut asked);
-    let outcome = extract_found(rt, target, limit, &mut asked, places);
+    let mut requested = requested;
+    let indexed = extract_indexed(rt, target, limit, &mut requested);
+    let outcome = extract_found(rt, target, limit, &mut requested, places);
     match outcome {
         Ok(outcome) => indexed
             .worse(outcome)
-            .worse(say_lacking(rt, target.file, &asked)),
+            .worse(report_lacking_blocks(rt, target.file, &requested)),
         Err(outcome) => indexed.worse(outcome),
     }
 }
@@ -119,7 +122,7 @@ fn extract_indexed(
     rt: &HostRuntime,
     target: Target<'_>,
     limit: u64,
-    asked: &mut Vec<Asked<'_>>,
+    requested: &mut Vec<RequestedBlock<'_>>,
 ) -> Outcome {
     let mut outcome = Outcome::Done;
     if target.is_unchecked {
@@ -128,10 +131,10 @@ fn extract_indexed(
     let Some(mut blocks) = open_indexed(rt, target.file, limit) else {
         return outcome;
     };
-    for block in asked.iter_mut() {
+    for block in requested.iter_mut() {
         if let Some(section) = blocks.find_indexed(&block.cid) {
             block.is_found = true;
-            outcome = outcome.worse(write_block(rt, target, block.text, &section));
+            outcome = outcome.worse(write_extracted(rt, target, block.text, &section));
         }
     }
     outcome
@@ -142,15 +145,15 @@ fn extract_found(
     rt: &HostRuntime,
     target: Target<'_>,
     limit: u64,
-    asked: &mut Vec<Asked<'_>>,
+    requested: &mut Vec<RequestedBlock<'_>>,
     places: &Places,
 ) -> Result<Outcome, Outcome> {
-    let left = asked.iter().filter(|block| !block.is_found).count();
+    let left = requested.iter().filter(|block| !block.is_found).count();
     if left == 0 {
         return Ok(Outcome::Done);
     }
     match open_car(rt, target.file, limit, false) {
-        Ok(opened) => extract_from(rt, target, opened, asked, places, left),
+        Ok(opened) => extract_from(rt, target, opened, requested, places, left),
         Err(outcome) => Err(outcome),
     }
 }
@@ -160,7 +163,7 @@ fn extract_from(
     rt: &HostRuntime,
     target: Target<'_>,
     opened: OpenCar<'_>,
-    asked: &mut Vec<Asked<'_>>,
+    requested: &mut Vec<RequestedBlock<'_>>,
     places: &Places,
     count: usize,
 ) -> Result<Outcome, Outcome> {
@@ -175,27 +178,31 @@ fn extract_from(
             Ok(true) => {}
             Ok(false) => return Ok(outcome),
             Err(error) => {
-                return Err(outcome.worse(complain_of_car(
+                return Err(outcome.worse(report_car_error(
                     rt,
                     target.file,
                     &CarFileError::from(error),
                 )));
             }
         }
-        if let Some(text) = take(asked, places, section.cid()) {
+        if let Some(text) = take_requested(requested, places, section.cid()) {
             left = left.saturating_sub(1);
-            outcome = outcome.worse(write_block(rt, target, text, &section));
+            outcome = outcome.worse(write_extracted(rt, target, text, &section));
         }
     }
     Ok(outcome)
 }
 
 // The text of a CID that is asked for and wasn't found yet, which is found then.
-fn take<'a>(asked: &mut Vec<Asked<'a>>, places: &Places, cid: &Cid) -> Option<&'a str> {
+fn take_requested<'a>(
+    requested: &mut Vec<RequestedBlock<'a>>,
+    places: &Places,
+    cid: &Cid,
+) -> Option<&'a str> {
     let Some(place) = places.get(cid) else {
         return None;
     };
-    match asked.get_mut(*place) {
+    match requested.get_mut(*place) {
         Some(block) if !block.is_found => {
             block.is_found = true;
             Some(block.text)
@@ -205,9 +212,13 @@ fn take<'a>(asked: &mut Vec<Asked<'a>>, places: &Places, cid: &Cid) -> Option<&'
 }
 
 // Says which blocks aren't there.
-fn say_lacking(rt: &HostRuntime, file: &str, asked: &[Asked<'_>]) -> Outcome {
+fn report_lacking_blocks(
+    rt: &HostRuntime,
+    file: &str,
+    requested: &[RequestedBlock<'_>],
+) -> Outcome {
     let mut outcome = Outcome::Done;
-    for block in asked {
+    for block in requested {
         if !block.is_found {
             let text = block.text;
             let _ = eprintln!(rt; "ipld: {file}: {text}: no block has this CID");
@@ -233,7 +244,7 @@ impl<'a> Content for Bytes<'a> {
 }
 
 // Writes a block, if it is the one that the CID names or that isn't to be looked at.
-fn write_block(rt: &HostRuntime, target: Target<'_>, text: &str, section: &Section) -> Outcome {
+fn write_extracted(rt: &HostRuntime, target: Target<'_>, text: &str, section: &Section) -> Outcome {
     if !target.is_unchecked {
         if let Err(error) = verify(section.cid(), section.data()) {
             let (file, why) = (target.file, DigestExplanation(error));
@@ -245,20 +256,20 @@ fn write_block(rt: &HostRuntime, target: Target<'_>, text: &str, section: &Secti
         Some(folder) => write_in(rt, target, folder, section),
         None => match io::writer(rt).write_all(section.data()) {
             Ok(()) => Outcome::Done,
-            Err(error) => complain_of(rt, "standard output", &ShowError::from(error)),
+            Err(error) => report_show_error(rt, "standard output", &ShowError::from(error)),
         },
     }
 }
 
 // The path of the file in this folder whose name is this CID.
 fn path_in(rt: &HostRuntime, folder: &str, cid: &Cid) -> Result<PathBuf, Outcome> {
-    let cid = Named::new(rt.alloc(), cid);
+    let cid = NamedCid::new(rt.alloc(), cid);
     let Ok(name) = format!(in rt.alloc(); "{cid}") else {
-        return Err(no_memory(rt, folder));
+        return Err(report_out_of_memory(rt, folder));
     };
     match Path::new(folder).join(rt.alloc(), name.as_str()) {
         Ok(path) => Ok(path),
-        Err(_) => Err(no_memory(rt, folder)),
+        Err(_) => Err(report_out_of_memory(rt, folder)),
     }
 }
 
@@ -277,10 +288,10 @@ fn write_in(rt: &HostRuntime, target: Target<'_>, folder: &str, section: &Sectio
 fn write_as(rt: &HostRuntime, target: Target<'_>, name: &str, bytes: &[u8]) -> Outcome {
     let output = match output_of(rt, name, target.force, &[target.file]) {
         Ok(output) => output,
-        Err(error) => return cannot_write(rt, name, &error),
+        Err(error) => return report_unwritable(rt, name, &error),
     };
     match write(rt, name, output, &Bytes { bytes }) {
         Ok(()) => Outcome::Done,
-        Err(error) => cannot_write(rt, name, &error),
+        Err(error) => report_unwritable(rt, name, &error),
     }
 }

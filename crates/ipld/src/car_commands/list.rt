@@ -5,13 +5,13 @@ use crate::car_commands::create::run_create;
 use crate::car_commands::extract::run_extract;
 use crate::car_commands::missing::run_missing;
 use car_files::{CarFileError, Form, VerdictForm, write_list, write_verified};
-use cid_text::parse_any;
 use clap::ArgMatches;
 use ipld_car::CarReader;
 use ipld_cid::Cid;
-use ipld_files::{
-    BUFFER, Complaints, OpenCar, Outcome, UntilClosed, check_index, complain, complain_of_car,
-    end_writer, is_file, no_memory, open_car, wrong_arguments,
+use ipld_cid_text::parse_any;
+use ipld_cli::{
+    BUFFER, Complaints, OpenCar, Outcome, UntilClosed, check_index, end_writer, is_file, open_car,
+    report, report_car_error, report_out_of_memory, report_wrong_arguments,
 };
 use std::alloc::Global;
 use std::io::{self, BufRead, BufWriter, ErrorKind, Write};
@@ -67,7 +67,7 @@ fn verdict_form_of(matches: &ArgMatches<'_>) -> VerdictForm {
 // Says that a CAR has no roots, of which its specification wants one or more.
 fn warn_of_roots(rt: &HostRuntime, file: &str, roots: &[Cid]) {
     if roots.is_empty() {
-        complain(
+        report(
             rt,
             file,
             &"the CAR has no roots, and should have one or more",
@@ -118,7 +118,7 @@ fn write_asked<R: BufRead + Drop, W: Write>(
 }
 
 // How it ends where this was written, and the rest of it was handed on so.
-fn ended(
+fn finish_list(
     rt: &HostRuntime,
     file: &str,
     written: Result<Outcome, CarFileError>,
@@ -126,11 +126,11 @@ fn ended(
 ) -> Outcome {
     let outcome = match written {
         Ok(outcome) => outcome,
-        Err(error) => complain_of_car(rt, file, &error),
+        Err(error) => report_car_error(rt, file, &error),
     };
     match flushed {
         Ok(()) => outcome,
-        Err(error) => outcome.worse(complain_of_car(rt, file, &CarFileError::from(error))),
+        Err(error) => outcome.worse(report_car_error(rt, file, &CarFileError::from(error))),
     }
 }
 
@@ -144,16 +144,16 @@ fn list_opened(
 ) -> Outcome {
     let mut opened = opened;
     let Ok(mut writer) = BufWriter::with_capacity(rt.alloc(), BUFFER, io::writer(rt)) else {
-        return no_memory(rt, file);
+        return report_out_of_memory(rt, file);
     };
     let written = write_asked(rt, matches, file, limit, &mut opened.car, &mut writer);
     let flushed = end_writer(writer, matches!(&written, Err(CarFileError::Write(_))));
     opened.show_end();
-    ended(rt, file, written, flushed)
+    finish_list(rt, file, written, flushed)
 }
 
 // Reads a CAR and writes what is asked of it.
-fn list(rt: &HostRuntime, matches: &ArgMatches<'_>, file: &str) -> Outcome {
+fn list_car(rt: &HostRuntime, matches: &ArgMatches<'_>, file: &str) -> Outcome {
     let limit = match limit_of(rt, matches) {
         Ok(limit) => limit,
         Err(outcome) => return outcome,
@@ -176,7 +176,7 @@ fn hint_of(rt: &HostRuntime, car: &str, word: &str) -> Option<String> {
 }
 
 // Says that there is one CAR too many.
-fn takes_one_car(rt: &HostRuntime, files: &[&str]) -> Outcome {
+fn report_second_car(rt: &HostRuntime, files: &[&str]) -> Outcome {
     let hint = match files {
         // A name with a blank is no word of a command line.
         [car, .., word] if !car.contains(' ') && !word.contains(' ') => hint_of(rt, car, word),
@@ -189,8 +189,8 @@ fn takes_one_car(rt: &HostRuntime, files: &[&str]) -> Outcome {
     match format!(in rt.alloc();
         "several files are for --missing; each other form is of one CAR{hint}"
     ) {
-        Ok(why) => wrong_arguments(rt, &why),
-        Err(_) => no_memory(rt, "the arguments"),
+        Ok(why) => report_wrong_arguments(rt, &why),
+        Err(_) => report_out_of_memory(rt, "the arguments"),
     }
 }
 
@@ -203,7 +203,7 @@ fn run_list(rt: &HostRuntime, matches: &ArgMatches<'_>) -> Outcome {
         return run_missing(rt, matches, files);
     }
     match files {
-        [file] => list(rt, matches, file),
-        _ => takes_one_car(rt, files),
+        [file] => list_car(rt, matches, file),
+        _ => report_second_car(rt, files),
     }
 }

@@ -5,9 +5,9 @@ use car_files::{CarFileError, MissingBlocks, Seen, add_car};
 use clap::ArgMatches;
 use ipld_block::write_links;
 use ipld_cid::Cid;
-use ipld_files::{
-    BUFFER, Complaints, Outcome, complain_of_car, end_writer, hasher_of, json, no_memory, open_car,
-    reads_twice,
+use ipld_cli::{
+    BUFFER, Complaints, Outcome, end_writer, hasher_of, json, open_car, reads_twice,
+    report_car_error, report_out_of_memory,
 };
 use std::io::{self, BufWriter, Write};
 
@@ -26,7 +26,7 @@ pub fn run_missing(rt: &HostRuntime, matches: &ArgMatches<'_>, files: &[&str]) -
     };
     let mut index = MissingBlocks::new(rt.alloc(), hasher);
     let added = add_files(rt, files, limit, matches.get_flag("progress"), &mut index);
-    say_missing(rt, matches.get_flag("json"), &index, added)
+    write_result(rt, matches.get_flag("json"), &index, added)
 }
 
 // What was found in files beside what they have and lack.
@@ -71,13 +71,13 @@ fn add_files(
 }
 
 // Says what the files lack that were read. What one lacks that wasn't read to its end isn't known.
-fn say_missing(rt: &HostRuntime, json: bool, index: &MissingBlocks, added: Added) -> Outcome {
+fn write_result(rt: &HostRuntime, json: bool, index: &MissingBlocks, added: Added) -> Outcome {
     if !added.is_whole {
         return added.outcome;
     }
     let written = write_missing(rt, json, index);
     if written != Outcome::Failed {
-        say_unknown(rt, added.unknown);
+        warn_of_unknown(rt, added.unknown);
     }
     added.outcome.worse(written)
 }
@@ -95,21 +95,21 @@ fn add_file(
         Err(outcome) => return Err(outcome),
     };
     let Ok(label) = format!(in rt.alloc(); "ipld: {file}: ") else {
-        return Err(no_memory(rt, file));
+        return Err(report_out_of_memory(rt, file));
     };
     let mut complaints = Complaints::new(rt);
     let added = add_car(rt.alloc(), index, &mut opened.car, &label, &mut complaints);
     opened.show_end();
     match added {
         Ok(seen) => Ok(seen),
-        Err(error) => Err(complain_of_car(rt, file, &error)),
+        Err(error) => Err(report_car_error(rt, file, &error)),
     }
 }
 
 // Writes the CIDs whose block didn't come.
 fn write_missing(rt: &HostRuntime, json: bool, index: &MissingBlocks) -> Outcome {
     let Ok(missing) = index.missing(rt.alloc()) else {
-        return no_memory(rt, "standard output");
+        return report_out_of_memory(rt, "standard output");
     };
     let found = if missing.is_empty() {
         Outcome::Done
@@ -119,7 +119,7 @@ fn write_missing(rt: &HostRuntime, json: bool, index: &MissingBlocks) -> Outcome
     // Where nobody reads them any more, some are missing all the same.
     match write_cids(rt, json, &missing) {
         Ok(()) => found,
-        Err(error) => found.worse(complain_of_car(rt, "standard output", &error)),
+        Err(error) => found.worse(report_car_error(rt, "standard output", &error)),
     }
 }
 
@@ -137,7 +137,7 @@ fn write_cids(rt: &HostRuntime, json: bool, cids: &[Cid]) -> Result<(), CarFileE
     }
 }
 
-fn say_unknown(rt: &HostRuntime, unknown: u64) {
+fn warn_of_unknown(rt: &HostRuntime, unknown: u64) {
     if unknown > 0 {
         let _ = if unknown == 1 {
             eprintln!(rt; "ipld: 1 block is of a codec whose links are not known")

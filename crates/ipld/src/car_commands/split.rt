@@ -1,10 +1,11 @@
 //! The blocks of a CAR in several CARs.
 
-use car_index::HEADER_END;
 use indexmap::IndexSet;
+use ipld_car::HEADER_END;
 use ipld_cid::Cid;
-use ipld_files::{
-    NewBlock, Outcome, Output, OutputError, cannot_write, header_len, is_file, no_memory, output_of,
+use ipld_cli::{
+    NewBlock, Outcome, Output, OutputError, header_len, is_file, output_of, report_out_of_memory,
+    report_unwritable,
 };
 use std::alloc::{AllocError, Global};
 use std::hash::RandomState;
@@ -96,18 +97,18 @@ fn output_numbered(
     number: usize,
 ) -> Result<(String, Output), Outcome> {
     let Ok(numbered) = name_of(rt.alloc(), name, number) else {
-        return Err(no_memory(rt, name));
+        return Err(report_out_of_memory(rt, name));
     };
     match output_of(rt, &numbered, force, files) {
         Ok(output) => Ok((numbered, output)),
-        Err(error) => Err(cannot_write(rt, &numbered, &error)),
+        Err(error) => Err(report_unwritable(rt, &numbered, &error)),
     }
 }
 
 // Says that there is a file of the name of the CAR of this number, which isn't made, if there is one.
-fn say_if_there(rt: &HostRuntime, name: &str, number: usize) -> Result<(), Outcome> {
+fn report_if_there(rt: &HostRuntime, name: &str, number: usize) -> Result<(), Outcome> {
     let Ok(next) = name_of(rt.alloc(), name, number) else {
-        return Err(no_memory(rt, name));
+        return Err(report_out_of_memory(rt, name));
     };
     if is_file(rt, &next) {
         let _ = eprintln!(rt;
@@ -131,9 +132,9 @@ pub fn outputs_of(
             .push(output_numbered(rt, name, force, files, number)?)
             .is_err()
         {
-            return Err(no_memory(rt, "the CARs"));
+            return Err(report_out_of_memory(rt, "the CARs"));
         }
     }
-    say_if_there(rt, name, count)?;
+    report_if_there(rt, name, count)?;
     Ok(outputs)
 }

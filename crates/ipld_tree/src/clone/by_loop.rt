@@ -13,7 +13,7 @@ use std::collections::{BTreeMap, btree_map};
 use std::{mem, slice};
 
 // A copy of a value, made by a loop: it doesn't recurse, and allocates for a stack that grows with the nesting.
-pub(super) fn copied_by_loop(alloc: Global, value: &Ipld) -> Result<Ipld, AllocError>
+pub(super) fn copy_by_loop(alloc: Global, value: &Ipld) -> Result<Ipld, AllocError>
     ensures { IfOk result (λ v. tree_of v ≡ tree_of value.now) }
 {
     match Begun::new(alloc, value)? {

@@ -14,7 +14,7 @@ use ipld_cid::Cid;
 use std::collections::BTreeMap;
 
 // `None` of a Null, else what the type takes.
-fn unless_null<T: TryFrom<Ipld, Error = ConversionError>>(
+fn convert_unless_null<T: TryFrom<Ipld, Error = ConversionError>>(
     ipld: Ipld,
 ) -> Result<Option<T>, ConversionError>
     ensures { Optional T.try_from_gives ipld result }
@@ -33,7 +33,7 @@ impl TryFrom<Ipld> for Option<bool> {
     /// `None` of a Null, else what `bool` takes, with its rejections.
     #[tactic(auto, using(crate::proofs::Converting::optional_converts))]
     fn try_from(ipld: Ipld) -> Result<Option<bool>, ConversionError> {
-        unless_null(ipld)
+        convert_unless_null(ipld)
     }
 }
 
@@ -45,7 +45,7 @@ impl TryFrom<Ipld> for Option<i8> {
     /// `None` of a Null, else what `i8` takes, with its rejections.
     #[tactic(auto, using(crate::proofs::Converting::optional_converts))]
     fn try_from(ipld: Ipld) -> Result<Option<i8>, ConversionError> {
-        unless_null(ipld)
+        convert_unless_null(ipld)
     }
 }
 
@@ -57,7 +57,7 @@ impl TryFrom<Ipld> for Option<i16> {
     /// `None` of a Null, else what `i16` takes, with its rejections.
     #[tactic(auto, using(crate::proofs::Converting::optional_converts))]
     fn try_from(ipld: Ipld) -> Result<Option<i16>, ConversionError> {
-        unless_null(ipld)
+        convert_unless_null(ipld)
     }
 }
 
@@ -69,7 +69,7 @@ impl TryFrom<Ipld> for Option<i32> {
     /// `None` of a Null, else what `i32` takes, with its rejections.
     #[tactic(auto, using(crate::proofs::Converting::optional_converts))]
     fn try_from(ipld: Ipld) -> Result<Option<i32>, ConversionError> {
-        unless_null(ipld)
+        convert_unless_null(ipld)
     }
 }
 
@@ -81,7 +81,7 @@ impl TryFrom<Ipld> for Option<i64> {
     /// `None` of a Null, else what `i64` takes, with its rejections.
     #[tactic(auto, using(crate::proofs::Converting::optional_converts))]
     fn try_from(ipld: Ipld) -> Result<Option<i64>, ConversionError> {
-        unless_null(ipld)
+        convert_unless_null(ipld)
     }
 }
 
@@ -93,7 +93,7 @@ impl TryFrom<Ipld> for Option<i128> {
     /// `None` of a Null, else what `i128` takes, with its rejections.
     #[tactic(auto, using(crate::proofs::Converting::optional_converts))]
     fn try_from(ipld: Ipld) -> Result<Option<i128>, ConversionError> {
-        unless_null(ipld)
+        convert_unless_null(ipld)
     }
 }
 
@@ -105,7 +105,7 @@ impl TryFrom<Ipld> for Option<isize> {
     /// `None` of a Null, else what `isize` takes, with its rejections.
     #[tactic(auto, using(crate::proofs::Converting::optional_converts))]
     fn try_from(ipld: Ipld) -> Result<Option<isize>, ConversionError> {
-        unless_null(ipld)
+        convert_unless_null(ipld)
     }
 }
 
@@ -117,7 +117,7 @@ impl TryFrom<Ipld> for Option<u8> {
     /// `None` of a Null, else what `u8` takes, with its rejections.
     #[tactic(auto, using(crate::proofs::Converting::optional_converts))]
     fn try_from(ipld: Ipld) -> Result<Option<u8>, ConversionError> {
-        unless_null(ipld)
+        convert_unless_null(ipld)
     }
 }
 
@@ -129,7 +129,7 @@ impl TryFrom<Ipld> for Option<u16> {
     /// `None` of a Null, else what `u16` takes, with its rejections.
     #[tactic(auto, using(crate::proofs::Converting::optional_converts))]
     fn try_from(ipld: Ipld) -> Result<Option<u16>, ConversionError> {
-        unless_null(ipld)
+        convert_unless_null(ipld)
     }
 }
 
@@ -141,7 +141,7 @@ impl TryFrom<Ipld> for Option<u32> {
     /// `None` of a Null, else what `u32` takes, with its rejections.
     #[tactic(auto, using(crate::proofs::Converting::optional_converts))]
     fn try_from(ipld: Ipld) -> Result<Option<u32>, ConversionError> {
-        unless_null(ipld)
+        convert_unless_null(ipld)
     }
 }
 
@@ -153,7 +153,7 @@ impl TryFrom<Ipld> for Option<u64> {
     /// `None` of a Null, else what `u64` takes, with its rejections.
     #[tactic(auto, using(crate::proofs::Converting::optional_converts))]
     fn try_from(ipld: Ipld) -> Result<Option<u64>, ConversionError> {
-        unless_null(ipld)
+        convert_unless_null(ipld)
     }
 }
 
@@ -165,7 +165,7 @@ impl TryFrom<Ipld> for Option<u128> {
     /// `None` of a Null, else what `u128` takes, with its rejections.
     #[tactic(auto, using(crate::proofs::Converting::optional_converts))]
     fn try_from(ipld: Ipld) -> Result<Option<u128>, ConversionError> {
-        unless_null(ipld)
+        convert_unless_null(ipld)
     }
 }
 
@@ -177,7 +177,7 @@ impl TryFrom<Ipld> for Option<usize> {
     /// `None` of a Null, else what `usize` takes, with its rejections.
     #[tactic(auto, using(crate::proofs::Converting::optional_converts))]
     fn try_from(ipld: Ipld) -> Result<Option<usize>, ConversionError> {
-        unless_null(ipld)
+        convert_unless_null(ipld)
     }
 }
 
@@ -189,7 +189,7 @@ impl TryFrom<Ipld> for Option<String> {
     /// `None` of a Null, else what `String` takes, with its rejections.
     #[tactic(auto, using(crate::proofs::Converting::optional_converts))]
     fn try_from(ipld: Ipld) -> Result<Option<String>, ConversionError> {
-        unless_null(ipld)
+        convert_unless_null(ipld)
     }
 }
 
@@ -201,7 +201,7 @@ impl TryFrom<Ipld> for Option<Vec<u8>> {
     /// `None` of a Null, else what `Vec<u8>` takes, with its rejections.
     #[tactic(auto, using(crate::proofs::Converting::optional_converts))]
     fn try_from(ipld: Ipld) -> Result<Option<Vec<u8>>, ConversionError> {
-        unless_null(ipld)
+        convert_unless_null(ipld)
     }
 }
 
@@ -213,7 +213,7 @@ impl TryFrom<Ipld> for Option<Vec<Ipld>> {
     /// `None` of a Null, else what `Vec<Ipld>` takes, with its rejections.
     #[tactic(auto, using(crate::proofs::Converting::optional_converts))]
     fn try_from(ipld: Ipld) -> Result<Option<Vec<Ipld>>, ConversionError> {
-        unless_null(ipld)
+        convert_unless_null(ipld)
     }
 }
 
@@ -225,7 +225,7 @@ impl TryFrom<Ipld> for Option<BTreeMap<String, Ipld>> {
     /// `None` of a Null, else what `BTreeMap<String, Ipld>` takes, with its rejections.
     #[tactic(auto, using(crate::proofs::Converting::optional_converts))]
     fn try_from(ipld: Ipld) -> Result<Option<BTreeMap<String, Ipld>>, ConversionError> {
-        unless_null(ipld)
+        convert_unless_null(ipld)
     }
 }
 
@@ -237,6 +237,6 @@ impl TryFrom<Ipld> for Option<Cid> {
     /// `None` of a Null, else what `Cid` takes, with its rejections.
     #[tactic(auto, using(crate::proofs::Converting::optional_converts))]
     fn try_from(ipld: Ipld) -> Result<Option<Cid>, ConversionError> {
-        unless_null(ipld)
+        convert_unless_null(ipld)
     }
 }

@@ -2,9 +2,9 @@
 
 use crate::ended::Ended;
 use crate::samples::{A, B, cid};
-use block_cid::{cid_of, verify};
-use cid_text::parse_any;
+use ipld_block::{cid_of, verify};
 use ipld_cid::{Cid, CidError, DAG_PB, IDENTITY, Multihash, RAW, SHA2_256, Version};
+use ipld_cid_text::parse_any;
 use std::hash::{DefaultHasher, Hash, Hasher};
 use std::io::Write;
 

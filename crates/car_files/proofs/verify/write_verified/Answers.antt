@@ -1,4 +1,4 @@
-use Rattle.block_cid.specs.declared.error.VerifyError.TheVariants.{WrongDigest, UnknownHash}
+use Rattle.ipld_block.specs.declared.block_cid.error.VerifyError.TheVariants.{WrongDigest, UnknownHash}
 use Rattle.ipld_car.specs.SectionOf.{block_of}
 use Rattle.car_files.proofs.Tallying.{tallies_wrong, tallies_unknown, error_of, line_of, unverified_car}
 use Rattle.car_files.proofs.verify.write_verified.Goals as goal

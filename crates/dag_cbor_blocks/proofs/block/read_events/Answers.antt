@@ -6,13 +6,13 @@ use Rattle.dag_cbor_blocks.proofs.Switches.{is_on}
 use Rattle.dag_cbor_blocks.proofs.BlockSteps.{at_start, at_end, left_over}
 use Rattle.dag_cbor_blocks.proofs.block.read_events.Goals as goal
 
-pub returns-in_err-item : goal.returns-in_err-item
-returns-in_err-item g c =
+pub returns-in_err-read_item : goal.returns-in_err-read_item
+returns-in_err-read_item g c =
     let block = c.args.bytes.now in
     let begins = at_start cid_laws (is_on g.row.FLOATS) c.new-position.result block c.new-position.ensures.frames c.new-position.ensures.rest in
     let error = err_from_is_err_and c.from_residual.result c.from_residual.ensures.1 in
     rw (error.1, error.2) (
-    elim c.in_err-item.ensures [
+    elim c.in_err-read_item.ensures [
       | inl none ↦ inl none
       | inr e ↦ inr (ap (λ (x : Trace). x.error) begins ∙ e.same_error)
     ]
@@ -22,8 +22,8 @@ pub loop-position-init : goal.loop-position-init
 loop-position-init g c =
     let block = c.args.bytes.now in
     let begins = at_start cid_laws (is_on g.row.FLOATS) c.new-position.result block c.new-position.ensures.frames c.new-position.ensures.rest in (
-      c.in_ok-item.ensures.same_error ∙ sym (ap (λ (x : Trace). x.error) begins),
-      c.in_ok-item.ensures.same_answer ∙ sym (ap (λ (x : Trace). g.V.Visitor.answer c.args.visitor.now x.events) begins),
+      c.in_ok-read_item.ensures.same_error ∙ sym (ap (λ (x : Trace). x.error) begins),
+      c.in_ok-read_item.ensures.same_answer ∙ sym (ap (λ (x : Trace). g.V.Visitor.answer c.args.visitor.now x.events) begins),
     )
 
 pub returns-then-not-is_empty : goal.returns-then-not-is_empty

@@ -7,5 +7,5 @@ use Rattle.dag_cbor_format.proofs.head.read_head.Goals as goal
 
 pub returns : goal.returns
 returns c =
-    subst (λ (o : Option (Major × ℕ × List ℕ)). Returns (λ x. (x.0, x.1, x.2.now)) (head_error c.args.bytes.now) c.read_parts.result o)
-    (sym (parts_at c.args.bytes.now (λ i. omega (arith, c.type_inv.bytes i)))) c.read_parts.ensures
+    subst (λ (o : Option (Major × ℕ × List ℕ)). Returns (λ x. (x.0, x.1, x.2.now)) (head_error c.args.bytes.now) c.read_any_head.result o)
+    (sym (parts_at c.args.bytes.now (λ i. omega (arith, c.type_inv.bytes i)))) c.read_any_head.ensures

@@ -26,7 +26,7 @@ returns-else-is_empty-clause-err g c =
     let v = c.in-Ok.ensures.ok in
     let rest = c.read_image.new.reader.bytes.now in
     let more : rest ≢ [] = something_over rest (sym c.is_empty.ensures ∙ c.if-is_empty.false) in
-    subst (NotRead g.T.Deserialize.reads g.T.Deserialize.read_error c.args.limits.now c.args.bytes.now) (sym c.trailing.ensures)
+    subst (NotRead g.T.Deserialize.reads g.T.Deserialize.read_error c.args.limits.now c.args.bytes.now) (sym c.trailing_error.ensures)
     (trailing_rejected g.T.Deserialize.reads g.T.Deserialize.read_error c.args.limits.now _ v.0 c.args.bytes.now rest _ v.1 more (omega arith) (omega arith) refl)
 
 pub returns-in-Err-MissingField-clause-err : goal.returns-in-Err-MissingField-clause-err
@@ -41,5 +41,5 @@ returns-in-Err-MissingField-2-clause-err g c =
     let m = c.in-Err-MissingField.ensures.missing c.in-Err-MissingField.field-0-is in
     let rest = c.read_image.new.reader.bytes.now in
     let more : rest ≢ [] = something_over rest (search rules) in
-    subst (NotRead g.T.Deserialize.reads g.T.Deserialize.read_error c.args.limits.now c.args.bytes.now) (sym c.trailing-in-Err-MissingField-2.ensures)
+    subst (NotRead g.T.Deserialize.reads g.T.Deserialize.read_error c.args.limits.now c.args.bytes.now) (sym c.trailing_error-in-Err-MissingField-2.ensures)
     (trailing_rejected g.T.Deserialize.reads g.T.Deserialize.read_error c.args.limits.now _ m.0 c.args.bytes.now rest _ m.1 more (omega arith) (omega arith) refl)

@@ -22,9 +22,9 @@ returns-in-Ok-Some-clause-only c = λ t utf8 is whole w within.
     c.in-Ok-Some.ensures in
     absurd (otherwise_not (tree_of c.in-Ok.tree) c.args.bytes.now c.in-Ok-Some.offset other (ap written same ∙ w))
 
-pub returns-in-Err-difference-clause-only : goal.returns-in-Err-difference-clause-only
-returns-in-Err-difference-clause-only c = λ t utf8 is whole w within.
-    elim c.in-Err-difference.ensures [
+pub returns-in-Err-first_difference-clause-only : goal.returns-in-Err-first_difference-clause-only
+returns-in-Err-first_difference-clause-only c = λ t utf8 is whole w within.
+    elim c.in-Err-first_difference.ensures [
       | inl memory ↦ memory
       | inr none ↦
           absurd (
@@ -40,10 +40,10 @@ returns-in-Ok-Some-clause-err c =
     c.in-Ok-Some.ensures in
     inr (refl, tree_of c.in-Ok.tree, c.in-Ok.ensures.found, other)
 
-pub returns-in-Err-difference-clause-err : goal.returns-in-Err-difference-clause-err
-returns-in-Err-difference-clause-err c =
+pub returns-in-Err-first_difference-clause-err : goal.returns-in-Err-first_difference-clause-err
+returns-in-Err-first_difference-clause-err c =
     let found = c.in-Ok.ensures.found in
-    elim c.in-Err-difference.ensures [
+    elim c.in-Err-first_difference.ensures [
       | inl memory ↦ inl (inl (found.tree.utf8, inl memory), (omega arith, inl memory))
       | inr none ↦
           absurd (

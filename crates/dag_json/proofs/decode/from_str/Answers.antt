@@ -1,5 +1,5 @@
 use Rattle.std.proofs.Common.{false}
-use Rattle.dag_json.proofs.Reading.{encodes_read, only_read}
+use Rattle.dag_json.specs.Lemmas.Reading.{encodes_read, only_read}
 use Rattle.dag_json.proofs.decode.from_str.Goals as goal
 
 pub returns-clause-found : goal.returns-clause-found

@@ -1,7 +1,7 @@
 use Rattle.std.proofs.Common.{true, subst}
 use Rattle.json.specs.Lex.{tokens}
 use Rattle.dag_json.specs.ReadContract.{Reads}
-use Rattle.dag_json.proofs.Reading.{encodes_read, only_read}
+use Rattle.dag_json.specs.Lemmas.Reading.{encodes_read, only_read}
 use Rattle.dag_json.proofs.floats.from_slice.Goals as goal
 
 pub returns-in-Ok-clause-found : goal.returns-in-Ok-clause-found

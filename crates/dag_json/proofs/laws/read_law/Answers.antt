@@ -1,4 +1,4 @@
-use Rattle.dag_json.proofs.Reading.{encoded_once}
+use Rattle.dag_json.specs.Lemmas.Reading.{encoded_once}
 use Rattle.dag_json.proofs.RoundTrip.{written_encodes}
 use Rattle.dag_json.proofs.laws.read_law.Goals as goal
 

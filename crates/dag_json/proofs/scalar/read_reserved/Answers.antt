@@ -7,5 +7,5 @@ use Rattle.dag_json.proofs.scalar.read_reserved.Goals as goal
 
 pub returns-in-Some-Map : goal.returns-in-Some-Map
 returns-in-Some-Map c =
-    subst (λ r. Makes r c.read_inner.result) (sym (inside_map (members_of c.args.members.now.entries) c.in-Some-Map.field-0.now c.in-Some-Map.inner c.in-Some-Map.ensures c.in-Some-Map.field-0-is))
-    (subst (λ m. Makes (reserved_bytes (only_tree (members_of m.entries))) c.read_inner.result) c.in-Some-Map.inner-is c.read_inner.ensures)
+    subst (λ r. Makes r c.read_bytes_object.result) (sym (inside_map (members_of c.args.members.now.entries) c.in-Some-Map.field-0.now c.in-Some-Map.inner c.in-Some-Map.ensures c.in-Some-Map.field-0-is))
+    (subst (λ m. Makes (reserved_bytes (only_tree (members_of m.entries))) c.read_bytes_object.result) c.in-Some-Map.inner-is c.read_bytes_object.ensures)

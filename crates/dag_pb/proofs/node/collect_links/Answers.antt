@@ -18,8 +18,8 @@ pub loop-rest-preserved : goal.loop-rest-preserved
 loop-rest-preserved c =
     let some : 0 < length c.loop-rest.rest.now = let e = c.is_empty.ensures in let f = c.loop-rest-test.true in grind (arith, nat_tests) in
     loop_step c.loop-rest.stage c.loop-rest.rest.now (part_of c.in-Ok.part) c.in-Ok.next c.in-Ok.after.now
-    (λ rest. map link_of c.loop-rest.links.items ++ hashes rest) (λ rest. map link_of c.add_hash.new.links.items ++ hashes rest)
-    (read_fields Nothing c.args.bytes.now >>= λ node. Ok (hashes node)) some c.in-Ok.ensures.exact c.in_ok-add_hash-in-Ok.ensures.added c.loop-rest.invariant
+    (λ rest. map link_of c.loop-rest.links.items ++ hashes rest) (λ rest. map link_of c.push_hash.new.links.items ++ hashes rest)
+    (read_fields Nothing c.args.bytes.now >>= λ node. Ok (hashes node)) some c.in-Ok.ensures.exact c.in_ok-push_hash-in-Ok.ensures.added c.loop-rest.invariant
 
 pub returns-in-Err-clause-exact : goal.returns-in-Err-clause-exact
 returns-in-Err-clause-exact c =
@@ -35,11 +35,11 @@ returns-clause-exact c =
     (read_fields Nothing c.args.bytes.now >>= λ node. Ok (hashes node)) none c.loop-rest.invariant in
     links_are c.args.bytes.now (Ok (map link_of c.loop-rest.links.items)) (ended ∙ ap Ok (append-nil (map link_of c.loop-rest.links.items)))
 
-pub returns-in_err-add_hash-in-Ok-clause-unlinked : goal.returns-in_err-add_hash-in-Ok-clause-unlinked
-returns-in_err-add_hash-in-Ok-clause-unlinked c = λ n is none.
+pub returns-in_err-push_hash-in-Ok-clause-unlinked : goal.returns-in_err-push_hash-in-Ok-clause-unlinked
+returns-in_err-push_hash-in-Ok-clause-unlinked c = λ n is none.
     let some : 0 < length c.loop-rest.rest.now = let e = c.is_empty.ensures in let f = c.loop-rest-test.true in grind (arith, nat_tests) in
     absurd (loop_full c.loop-rest.stage c.loop-rest.rest.now c.in-Ok.part c.in-Ok.next c.in-Ok.after.now (λ rest. map link_of c.loop-rest.links.items ++ hashes rest) (λ (ls : List Link). ls ≡ [] → ⊥)
-    (read_fields Nothing c.args.bytes.now >>= λ node. Ok (hashes node)) (hashes n) some c.in-Ok.ensures.exact c.in_err-add_hash-in-Ok.ensures.full
+    (read_fields Nothing c.args.bytes.now >>= λ node. Ok (hashes node)) (hashes n) some c.in-Ok.ensures.exact c.in_err-push_hash-in-Ok.ensures.full
     (λ l m. some_behind (map link_of c.loop-rest.links.items) l.hash (hashes m)) c.loop-rest.invariant
     (ap (λ (r : Result NodeParts Fault). r >>= λ node. Ok (hashes node)) (fields_read c.args.bytes.now n is)) (ap (map (λ l. l.hash)) none))
 

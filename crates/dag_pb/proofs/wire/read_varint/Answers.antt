@@ -5,10 +5,10 @@ use Rattle.ipld_cid.proofs.VarintReading.{group_at, below_more}
 use Rattle.dag_pb.proofs.VarintLoop.{stops, finishes, goes_on, runs_out, fits_at, more_follow}
 use Rattle.dag_pb.proofs.wire.read_varint.Goals as goal
 
-pub returns-then-exceeds-clause-exact : goal.returns-then-exceeds-clause-exact
+pub returns-then-overflows-clause-exact : goal.returns-then-overflows-clause-exact
 unfolding read_varint
-returns-then-exceeds-clause-exact c =
-    stops c.loop-place.value c.loop-place.place c.args.bytes.now (omega arith) c.loop-place.invariant.rest (sym c.exceeds.ensures ∙ c.if-exceeds.true)
+returns-then-overflows-clause-exact c =
+    stops c.loop-place.value c.loop-place.place c.args.bytes.now (omega arith) c.loop-place.invariant.rest (sym c.overflows.ensures ∙ c.if-overflows.true)
 
 pub returns-then-byte-lt128-clause-exact : goal.returns-then-byte-lt128-clause-exact
 unfolding read_varint
@@ -17,7 +17,7 @@ returns-then-byte-lt128-clause-exact c =
     let value = c.loop-place.value in
     let place = c.loop-place.place in
     let byte : ℕ = get_or bytes place 0 in
-    let sound = sym c.exceeds.ensures ∙ c.if-exceeds.false in
+    let sound = sym c.overflows.ensures ∙ c.if-overflows.false in
     let fits = fits_at place byte c.loop-place.invariant.few (omega (arith, c.type_inv.bytes place)) sound in
     let added = group_at value place byte fits.0 c.loop-place.invariant.below fits.1 fits.2 in
     rw (c.from.ensures, added, take_rest bytes (place + 1)) (finishes value place bytes (omega arith) c.loop-place.invariant.rest sound (omega arith))
@@ -28,7 +28,7 @@ loop-place-preserved c =
     let value = c.loop-place.value in
     let place = c.loop-place.place in
     let byte : ℕ = get_or bytes place 0 in
-    let sound = sym c.exceeds.ensures ∙ c.if-exceeds.false in
+    let sound = sym c.overflows.ensures ∙ c.if-overflows.false in
     let whole : byte < 256 = omega (arith, c.type_inv.bytes place) in
     let fits = fits_at place byte c.loop-place.invariant.few whole sound in
     let added = group_at value place byte fits.0 c.loop-place.invariant.below fits.1 fits.2 in

@@ -8,4 +8,4 @@ returns-in-Ok-clause-named c =
 
 pub returns-in-Err-clause-named : goal.returns-in-Err-clause-named
 returns-in-Err-clause-named c =
-    named_none c.args.begin c.args.start c.args.section.now.bytes.items c.deref.result.now c.in-Err.error _ c.deref.ensures.value c.in-Err.ensures.error c.in-Err.ensures.only c.error_at.ensures
+    named_none c.args.begin c.args.start c.args.section.now.bytes.items c.deref.result.now c.in-Err.error _ c.deref.ensures.value c.in-Err.ensures.error c.in-Err.ensures.only c.section_error.ensures

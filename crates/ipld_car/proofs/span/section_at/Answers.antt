@@ -15,8 +15,8 @@ returns-in-Ok-None-clause-fault c =
     let behind : c.min-start.result ≤ c.args.at = rw c.min-start.ensures (omega (arith, min)) in
     rw (← c.min-start.ensures, ← c.saturating_sub-found.ensures) (
       less,
-      section_missing c.args.at c.args.end c.min-start.result (c.args.end - c.min-start.result) c.saturating_sub-found.result c.args.car.now c.error_at.result less behind refl
-          c.saturating_sub-found.ensures none c.error_at.ensures,
+      section_missing c.args.at c.args.end c.min-start.result (c.args.end - c.min-start.result) c.saturating_sub-found.result c.args.car.now c.section_error.result less behind refl
+          c.saturating_sub-found.ensures none c.section_error.ensures,
     )
 
 pub returns-in-Err-clause-fault : goal.returns-in-Err-clause-fault

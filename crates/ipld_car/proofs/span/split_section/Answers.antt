@@ -26,7 +26,7 @@ returns-in-Err-split_front c =
     let behind = subst (λ r. IfOk r (λ some. IfSome some (λ start. start ≤ taken))) is framed.starts in
     let read = subst (λ r. ReadsFramed 18446744073709551615 (length bytes) (Some bytes) (Some (drop taken bytes)) (take taken bytes) r) is framed.read in
     let none = c.in-Err-split_front.ensures in
-    split_unnamed bytes c.args.at 18446744073709551615 c.in-Ok-Some.start taken c.in-Err-split_front.error c.error_at.result (omega arith) behind read none.error none.only c.error_at.ensures
+    split_unnamed bytes c.args.at 18446744073709551615 c.in-Ok-Some.start taken c.in-Err-split_front.error c.section_error.result (omega arith) behind read none.error none.only c.section_error.ensures
 
 pub returns-in-Err : goal.returns-in-Err
 returns-in-Err c =
@@ -36,5 +36,5 @@ returns-in-Err c =
     let read = subst (λ r. ReadsFramed 18446744073709551615 (length bytes) (Some bytes) (Some (drop taken bytes)) (take taken bytes) r) c.in-Err.is framed.read in
     let own = subst (λ r. IfErr r (λ kind. IsOfReader kind → ⊥)) c.in-Err.is framed.own in
     let counted = take_len bytes taken framed.within in
-    split_fails bytes c.args.at 18446744073709551615 taken c.fault_place-place.result c.in-Err.kind c.error_at-in-Err.result (omega arith) read own
-    (c.fault_place-place.ensures.place ∙ ap (fault_place c.in-Err.kind) (sym counted)) c.error_at-in-Err.ensures
+    split_fails bytes c.args.at 18446744073709551615 taken c.fault_place-place.result c.in-Err.kind c.section_error-in-Err.result (omega arith) read own
+    (c.fault_place-place.ensures.place ∙ ap (fault_place c.in-Err.kind) (sym counted)) c.section_error-in-Err.ensures

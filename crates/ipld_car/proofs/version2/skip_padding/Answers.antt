@@ -5,9 +5,9 @@ use Rattle.ipld_car.proofs.version2.skip_padding.Goals as goal
 pub returns-in-Ok-false : goal.returns-in-Ok-false
 returns-in-Ok-false g c =
     let counted : c.len.result ≡ length c.fill.new.taken.items = omega arith in
-    skips_part _ _ _ _ _ _ _ _ _ _ c.loop-left.invariant c.clear.ensures.items (rw c.in-Ok-false.field-0-test at c.in-Ok-false.ensures) (omega arith) counted c.error_at.ensures
+    skips_part _ _ _ _ _ _ _ _ _ _ c.loop-left.invariant c.clear.ensures.items (rw c.in-Ok-false.field-0-test at c.in-Ok-false.ensures) (omega arith) counted c.section_error.ensures
 
 pub returns-in-Err : goal.returns-in-Err
 returns-in-Err g c =
     let counted : c.len-in-Err.result ≡ length c.fill.new.taken.items = omega arith in
-    skips_until _ _ _ _ _ _ _ _ _ _ _ c.loop-left.invariant c.clear.ensures.items c.in-Err.ensures (omega arith) counted c.error_at-in-Err.ensures
+    skips_until _ _ _ _ _ _ _ _ _ _ _ c.loop-left.invariant c.clear.ensures.items c.in-Err.ensures (omega arith) counted c.section_error-in-Err.ensures

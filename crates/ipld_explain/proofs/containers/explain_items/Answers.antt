@@ -21,23 +21,23 @@ returns-in-Some-2-clause-why g c =
     let reads = g.T.Deserialize.reads in
     let fails = g.T.Explain.fails in
     let t = tree_of c.in-Some.item in
-    item_fails reads fails (left c.args.items) (left c.loop-index.items) (left c.next_item.new.items) t c.loop-index.index (failure_of c.in-Some-2.explanation) (failure_of c.in_ok-under.field-0)
+    item_fails reads fails (left c.args.items) (left c.loop-index.items) (left c.next_item.new.items) t c.loop-index.index (failure_of c.in-Some-2.explanation) (failure_of c.in_ok-within_segment.field-0)
     c.loop-index.invariant.so_far
     (item_taken c.in_ok-item.field-0 (left c.loop-index.items) (left c.next_item.new.items) c.in-Some.item c.in_ok-item.ensures c.in-Some.is)
     (subst (λ o. Explains reads fails t (option_map failure_of o)) c.in-Some-2.is c.in_ok-explanation.ensures.why)
-    c.in_ok-under.ensures
+    c.in_ok-within_segment.ensures
 
 pub returns-in-Some-2-clause-error : goal.returns-in-Some-2-clause-error
 returns-in-Some-2-clause-error g c =
     let reads = g.T.Deserialize.reads in
     let error = g.T.Deserialize.read_error in
     let t = tree_of c.in-Some.item in
-    item_error reads error (left c.args.items) (left c.loop-index.items) (left c.next_item.new.items) t c.in-Some-2.explanation.error c.in_ok-under.field-0.error
+    item_error reads error (left c.args.items) (left c.loop-index.items) (left c.next_item.new.items) t c.in-Some-2.explanation.error c.in_ok-within_segment.field-0.error
     c.loop-index.invariant.same
     (item_taken c.in_ok-item.field-0 (left c.loop-index.items) (left c.next_item.new.items) c.in-Some.item c.in_ok-item.ensures c.in-Some.is)
     (subst (λ o. Explains reads g.T.Explain.fails t (option_map failure_of o)) c.in-Some-2.is c.in_ok-explanation.ensures.why).0
     (subst (λ o. IfSome o (λ x. error t x.error)) c.in-Some-2.is c.in_ok-explanation.ensures.error)
-    (ap (λ f. f.error) c.in_ok-under.ensures)
+    (ap (λ f. f.error) c.in_ok-within_segment.ensures)
 
 pub loop-index-preserved : goal.loop-index-preserved
 loop-index-preserved g c =

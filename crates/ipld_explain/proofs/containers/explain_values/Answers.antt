@@ -17,11 +17,11 @@ returns-in-Some-2-clause-why g c =
     let rest = entries_left c.loop-map.map in
     let after = entries_left c.next_entry.new.map in
     let t = tree_of c.in-Some.value in
-    entry_fails reads fails (entries_left c.args.map) rest after (string_bytes c.in-Some.key) t (failure_of c.in-Some-2.explanation) (failure_of c.in_ok-under.field-0)
+    entry_fails reads fails (entries_left c.args.map) rest after (string_bytes c.in-Some.key) t (failure_of c.in-Some-2.explanation) (failure_of c.in_ok-within_segment.field-0)
     c.loop-map.invariant.so_far
     (entry_taken c.in_ok-key.field-0 rest after c.in-Some.key c.in-Some.value c.in_ok-key.ensures c.in-Some.is)
     (subst (λ o. Explains reads fails t (option_map failure_of o)) c.in-Some-2.is c.in_ok-explanation.ensures.why)
-    c.in_ok-under.ensures
+    c.in_ok-within_segment.ensures
 
 pub returns-in-Some-2-clause-error : goal.returns-in-Some-2-clause-error
 returns-in-Some-2-clause-error g c =
@@ -30,12 +30,12 @@ returns-in-Some-2-clause-error g c =
     let rest = entries_left c.loop-map.map in
     let after = entries_left c.next_entry.new.map in
     let t = tree_of c.in-Some.value in
-    entry_error reads error (entries_left c.args.map) rest after (string_bytes c.in-Some.key) t c.in-Some-2.explanation.error c.in_ok-under.field-0.error
+    entry_error reads error (entries_left c.args.map) rest after (string_bytes c.in-Some.key) t c.in-Some-2.explanation.error c.in_ok-within_segment.field-0.error
     c.loop-map.invariant.same
     (entry_taken c.in_ok-key.field-0 rest after c.in-Some.key c.in-Some.value c.in_ok-key.ensures c.in-Some.is)
     (subst (λ o. Explains reads g.T.Explain.fails t (option_map failure_of o)) c.in-Some-2.is c.in_ok-explanation.ensures.why).0
     (subst (λ o. IfSome o (λ x. error t x.error)) c.in-Some-2.is c.in_ok-explanation.ensures.error)
-    (ap (λ f. f.error) c.in_ok-under.ensures)
+    (ap (λ f. f.error) c.in_ok-within_segment.ensures)
 
 pub loop-map-smaller : goal.loop-map-smaller
 loop-map-smaller g c =

@@ -43,10 +43,10 @@ returns-then-strict-clause-why g c =
     let after = entries_left c.next_entry.new.map in
     let x = c.unknown_field-unknown.ensures in
     field_unknown c.args.strict g.F.ExplainFields.fields (strings c.args.names.now) (entries_left c.args.map) rest after (string_bytes c.in-Some.key) (tree_of c.in-Some.value)
-    (failure_of c.unknown_field-unknown.result) (failure_of c.in_ok-under.field-0) c.loop-map.invariant.so_far
+    (failure_of c.unknown_field-unknown.result) (failure_of c.in_ok-within_segment.field-0) c.loop-map.invariant.so_far
     (entry_taken c.in_ok-key.field-0 rest after c.in-Some.key c.in-Some.value c.in_ok-key.ensures c.in-Some.is) c.if-strict.true
     (ap (λ k. among k (strings c.args.names.now)) (sym c.as_str.ensures.value) ∙ c.in_default-position_of.ensures.none)
-    (x.path, x.expected, x.error, x.wrong) (sym (x.found ∙ c.kind-found.ensures)) c.in_ok-under.ensures
+    (x.path, x.expected, x.error, x.wrong) (sym (x.found ∙ c.kind-found.ensures)) c.in_ok-within_segment.ensures
 
 pub explain_at-requires : goal.explain_at-requires
 explain_at-requires g c =
@@ -61,12 +61,12 @@ returns-in-Some-2-clause-why g c =
     let after = entries_left c.next_entry.new.map in
     let t = tree_of c.in-Some.value in
     field_fails c.args.strict parts (strings c.args.names.now) (entries_left c.args.map) rest after c.in-Some-position_of.index (string_bytes c.in-Some.key) t
-    (failure_of c.in-Some-2.explanation) (failure_of c.in_ok-under-2.field-0)
+    (failure_of c.in-Some-2.explanation) (failure_of c.in_ok-within_segment-2.field-0)
     c.requires.distinct c.loop-map.invariant.so_far
     (entry_taken c.in_ok-key.field-0 rest after c.in-Some.key c.in-Some.value c.in_ok-key.ensures c.in-Some.is)
     (c.in-Some-position_of.ensures.found ∙ ap Some c.as_str.ensures.value)
     (subst (λ o. ExplainsAt parts c.in-Some-position_of.index t (option_map failure_of o)) c.in-Some-2.is c.in_ok-explanation.ensures.why)
-    c.in_ok-under-2.ensures
+    c.in_ok-within_segment-2.ensures
 
 pub loop-map-smaller : goal.loop-map-smaller
 loop-map-smaller g c =
@@ -116,8 +116,8 @@ returns-in-Some-2-clause-error g c =
     let after = entries_left c.next_entry.new.map in
     let t = tree_of c.in-Some.value in
     field_error c.args.strict parts (strings c.args.names.now) (entries_left c.args.map) rest after c.in-Some-position_of.index (string_bytes c.in-Some.key) t
-    c.in-Some-2.explanation.error c.in_ok-under-2.field-0.error c.requires.distinct c.loop-map.invariant.same
+    c.in-Some-2.explanation.error c.in_ok-within_segment-2.field-0.error c.requires.distinct c.loop-map.invariant.same
     (entry_taken c.in_ok-key.field-0 rest after c.in-Some.key c.in-Some.value c.in_ok-key.ensures c.in-Some.is)
     (c.in-Some-position_of.ensures.found ∙ ap Some c.as_str.ensures.value)
     (subst (λ o. IfSome o (λ x. RejectsAt parts c.in-Some-position_of.index t x.error)) c.in-Some-2.is c.in_ok-explanation.ensures.error)
-    (ap (λ f. f.error) c.in_ok-under-2.ensures)
+    (ap (λ f. f.error) c.in_ok-within_segment-2.ensures)

@@ -9,11 +9,11 @@ returns-in-Ok c =
     rw c.in-Item.is
     (found_outcome _ _ _ c.deserialize.result c.in-Ok.links _ c.new-source.ensures.tokens c.into_vec.ensures c.in-Ok.is e.found e.only e.rejected e.open)
 
-pub returns-in_ok-rejection-in-Err : goal.returns-in_ok-rejection-in-Err
-returns-in_ok-rejection-in-Err c =
+pub returns-in_ok-rejection_of-in-Err : goal.returns-in_ok-rejection_of-in-Err
+returns-in_ok-rejection_of-in-Err c =
     let e = c.deserialize.ensures in
     rw c.in-Item.is
-    (error_outcome _ _ _ c.deserialize.result c.in-Err.error _ c.new-source.ensures.tokens c.in-Err.is c.in_ok-rejection-in-Err.ensures
+    (error_outcome _ _ _ c.deserialize.result c.in-Err.error _ c.new-source.ensures.tokens c.in-Err.is c.in_ok-rejection_of-in-Err.ensures
     e.token e.cid e.end e.no_key e.only e.rejected e.open)
 
 pub returns-in_ok-found-in-Ok-read_ipld : goal.returns-in_ok-found-in-Ok-read_ipld
@@ -34,11 +34,11 @@ returns-in_ok-found-in-Ok-read_ipld c =
       open_end = e.unfinished;
     }))
 
-pub returns-in_ok-rejection-in-Err-read_ipld : goal.returns-in_ok-rejection-in-Err-read_ipld
-returns-in_ok-rejection-in-Err-read_ipld c =
+pub returns-in_ok-rejection_of-in-Err-read_ipld : goal.returns-in_ok-rejection_of-in-Err-read_ipld
+returns-in_ok-rejection_of-in-Err-read_ipld c =
     let e = c.read_ipld.ensures in
     rw c.in-Tree.is
-    (reports_tree _ _ _ c.read_ipld.result _ c.new-source.ensures.tokens (ap outcome_by_result c.in-Err-read_ipld.is ∙ outcome_of_error _ _ c.in_ok-rejection-in-Err-read_ipld.ensures) (record {
+    (reports_tree _ _ _ c.read_ipld.result _ c.new-source.ensures.tokens (ap outcome_by_result c.in-Err-read_ipld.is ∙ outcome_of_error _ _ c.in_ok-rejection_of-in-Err-read_ipld.ensures) (record {
       found = e.found;
       only = e.only;
       token = e.token;

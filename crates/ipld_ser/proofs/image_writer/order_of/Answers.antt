@@ -8,8 +8,8 @@ loop-name-preserved g c =
     let names = names_of (g.F.SerializeFields.fields c.args.fields.now) in
     let order = c.loop-name.order in
     let at = sym (ap (slice_get names) (c.len.ensures ∙ order.ok.0)) ∙ c.in-Some.ensures.some in
-    subst (λ n. filed_from 0 names [] ≡ filed_from n (drop n names) (indexed c.file_name.new.order.items)) (sym c.in_ok-file_name.ensures.len)
-    (one_more_filed names (length order.items) c.in-Some.name.now (indexed order.items) (indexed c.file_name.new.order.items) (filed_from 0 names []) c.loop-name.invariant at c.in_ok-file_name.ensures.filed)
+    subst (λ n. filed_from 0 names [] ≡ filed_from n (drop n names) (indexed c.insert_name.new.order.items)) (sym c.in_ok-insert_name.ensures.len)
+    (one_more_filed names (length order.items) c.in-Some.name.now (indexed order.items) (indexed c.insert_name.new.order.items) (filed_from 0 names []) c.loop-name.invariant at c.in_ok-insert_name.ensures.filed)
 
 pub returns : goal.returns
 returns g c =

@@ -10,12 +10,12 @@ use Rattle.ipld_show.proofs.dag_json.enter_map.Goals as goal
 
 pub returns-in-Err : goal.returns-in-Err
 returns-in-Err g c = λ whole w n k i.
-    let first = entries_inside whole c.args.total c.args.count k.value c.args.place c.inside.result c.args.rest.now k.part i c.inside.ensures.rest c.inside.ensures.containers in
+    let first = entries_inside whole c.args.total c.args.count k.value c.args.place c.first_place.result c.args.rest.now k.part i c.first_place.ensures.rest c.first_place.ensures.containers in
     output_error whole c.in-Err.error (c.in-Err.ensures whole c.args.total i.0 first i.2)
 
 pub returns-in-Ok-true : goal.returns-in-Ok-true
 returns-in-Ok-true g c = λ whole w n k i.
-    let first = entries_inside whole c.args.total c.args.count k.value c.args.place c.inside.result c.args.rest.now k.part i c.inside.ensures.rest c.inside.ensures.containers in
+    let first = entries_inside whole c.args.total c.args.count k.value c.args.place c.first_place.result c.args.rest.now k.part i c.first_place.ensures.rest c.first_place.ensures.containers in
     let a = c.in-Ok.ensures whole c.args.total i.0 first i.2 in
     let reserved = subst (λ (x : Bool). AreReserved (map (λ (j : KnownEntry whole c.args.total). j.member) a.known) x) c.in-Ok-true.field-0-test
     (c.in-Ok-true.ensures whole c.args.total a.known (c.deref.ensures.value ∙ a.are)) in
@@ -23,13 +23,13 @@ returns-in-Ok-true g c = λ whole w n k i.
 
 pub returns-in-Err-are_reserved : goal.returns-in-Err-are_reserved
 returns-in-Err-are_reserved g c = λ whole w n k i.
-    let first = entries_inside whole c.args.total c.args.count k.value c.args.place c.inside.result c.args.rest.now k.part i c.inside.ensures.rest c.inside.ensures.containers in
+    let first = entries_inside whole c.args.total c.args.count k.value c.args.place c.first_place.result c.args.rest.now k.part i c.first_place.ensures.rest c.first_place.ensures.containers in
     let a = c.in-Ok.ensures whole c.args.total i.0 first i.2 in
     output_error whole c.in-Err-are_reserved.error (c.in-Err-are_reserved.ensures whole c.args.total a.known (c.deref.ensures.value ∙ a.are))
 
 pub returns : goal.returns
 returns g c = λ whole w n k i.
-    let first = entries_inside whole c.args.total c.args.count k.value c.args.place c.inside.result c.args.rest.now k.part i c.inside.ensures.rest c.inside.ensures.containers in
+    let first = entries_inside whole c.args.total c.args.count k.value c.args.place c.first_place.result c.args.rest.now k.part i c.first_place.ensures.rest c.first_place.ensures.containers in
     let a = c.in-Ok.ensures whole c.args.total i.0 first i.2 in
     let free = subst (λ (x : Bool). AreReserved (map (λ (j : KnownEntry whole c.args.total). j.member) a.known) x) c.in-Ok-false.field-0-test
     (c.in-Ok-false.ensures whole c.args.total a.known (c.deref.ensures.value ∙ a.are)) in

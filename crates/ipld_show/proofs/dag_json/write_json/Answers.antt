@@ -17,27 +17,27 @@ pub returns-in-Ok-None : goal.returns-in-Ok-None
 returns-in-Ok-None g c = λ d behind b.
     let r = c.loop.invariant d behind b in
     let wrote = c.in-Ok-write_value.ensures d r.text r.left r.coming in
-    let fs = reverse c.next_place.new.frames.items in
+    let fs = reverse c.next_value_place.new.frames.items in
     let total = length c.args.value.now in
     let mid = g.W.Write.contents c.write_value.new.writer in
-    let new = g.W.Write.contents c.next_place.new.writer in
+    let new = g.W.Write.contents c.next_value_place.new.writer in
     let l = subst (λ x. Leads d total fs x (r.text ++ wrote.text) wrote.left mid new) c.in-Ok-None.field-0-is (c.in-Ok-None.ensures d total (r.text ++ wrote.text) wrote.left wrote.behind) in
     running_last d total _ _ fs _ _ _ _ _ mid new _ r wrote l
 
-pub returns-in-Err-next_place : goal.returns-in-Err-next_place
-returns-in-Err-next_place g c = λ d behind b.
+pub returns-in-Err-next_value_place : goal.returns-in-Err-next_value_place
+returns-in-Err-next_value_place g c = λ d behind b.
     let r = c.loop.invariant d behind b in
     let wrote = c.in-Ok-write_value.ensures d r.text r.left r.coming in
-    output_error d c.in-Err-next_place.error (c.in-Err-next_place.ensures d (length c.args.value.now) (r.text ++ wrote.text) wrote.left wrote.behind)
+    output_error d c.in-Err-next_value_place.error (c.in-Err-next_value_place.ensures d (length c.args.value.now) (r.text ++ wrote.text) wrote.left wrote.behind)
 
 pub loop-preserved : goal.loop-preserved
 loop-preserved g c = λ d behind b.
     let r = c.loop.invariant d behind b in
     let wrote = c.in-Ok-write_value.ensures d r.text r.left r.coming in
-    let fs = reverse c.next_place.new.frames.items in
+    let fs = reverse c.next_value_place.new.frames.items in
     let total = length c.args.value.now in
     let mid = g.W.Write.contents c.write_value.new.writer in
-    let new = g.W.Write.contents c.next_place.new.writer in
+    let new = g.W.Write.contents c.next_value_place.new.writer in
     let l = subst (λ x. Leads d total fs x (r.text ++ wrote.text) wrote.left mid new) c.in-Ok-Some.field-0-is (c.in-Ok-Some.ensures d total (r.text ++ wrote.text) wrote.left wrote.behind) in
     running_next d total _ _ fs _ _ c.in-Ok-Some.next _ _ _ mid new _ _ r wrote l (omega arith)
 

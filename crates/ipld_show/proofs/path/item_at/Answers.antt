@@ -7,7 +7,7 @@ use Rattle.ipld_show.proofs.path.item_at.Goals as goal
 
 pub returns-then-index-items : goal.returns-then-index-items
 returns-then-index-items c = λ ds behind g count e.
-    finds_none (item_numbered (number_of c.args.segment.now) ds) (past_items (number_of c.args.segment.now) c.in-Some.index ds (sym c.parsed.ensures ∙ c.in-Some.is) (omega arith))
+    finds_none (item_numbered (number_of c.args.segment.now) ds) (past_items (number_of c.args.segment.now) c.in-Some.index ds (sym c.parse_index.ensures ∙ c.in-Some.is) (omega arith))
 
 pub loop-left-init : goal.loop-left-init
 loop-left-init c = λ ds behind g count e.
@@ -32,4 +32,4 @@ returns c = λ ds behind g count e.
     let sought = item_at c.in-Some.index ds in
     let h = item_here c.loop-left.rest.now behind c.loop-left.left sought (c.loop-left.invariant ds behind g count e) (omega arith) in
     finds_value (item_numbered (number_of c.args.segment.now) ds) h.0 c.loop-left.rest h.1
-    (ap (λ o. item_numbered o ds) (sym c.parsed.ensures ∙ c.in-Some.is) ∙ h.2) h.3
+    (ap (λ o. item_numbered o ds) (sym c.parse_index.ensures ∙ c.in-Some.is) ∙ h.2) h.3

@@ -27,17 +27,17 @@ loop-part-preserved c =
           (c.in-Ok.ensures.exact w.reached.inner w.reached.more w.reached.begins),
     )
 
-pub returns-in-Ok-enter : goal.returns-in-Ok-enter
-returns-in-Ok-enter c = λ d behind b.
+pub returns-in-Ok-enter_segment : goal.returns-in-Ok-enter_segment
+returns-in-Ok-enter_segment c = λ d behind b.
     let none = (rw c.in_default.is at c.split_once.ensures.byte) (omega arith) (λ w o h. h) in
     let w = c.loop-part.invariant.2 d behind b in
     no_link_at_end d c.args.path.now c.loop-part.value.now c.loop-part.rest.now c.loop-part.before w none (c.loop-part.before + length (parts_in (c.loop-part.rest.now ∷ [])))
-    c.in-Ok-enter.field-0 (c.in-Ok-enter.ensures.exact w.reached.inner w.reached.more w.reached.begins)
+    c.in-Ok-enter_segment.field-0 (c.in-Ok-enter_segment.ensures.exact w.reached.inner w.reached.more w.reached.begins)
 
-pub returns-in-Err-enter : goal.returns-in-Err-enter
-returns-in-Err-enter c = λ d behind b.
+pub returns-in-Err-enter_segment : goal.returns-in-Err-enter_segment
+returns-in-Err-enter_segment c = λ d behind b.
     let none = (rw c.in_default.is at c.split_once.ensures.byte) (omega arith) (λ w o h. h) in
     let w = c.loop-part.invariant.2 d behind b in
     link_at_end d c.args.path.now c.loop-part.value.now c.loop-part.rest.now c.loop-part.before w none (c.loop-part.before + length (parts_in (c.loop-part.rest.now ∷ [])))
-    c.in-Err-enter.error c.link_or-in-Err-enter.result (c.in-Err-enter.ensures.exact w.reached.inner w.reached.more w.reached.begins)
-    (c.link_or-in-Err-enter.ensures w.reached.inner w.reached.more w.reached.begins)
+    c.in-Err-enter_segment.error c.link_or-in-Err-enter_segment.result (c.in-Err-enter_segment.ensures.exact w.reached.inner w.reached.more w.reached.begins)
+    (c.link_or-in-Err-enter_segment.ensures w.reached.inner w.reached.more w.reached.begins)

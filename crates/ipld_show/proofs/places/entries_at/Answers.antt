@@ -16,15 +16,15 @@ returns-in_default c = λ whole total es h n.
     absurd (no_key_error t.key c.loop.place.rest.now (encoding t.value ++ (entries_encoding t.others ++ t.holds.mid)) t.holds.are_entries.0 (begins_with_key whole total es c.loop.place c.loop.entries.items left t)
     c.in_default.field-0 c.in_default.ensures.rejected)
 
-pub returns-in_default-behind : goal.returns-in_default-behind
-returns-in_default-behind c = λ whole total es h n.
+pub returns-in_default-after_item : goal.returns-in_default-after_item
+returns-in_default-after_item c = λ whole total es h n.
     let left = c.args.count - c.loop.counter in
     let t = next_entry whole total es c.loop.place c.loop.entries.items left (c.loop.invariant whole total es h n) (omega arith) in
     let k = key_is t.key c.loop.place.rest.now (encoding t.value ++ (entries_encoding t.others ++ t.holds.mid)) t.holds.are_entries.0 (begins_with_key whole total es c.loop.place c.loop.entries.items left t)
     c.in-Ok.key.now c.in-Ok.rest.now c.in-Ok.ensures.found in
     let held = value_held whole total es c.loop.place c.loop.entries.items left t (record { rest = c.in-Ok.rest; containers = c.loop.place.containers }) k.1 refl in
-    let b = c.behind.ensures t.value (entries_encoding t.others ++ t.holds.mid) (entries_extents t.others ++ t.holds.post) held in
-    absurd (no_behind c.behind.result (entries_encoding t.others ++ t.holds.mid) (entries_extents t.others ++ t.holds.post) b c.in_default-behind.not-Some)
+    let b = c.after_item.ensures t.value (entries_encoding t.others ++ t.holds.mid) (entries_extents t.others ++ t.holds.post) held in
+    absurd (no_behind c.after_item.result (entries_encoding t.others ++ t.holds.mid) (entries_extents t.others ++ t.holds.post) b c.in_default-after_item.not-Some)
 
 pub loop-preserved : goal.loop-preserved
 loop-preserved c = λ whole total es h n.

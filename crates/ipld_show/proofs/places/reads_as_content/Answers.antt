@@ -19,7 +19,7 @@ pub returns-in-Ok-entries_at : goal.returns-in-Ok-entries_at
 returns-in-Ok-entries_at c = λ whole total d p.
     let i = head_is d c.args.place.rest.now p.mid p.holds.begins c.in-Ok.head c.in-Ok.rest.now c.in-Ok.ensures.found in
     let m : IsHeadOf (begin.Map c.in-Map.count) d c.in-Ok.rest.now p.mid = subst (λ h. IsHeadOf h d c.in-Ok.rest.now p.mid) c.in-Map.is i in
-    let first = entries_inside whole total c.in-Map.count d c.args.place c.inside.result c.in-Ok.rest.now p m c.inside.ensures.rest c.inside.ensures.containers in
+    let first = entries_inside whole total c.in-Map.count d c.args.place c.first_place.result c.in-Ok.rest.now p m c.first_place.ensures.rest c.first_place.ensures.containers in
     let a = c.in-Ok-entries_at.ensures whole total m.0 first m.2 in
     subst (λ x. ReadsAsContent x c.begin_with_bytes.result) (sym m.1) (_, a.in_order, c.begin_with_bytes.ensures whole total a.known (c.deref.ensures.value ∙ a.are))
 
@@ -27,7 +27,7 @@ pub returns-in-Err : goal.returns-in-Err
 returns-in-Err c = λ whole total d p.
     let i = head_is d c.args.place.rest.now p.mid p.holds.begins c.in-Ok.head c.in-Ok.rest.now c.in-Ok.ensures.found in
     let m : IsHeadOf (begin.Map c.in-Map.count) d c.in-Ok.rest.now p.mid = subst (λ h. IsHeadOf h d c.in-Ok.rest.now p.mid) c.in-Map.is i in
-    let first = entries_inside whole total c.in-Map.count d c.args.place c.inside.result c.in-Ok.rest.now p m c.inside.ensures.rest c.inside.ensures.containers in
+    let first = entries_inside whole total c.in-Map.count d c.args.place c.first_place.result c.in-Ok.rest.now p m c.first_place.ensures.rest c.first_place.ensures.containers in
     c.in-Err.ensures whole total m.0 first m.2
 
 pub returns-in_default-head : goal.returns-in_default-head

@@ -69,8 +69,8 @@ returns-in-Ok-None g c = λ d behind b.
     let v = subst (λ x. Leaves after lines c.leave.new.levels.items x mid newer) c.in-Ok-None.field-0-is (c.in-Ok-None.ensures after lines o) in
     ended_all (lines_of 0 None d) old newer (ended_both (lines_of 0 None d) lines [] old mid newer e v)
 
-pub returns-in-Err-next_place : goal.returns-in-Err-next_place
-returns-in-Err-next_place g c = λ d behind b.
+pub returns-in-Err-next_line_place : goal.returns-in-Err-next_line_place
+returns-in-Err-next_line_place g c = λ d behind b.
     let key = option_map (λ k. k.now) c.loop-head.key in
     let ls = reverse c.loop-head.levels.items in
     let old = g.W.Write.contents c.args.writer.now in
@@ -90,7 +90,7 @@ returns-in-Err-next_place g c = λ d behind b.
     let o = subst (λ xs. Open xs after lines) (sym c.in_ok-enter.ensures) (opened_item d rest key ls old new r head after w) in
     let newer = g.W.Write.contents c.leave.new.writer in
     let v = subst (λ x. Leaves after lines c.leave.new.levels.items x mid newer) c.in-Ok-Some.field-0-is (c.in-Ok-Some.ensures after lines o) in
-    absurd (c.in-Err-next_place.ensures.exact (length v.0) v.3.0 v.3.2 v.3.3)
+    absurd (c.in-Err-next_line_place.ensures.exact (length v.0) v.3.0 v.3.2 v.3.3)
 
 pub loop-head-preserved : goal.loop-head-preserved
 loop-head-preserved g c = λ d behind b.
@@ -113,6 +113,6 @@ loop-head-preserved g c = λ d behind b.
     let o = subst (λ xs. Open xs after lines) (sym c.in_ok-enter.ensures) (opened_item d rest key ls old new r head after w) in
     let newer = g.W.Write.contents c.leave.new.writer in
     let v = subst (λ x. Leaves after lines c.leave.new.levels.items x mid newer) c.in-Ok-Some.field-0-is (c.in-Ok-Some.ensures after lines o) in
-    let comes = c.in-Ok-next_place.ensures.exact (length v.0) v.3.0 v.3.2 v.3.3 in
-    subst (λ xs. Going d c.in-Ok-next_place.place.now (option_map (λ k. k.now) c.in-Ok-next_place.name) xs old newer) (sym v.2)
-    (going_next d lines v.1 c.in-Ok-Some.level v.0 after (c.in-Ok-next_place.name, c.in-Ok-next_place.place) old mid newer e v.4 v.3 comes)
+    let comes = c.in-Ok-next_line_place.ensures.exact (length v.0) v.3.0 v.3.2 v.3.3 in
+    subst (λ xs. Going d c.in-Ok-next_line_place.place.now (option_map (λ k. k.now) c.in-Ok-next_line_place.name) xs old newer) (sym v.2)
+    (going_next d lines v.1 c.in-Ok-Some.level v.0 after (c.in-Ok-next_line_place.name, c.in-Ok-next_line_place.place) old mid newer e v.4 v.3 comes)

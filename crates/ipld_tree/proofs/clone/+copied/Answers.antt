@@ -7,8 +7,8 @@ use Rattle.ipld_tree.proofs.Copying.{copied_all}
 use Rattle.ipld_tree.proofs.Entries.{Entry, copied_more}
 use Rattle.ipld_tree.proofs.clone.+copied.Goals as goal
 
-pub copied_map-loop-key-preserved : goal.copied_map-loop-key-preserved
-copied_map-loop-key-preserved t c =
+pub copy_map-loop-key-preserved : goal.copy_map-loop-key-preserved
+copy_map-loop-key-preserved t c =
     let l = c.loop-key in
     let done = l.invariant.done in
     let e : Entry = (c.in-Some.key.now, c.in-Some.member.now) in
@@ -22,7 +22,7 @@ copied_map-loop-key-preserved t c =
           (c.in_ok-put-in-Ok.ensures.ok ∙ ap (λ k. put k (tree_of c.in-Ok.copy) (members_so_far l.copies)) (c.in_ok-name.ensures.ok ∙ c.deref.ensures));
     }
 
-pub copied_list-returns : goal.copied_list-returns
-copied_list-returns t c =
+pub copy_list-returns : goal.copy_list-returns
+copy_list-returns t c =
     copied_all c.deref-item-items.result.now _ c.finish.result _ c.finish.ensures c.loop-item.invariant.so_far c.loop-item-test.false
     ∙ ap (λ xs. list (items_of xs)) c.deref-item-items.ensures.value

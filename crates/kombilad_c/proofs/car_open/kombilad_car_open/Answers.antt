@@ -25,7 +25,7 @@ returns-in-Ok-clause-exact c =
         numbered = c.number_of.ensures ∙ ap version_number version;
         ends = c.end_of.ensures ∙ ap (λ v. bounds_end v len c.end.result) version ∙ ap (bounds_end reader.version len) c.end.ensures;
       },
-      subst (λ content. Fills content c.list.result c.args.roots.now c.list.new.buffer c.list.new.needed) listed c.list.ensures,
+      subst (λ content. Fills content c.fill_roots.result c.args.roots.now c.fill_roots.new.buffer c.fill_roots.new.needed) listed c.fill_roots.ensures,
       refl,
     )
 
@@ -39,7 +39,7 @@ returns-in-Ok-clause-only c = λ version front rest links start end parts is wit
     inr (
       same_bounds _ _ _ _ _ _ (c.number_of.ensures ∙ ap version_number found) (c.offset.ensures ∙ opened.stands)
           (c.end_of.ensures ∙ ap (λ v. bounds_end v len c.end.result) found ∙ ap (bounds_end version len) (c.end.ensures ∙ opened.ends)),
-      subst (λ content. Fills content c.list.result c.args.roots.now c.list.new.buffer c.list.new.needed) listed c.list.ensures,
+      subst (λ content. Fills content c.fill_roots.result c.args.roots.now c.fill_roots.new.buffer c.fill_roots.new.needed) listed c.fill_roots.ensures,
     )
 
 pub returns-in-Err-clause-only : goal.returns-in-Err-clause-only

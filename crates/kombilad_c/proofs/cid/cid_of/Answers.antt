@@ -1,5 +1,5 @@
 use Rattle.ipld_cid.specs.LinkOf.{link_of, valid_link}
-use Rattle.cid_text.proofs.Reading.{one_link}
+use Rattle.ipld_cid_text.proofs.Reading.{one_link}
 use Rattle.kombilad_c.proofs.Base32Texts.{base32_reads}
 use Rattle.kombilad_c.proofs.cid.cid_of.Goals as goal
 

@@ -7,8 +7,8 @@ use Rattle.ipld_cid.specs.Base32.{base32}
 use Rattle.ipld_cid.specs.Text.{text_of}
 use Rattle.ipld_cid.proofs.Encodings.{read_is_encoded, one_encoding}
 use Rattle.ipld_cid.proofs.Texts.{text_of_v1}
-use Rattle.cid_text.specs.declared.base.Base.TheVariants.{Base32Lower}
-use Rattle.cid_text.specs.Text.{IsTextIn}
+use Rattle.ipld_cid_text.specs.declared.base.Base.TheVariants.{Base32Lower}
+use Rattle.ipld_cid_text.specs.Text.{IsTextIn}
 use Rattle.kombilad_c.specs.Fill.{Fills, IsUntouched}
 use Rattle.kombilad_c.specs.Cid.{WritesText}
 use Rattle.kombilad_c.proofs.Base32Texts.{text_of-is}

@@ -9,8 +9,8 @@ use Rattle.kombilad_c.specs.Fill.{Fills}
 use Rattle.kombilad_c.proofs.LinkRecords.{cut_records}
 use Rattle.kombilad_c.proofs.links.kombilad_links.Goals as goal
 
-pub list-requires : goal.list-requires
-list-requires c =
+pub fill_links-requires : goal.fill_links-requires
+fill_links-requires c =
     let cuts = cut_records c.args.block.now c.in-Ok.found.items c.in-Ok.ensures.exact.0 in
     subst (λ (ps : List LinkPosition). All (λ p. length (cut (position_of p) c.args.block.now) ≤ 87) ps) (sym c.deref.ensures.value) cuts.2.1
 
@@ -19,4 +19,4 @@ returns-in-Ok c =
     let exact = c.in-Ok.ensures.exact in
     let cuts = cut_records c.args.block.now c.in-Ok.found.items exact.0 in
     let records = ap (map (λ p. record_with (cut (position_of p) c.args.block.now))) c.deref.ensures.value ∙ cuts.2.0 in
-    inl (record { within = exact.1; same = refl }, cuts.0, cuts.1, subst (λ content. Fills content c.list.result c.args.links.now c.list.new.buffer c.list.new.needed) records c.list.ensures)
+    inl (record { within = exact.1; same = refl }, cuts.0, cuts.1, subst (λ content. Fills content c.fill_links.result c.args.links.now c.fill_links.new.buffer c.fill_links.new.needed) records c.fill_links.ensures)

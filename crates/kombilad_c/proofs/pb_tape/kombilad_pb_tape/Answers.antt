@@ -24,7 +24,7 @@ returns-then-tape-clause-exact c =
       spans = c.in-Ok.spans;
       are = c.in-Ok.ensures.places;
       refer = some;
-      fills = subst (λ (xs : List TapeEntry). Fills xs c.list.result c.args.entries.now c.list.new.buffer c.list.new.needed) c.deref.ensures.value c.list.ensures;
+      fills = subst (λ (xs : List TapeEntry). Fills xs c.fill_entries.result c.args.entries.now c.fill_entries.new.buffer c.fill_entries.new.needed) c.deref.ensures.value c.fill_entries.ensures;
       same = refl;
     })
 

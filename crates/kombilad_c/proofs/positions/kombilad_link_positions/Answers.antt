@@ -10,4 +10,4 @@ pub returns-in-Ok : goal.returns-in-Ok
 returns-in-Ok c =
     let exact = c.in-Ok.ensures.exact in
     let spans = ap (map (λ position. span_of (position_of position))) c.deref.ensures.value ∙ sym (map-map span_of position_of c.in-Ok.found.items) in
-    inl (record { within = exact.1; same = refl }, map position_of c.in-Ok.found.items, exact.0, subst (λ content. Fills content c.list.result c.args.positions.now c.list.new.buffer c.list.new.needed) spans c.list.ensures)
+    inl (record { within = exact.1; same = refl }, map position_of c.in-Ok.found.items, exact.0, subst (λ content. Fills content c.fill_positions.result c.args.positions.now c.fill_positions.new.buffer c.fill_positions.new.needed) spans c.fill_positions.ensures)

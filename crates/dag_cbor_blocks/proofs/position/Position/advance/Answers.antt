@@ -12,7 +12,7 @@ returns-then-map-gt0 c =
     let old = c.args.self.now in
     let map = c.in-Map.map in
     let out = inside old.outer.items [] in
-    key_read cid_laws (frames_of old) out map.pairs c.key.new.self.pairs (seen_in map.keys) (seen_in c.key.new.self.keys) old.rest.now c.in_ok-key-in-Map.rest.now _
+    key_read cid_laws (frames_of old) out map.pairs c.read_key.new.self.pairs (seen_in map.keys) (seen_in c.read_key.new.self.keys) old.rest.now c.in_ok-key-in-Map.rest.now _
     (length old.outer.items) (ap (λ l. framed l out) c.in-Map.is) (λ floats. c.in_ok-key-in-Map.ensures.1 floats out)
 
 pub returns-then-items-gt0 : goal.returns-then-items-gt0

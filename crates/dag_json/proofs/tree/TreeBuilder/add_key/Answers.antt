@@ -16,7 +16,7 @@ pub returns-in-Ok : goal.returns-in-Ok
 returns-in-Ok c =
     let b = c.args.self.now in
     let at = c.if-not-is_at_key.false in
-    reads_so ⊥ (building.key_at (string_bytes c.in-Ok.key) (building.state_of b.tree)) (building.state_of c.put_key.new.self) b.depth b.values (key_at (state_of b) c.args.key.now) c.put_key.result c.read.result
+    reads_so ⊥ (building.key_at (string_bytes c.in-Ok.key) (building.state_of b.tree)) (building.state_of c.put_key.new.self) b.depth b.values (key_at (state_of b) c.args.key.now) c.put_key.result c.read_error_of.result
     (key_new b c.args.key.now (sym c.is_at_key.ensures ∙ cc) (sym c.has_key.ensures ∙ c.if-has_key.false)
     ∙ ap (λ k. counted b.depth b.values (building.key_at k (building.state_of b.tree))) (sym c.in-Ok.ensures.ok))
-    (key_stands b.depth b.values c.put_key.new.self (string_bytes c.in-Ok.key) (building.state_of b.tree)) c.put_key.ensures c.read.ensures
+    (key_stands b.depth b.values c.put_key.new.self (string_bytes c.in-Ok.key) (building.state_of b.tree)) c.put_key.ensures c.read_error_of.ensures

@@ -11,6 +11,6 @@ pub returns : goal.returns
 returns c =
     let old = c.args.self.now in
     let mid = c.begin.new.self in
-    reads_so (Unit {0}) (open_at (in_key no_members ∷ levels_of mid)) (building.state_of c.begin_map.new.self) mid.depth mid.values (begun c.args.limits.now (state_of old) (in_key no_members)) c.begin_map.result c.read.result
+    reads_so (Unit {0}) (open_at (in_key no_members ∷ levels_of mid)) (building.state_of c.begin_map.new.self) mid.depth mid.values (begun c.args.limits.now (state_of old) (in_key no_members)) c.begin_map.result c.read_error_of.result
     (entered c.args.limits.now old mid (in_key no_members) c.in_ok-begin.ensures)
-    (open_stands mid.depth mid.values (building.state_of c.begin_map.new.self) (in_key no_members ∷ levels_of mid)) c.begin_map.ensures c.read.ensures
+    (open_stands mid.depth mid.values (building.state_of c.begin_map.new.self) (in_key no_members ∷ levels_of mid)) c.begin_map.ensures c.read_error_of.ensures

@@ -11,5 +11,5 @@ pub returns : goal.returns
 returns c =
     let b = c.args.self.now in
     let t = tree_of c.args.value in
-    reads_so (PutsValue (levels_of b)) (reading.completed t (levels_of b)) (building.state_of c.put.new.self) b.depth b.values (completed t b.depth b.values (levels_of b)) c.put.result c.read.result
-    (completed_so t b.depth b.values (levels_of b)) (put_stands b.depth b.values c.put.new.self t (levels_of b)) c.put.ensures c.read.ensures
+    reads_so (PutsValue (levels_of b)) (reading.completed t (levels_of b)) (building.state_of c.put.new.self) b.depth b.values (completed t b.depth b.values (levels_of b)) c.put.result c.read_error_of.result
+    (completed_so t b.depth b.values (levels_of b)) (put_stands b.depth b.values c.put.new.self t (levels_of b)) c.put.ensures c.read_error_of.ensures

@@ -26,8 +26,8 @@ returns-in-Err-clause-why g c =
     let reads = g.T.Deserialize.reads in
     let t = tree_of c.args.value in
     let why = no_map t c.in-Err.error c.in-Err.ensures.content in
-    other_kind Map entries_in (read_entries any_text reads) (EntriesFail reads g.T.Explain.fails) t (failure_of c.here.result) (why.0, c.here.ensures.error ∙ why.1)
-    c.here.ensures.path (sym (c.here.ensures.found ∙ c.kind-found.ensures)) c.here.ensures.expected c.here.ensures.wrong
+    other_kind Map entries_in (read_entries any_text reads) (EntriesFail reads g.T.Explain.fails) t (failure_of c.at_value.result) (why.0, c.at_value.ensures.error ∙ why.1)
+    c.at_value.ensures.path (sym (c.at_value.ensures.found ∙ c.kind-found.ensures)) c.at_value.ensures.expected c.at_value.ensures.wrong
 
 pub returns-in-Ok-clause-error : goal.returns-in-Ok-clause-error
 returns-in-Ok-clause-error g c =
@@ -38,4 +38,4 @@ returns-in-Ok-clause-error g c =
 pub returns-in-Err-clause-error : goal.returns-in-Err-clause-error
 returns-in-Err-clause-error g c =
     let why = no_map (tree_of c.args.value) c.in-Err.error c.in-Err.ensures.content in
-    inl (why.0, c.here.ensures.error ∙ why.1)
+    inl (why.0, c.at_value.ensures.error ∙ why.1)

@@ -21,8 +21,8 @@ returns-in-Err-clause-why g c =
     let reads = g.T.Deserialize.reads in
     let t = tree_of c.args.value in
     let why = no_list t c.in-Err.error c.in-Err.ensures in
-    other_kind List list_in (read_all reads) (ItemsFail reads g.T.Explain.fails 0) t (failure_of c.here.result) (why.0, c.here.ensures.error ∙ why.1)
-    c.here.ensures.path (sym (c.here.ensures.found ∙ c.kind-found.ensures)) c.here.ensures.expected c.here.ensures.wrong
+    other_kind List list_in (read_all reads) (ItemsFail reads g.T.Explain.fails 0) t (failure_of c.at_value.result) (why.0, c.at_value.ensures.error ∙ why.1)
+    c.at_value.ensures.path (sym (c.at_value.ensures.found ∙ c.kind-found.ensures)) c.at_value.ensures.expected c.at_value.ensures.wrong
 
 pub returns-in-Ok-clause-error : goal.returns-in-Ok-clause-error
 returns-in-Ok-clause-error g c =
@@ -33,4 +33,4 @@ returns-in-Ok-clause-error g c =
 pub returns-in-Err-clause-error : goal.returns-in-Err-clause-error
 returns-in-Err-clause-error g c =
     let why = no_list (tree_of c.args.value) c.in-Err.error c.in-Err.ensures in
-    inl (why.0, c.here.ensures.error ∙ why.1)
+    inl (why.0, c.at_value.ensures.error ∙ why.1)

@@ -13,9 +13,9 @@ returns-in-Some-2-clause-why g c =
     let t = tree_of c.in-Some.item in
     part_fails reads fails g.P.Parts.reads g.P.Parts.parts c.args.expected c.args.found c.args.index (left c.args.items) (left c.next_item.new.items) t
     (item_taken c.in_ok-item.field-0 (left c.args.items) (left c.next_item.new.items) c.in-Some.item c.in_ok-item.ensures c.in-Some.is)
-    (failure_of c.in-Some-2.explanation) (failure_of c.in_ok-under.field-0)
+    (failure_of c.in-Some-2.explanation) (failure_of c.in_ok-within_segment.field-0)
     (subst (λ o. Explains reads fails t (option_map failure_of o)) c.in-Some-2.is c.in_ok-explanation.ensures.why)
-    c.in_ok-under.ensures
+    c.in_ok-within_segment.ensures
 
 pub returns-clause-why : goal.returns-clause-why
 returns-clause-why g c =

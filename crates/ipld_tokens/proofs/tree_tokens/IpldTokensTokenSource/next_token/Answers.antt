@@ -5,27 +5,27 @@ use Rattle.ipld_tokens.proofs.Cursors.{all_left-append, tokens_yielded, slots_yi
 use Rattle.ipld_tokens.proofs.HintLemmas.{counted_more}
 use Rattle.ipld_tokens.proofs.tree_tokens.IpldTokensTokenSource.next_token.Goals as goal
 
-pub put-requires : goal.put-requires
-put-requires c =
+pub push_cursors-requires : goal.push_cursors-requires
+push_cursors-requires c =
     fits c.args.self.now.stack.items c.pop.new.self.items c.in-Some.cursor c.in-Ok.step (vec_capacity c.pop.new.self) c.in-Some.ensures.items c.in-Ok.ensures.steps
     (omega (arith, c.args.self.now.capacity, c.pop.ensures.capacity))
 
 pub invariant_of-self-in-Ok : goal.invariant_of-self-in-Ok
 invariant_of-self-in-Ok c = record {
-  capacity = rw c.put.ensures.items
+  capacity = rw c.push_cursors.ensures.items
       (omega (
         arith,
         slots_yielded c.args.self.now.stack.items c.pop.new.self.items c.in-Some.cursor c.in-Ok.step c.in-Some.ensures.items c.in-Ok.ensures.steps,
         c.args.self.now.capacity,
         c.pop.ensures.capacity,
-        c.put.ensures.capacity,
+        c.push_cursors.ensures.capacity,
       ));
 }
 
 pub returns-in-Ok-clause-next : goal.returns-in-Ok-clause-next
 returns-in-Ok-clause-next c =
     tokens_yielded c.args.self.now.stack.items c.pop.new.self.items c.in-Some.cursor c.in-Ok.step c.in-Some.ensures.items c.in-Ok.ensures.steps
-    ∙ ap (λ cs. erase c.in-Ok.step.token ∷ all_left cs) (sym c.put.ensures.items)
+    ∙ ap (λ cs. erase c.in-Ok.step.token ∷ all_left cs) (sym c.push_cursors.ensures.items)
 
 pub returns-in-Ok-clause-counted : goal.returns-in-Ok-clause-counted
 returns-in-Ok-clause-counted c =

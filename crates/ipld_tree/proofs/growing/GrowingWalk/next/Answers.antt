@@ -15,8 +15,8 @@ pub returns-in-Some : goal.returns-in-Some
 returns-in-Some c =
     let outer = levels_of c.loop-value.self.outer.items in
     let left = left_of c.advance.new.cursor in
-    taken (levels_in c.args.self.now) (levels_in c.loop-value.self) (outer ++ left ∷ []) (levels_of (cursors_in c.opened.result)) (levels_in c.enter.new.self) c.in-Some.value.now c.loop-value.invariant
-    (outer, left, ap (λ xs. outer ++ xs ∷ []) c.in-Some.ensures, refl) c.opened.ensures.opens (λ h. c.opened.ensures.whole (opened_whole c.opened.result h)) c.in_ok-enter.ensures
+    taken (levels_in c.args.self.now) (levels_in c.loop-value.self) (outer ++ left ∷ []) (levels_of (cursors_in c.cursor_into.result)) (levels_in c.enter.new.self) c.in-Some.value.now c.loop-value.invariant
+    (outer, left, ap (λ xs. outer ++ xs ∷ []) c.in-Some.ensures, refl) c.cursor_into.ensures.opens (λ h. c.cursor_into.ensures.whole (opened_whole c.cursor_into.result h)) c.in_ok-enter.ensures
 
 pub loop-value-preserved : goal.loop-value-preserved
 loop-value-preserved c =

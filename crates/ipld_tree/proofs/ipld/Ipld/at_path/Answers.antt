@@ -19,21 +19,21 @@ looked_up path rest front back tree t found cut so_far is =
 pub returns-in-Ok-None : goal.returns-in-Ok-None
 returns-in-Ok-None c =
     let cut = c.in-Some.ensures.byte (omega arith) (λ w o h. h) in
-    sym (looked_up c.args.path.now c.loop-segment.rest.now c.in-Some.segment.now c.in-Some.more.now (tree_of c.args.self.now) (tree_of c.loop-segment.reached.now) (outcome_of_get c.entered.result) cut c.loop-segment.invariant.1 c.entered.ensures
+    sym (looked_up c.args.path.now c.loop-segment.rest.now c.in-Some.segment.now c.in-Some.more.now (tree_of c.args.self.now) (tree_of c.loop-segment.reached.now) (outcome_of_get c.value_at_segment.result) cut c.loop-segment.invariant.1 c.value_at_segment.ensures
     ∙ ap (λ r. then_in (found_along (segments c.in-Some.more.now)) (outcome_of_get r)) c.in-Ok-None.is
     ∙ ap (λ f. then_in (found_along (segments c.in-Some.more.now)) (Ok (option_map (λ v. tree_of v.now) f))) c.in-Ok-None.field-0-is)
 
 pub returns-in-Err : goal.returns-in-Err
 returns-in-Err c =
     let cut = c.in-Some.ensures.byte (omega arith) (λ w o h. h) in
-    sym (looked_up c.args.path.now c.loop-segment.rest.now c.in-Some.segment.now c.in-Some.more.now (tree_of c.args.self.now) (tree_of c.loop-segment.reached.now) (outcome_of_get c.entered.result) cut c.loop-segment.invariant.1 c.entered.ensures
+    sym (looked_up c.args.path.now c.loop-segment.rest.now c.in-Some.segment.now c.in-Some.more.now (tree_of c.args.self.now) (tree_of c.loop-segment.reached.now) (outcome_of_get c.value_at_segment.result) cut c.loop-segment.invariant.1 c.value_at_segment.ensures
     ∙ ap (λ r. then_in (found_along (segments c.in-Some.more.now)) (outcome_of_get r)) c.in-Err.is)
 
 pub loop-segment-preserved : goal.loop-segment-preserved
 loop-segment-preserved c =
     let cut = c.in-Some.ensures.byte (omega arith) (λ w o h. h) in (
       search rules,
-      looked_up c.args.path.now c.loop-segment.rest.now c.in-Some.segment.now c.in-Some.more.now (tree_of c.args.self.now) (tree_of c.loop-segment.reached.now) (outcome_of_get c.entered.result) cut c.loop-segment.invariant.1 c.entered.ensures
+      looked_up c.args.path.now c.loop-segment.rest.now c.in-Some.segment.now c.in-Some.more.now (tree_of c.args.self.now) (tree_of c.loop-segment.reached.now) (outcome_of_get c.value_at_segment.result) cut c.loop-segment.invariant.1 c.value_at_segment.ensures
           ∙ ap (λ r. then_in (found_along (segments c.in-Some.more.now)) (outcome_of_get r)) c.in-Ok-Some.is
           ∙ ap (λ f. then_in (found_along (segments c.in-Some.more.now)) (Ok (option_map (λ v. tree_of v.now) f))) c.in-Ok-Some.field-0-is,
     )
@@ -41,4 +41,4 @@ loop-segment-preserved c =
 pub returns : goal.returns
 returns c =
     let none = (rw c.in_default.is at c.split_once.ensures.byte) (omega arith) (λ w o h. h) in
-    c.entered-2.ensures ∙ sym (c.loop-segment.invariant.1 ∙ last_step c.loop-segment.rest.now (tree_of c.loop-segment.reached.now) none)
+    c.value_at_segment-2.ensures ∙ sym (c.loop-segment.invariant.1 ∙ last_step c.loop-segment.rest.now (tree_of c.loop-segment.reached.now) none)

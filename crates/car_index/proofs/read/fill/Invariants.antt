@@ -1,8 +1,0 @@
-use Rattle.std.proofs.Common.{◌≡◌, ◌≤◌, length, take}
-use Rattle.std.specs.Io.KnownBytes.{Consumes}
-use Rattle.car_index.proofs.read.fill.Given as goal
-
--- what was filled so far is what was taken
-abbrev pub invariant-loop : goal.invariant-loop
-invariant-loop g l =
-    (length l.buffer ≡ length l.initial.buffer) × (l.filled ≤ length l.buffer) × Consumes (g.R.Read.remaining l.initial.reader) (g.R.Read.remaining l.reader) (take l.filled l.buffer)

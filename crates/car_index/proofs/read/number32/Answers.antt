@@ -1,8 +1,0 @@
-use Rattle.std.proofs.Common.{rules}
-use Rattle.std.proofs.lemmas.Nat.{le_bytes_4}
-use Rattle.car_index.specs.Numbers.{le32}
-use Rattle.car_index.proofs.read.number32.Goals as goal
-
-pub returns : goal.returns
-unfolding le32
-returns c = le_bytes_4 c.args.bytes _ (search rules) (search rules) c.from_le_bytes.ensures

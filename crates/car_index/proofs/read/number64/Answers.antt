@@ -1,8 +1,0 @@
-use Rattle.std.proofs.Common.{rules}
-use Rattle.std.proofs.lemmas.Nat.{le_bytes_8}
-use Rattle.car_index.specs.Numbers.{le64}
-use Rattle.car_index.proofs.read.number64.Goals as goal
-
-pub returns : goal.returns
-unfolding le64
-returns c = le_bytes_8 c.args.bytes _ (search rules) (search rules) c.from_le_bytes.ensures

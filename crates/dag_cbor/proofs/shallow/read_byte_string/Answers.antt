@@ -1,0 +1,7 @@
+use Rattle.dag_cbor.proofs.FrontReads.{bytes_read}
+use Rattle.dag_cbor.proofs.shallow.read_byte_string.Goals as goal
+
+pub returns : goal.returns
+returns c = λ levels.
+    let r = c.in_ok-content in
+    bytes_read levels c.args.length c.args.bytes.now r.content.now r.rest.now c.in_ok-copy.copy r.ensures c.in_ok-copy.ensures.items

@@ -1,0 +1,80 @@
+-- DAG-JSON as a codec (multicodec "dag-json", 0x0129).
+use Rattle.std.specs.Prelude.{◌≡◌, ℕ, if◌then◌else◌, Bool, false, List, length, max, Option, Some, None, Err, option_map, option_and_then}
+use Rattle.std.specs.Result.{result_ok}
+use Rattle.std.specs.Str.{is_utf8}
+use Rattle.ipld_cid.specs.Cid.{Link}
+use Rattle.ipld_codec.specs.Codec.{Failure, memory, reading, writing}
+use Rattle.ipld_tree.specs.Equal.{tree_eq}
+use Rattle.ipld_tree.specs.Tree.{Tree}
+use Rattle.ipld_tree.specs.Walk.{links_of, preorder}
+use Rattle.ipld_tree.specs.declared.limits.Limits.{Limits}
+use Rattle.json.specs.Lex.{tokens}
+use Rattle.dag_json.specs.Offset.{SaysWhere}
+use Rattle.dag_json.specs.ReadContract.{ReadsBytes}
+use Rattle.dag_json.specs.ReadMachine.{read_tokens}
+use Rattle.dag_json.specs.Reserved.{first_reserved, Counts}
+use Rattle.dag_json.specs.Written.{written}
+use Rattle.dag_json.specs.declared.read_error.ReadErrorKind.TheVariants as kind
+use Rattle.dag_json.specs.declared.codec.error.DagJsonCodecError.{DagJsonCodecError}
+use Rattle.dag_json.specs.declared.codec.error.DagJsonCodecError.TheVariants.{Memory, Read, Write, Text, Reserved}
+
+-- limits that no JSON passes that has the tokens of the text
+abbrev pub no_limits : List ℕ → Limits
+no_limits s = record { levels = length (tokens s); values = length (tokens s) }
+
+-- The tree that a block encodes, as reading it finds, or nothing (IPLD DAG-JSON; multicodec table,
+-- 0x0129).
+unfoldable pub decoded : List ℕ → Option Tree
+decoded s = if is_utf8 s then result_ok (read_tokens false (no_limits s) (tokens s)) else None
+
+-- The links of the tree that a block encodes, in the order of its walk.
+abbrev pub links_found : List ℕ → Option (List Link)
+links_found s = option_map links_of (decoded s)
+
+-- the tree is the one that was decoded
+abbrev pub is_decoded : Tree → Option Tree → Bool
+is_decoded t None = false
+is_decoded t (Some u) = tree_eq u t
+
+abbrev pub if_decoded : Tree → List ℕ → Option (List ℕ)
+if_decoded t s = if is_decoded t (decoded s) then Some s else None
+
+-- The text that is written of a tree, if it decodes to the tree, and otherwise nothing. That of the
+-- tree of each `Ipld` does: its strings are UTF-8, its links valid, its integers within 128 bits,
+-- and its keys ascend.
+unfoldable pub codec_text : Tree → Option (List ℕ)
+codec_text t = option_and_then (if_decoded t) (written t)
+
+-- The failure that an error reports, of an allocation, a reader or a writer, or nothing if the
+-- error is in the value or in the block.
+abbrev pub codec_failure : DagJsonCodecError → Option Failure
+codec_failure Memory = Some memory
+codec_failure Read = Some reading
+codec_failure Write = Some writing
+codec_failure (Text error) = None
+codec_failure (Reserved place) = None
+
+-- the limits under which a block is read: as many levels and values as it has bytes, and one value at least; no block of a tree passes them
+abbrev pub limits_of : List ℕ → Limits
+limits_of s = record { levels = length s; values = max (length s) 1 }
+
+-- The error is the one that reading the block comes to, and says at which byte. Of bytes that aren't UTF-8 it says so, and how far they are.
+abbrev pub IsTextError : List ℕ → DagJsonCodecError → Type 0
+IsTextError s (Text e) = (e.kind ≡ kind.Memory → ⊥) × ReadsBytes false (limits_of s) s (Err e) × SaysWhere false (limits_of s) s e
+IsTextError s Memory = ⊥
+IsTextError s Read = ⊥
+IsTextError s Write = ⊥
+IsTextError s (Reserved place) = ⊥
+
+-- the error is the one that reading the bytes comes to that a reader had, where these are known, and else some bytes
+abbrev pub IsTextErrorOf : Option (List ℕ) → DagJsonCodecError → Type 0
+IsTextErrorOf None error = (block : List ℕ) × IsTextError block error
+IsTextErrorOf (Some block) error = IsTextError block error
+
+-- the error says how many values of the tree come before its first reserved map, or is `usize::MAX` where that is more
+abbrev pub IsReservedIn : Tree → DagJsonCodecError → Type 0
+IsReservedIn t (Reserved place) = Counts (first_reserved (preorder t)) (Some place)
+IsReservedIn t Memory = ⊥
+IsReservedIn t Read = ⊥
+IsReservedIn t Write = ⊥
+IsReservedIn t (Text e) = ⊥

@@ -1,0 +1,235 @@
+//! DAG-JSON as a codec.
+
+ghost use Rattle.std.specs.Prelude.{◌≡◌, ◌⊎◌, None, Some, IfOk, IfErr, IsErrAnd, OnOk, IfSome, MatchOption};
+ghost use Rattle.ipld_codec.specs.Codec.{memory, reading, writing, MemoryOr, Writes, IsReadOut};
+ghost use Rattle.ipld_codec.specs.LinkIter.{links_left};
+ghost use Rattle.ipld_tree.specs.Tree.{Tree};
+ghost use Rattle.ipld_tree.specs.TreeOf.{tree_of};
+ghost use Rattle.dag_json.specs.Codec.{decoded, links_found, codec_text, codec_failure, IsTextError, IsTextErrorOf, IsReservedIn};
+
+mod error;
+
+use crate::{DagJsonError, ReadError, ReadErrorKind, from_slice, to_vec};
+pub use error::DagJsonCodecError;
+use ipld_codec::{Codec, LinkIter, Links, RawCodec, RawError, TreeCodec};
+use ipld_tree::{Ipld, Limits};
+use std::alloc::Global;
+use std::io::{BufRead, ErrorKind, Write};
+
+/// DAG-JSON, of which trees are written and read, and blocks have links.
+///
+/// A block is read as people type it, with blanks, escapes and the keys of an object in any order, and written in the one form that a tree has,
+/// as `dag_json` does both. A block within no limits is read: of untrusted input use `from_slice` of `dag_json`, which has them.
+///
+/// Its number, 0x0129, is that of `dag-json` in the table of multicodecs.
+#[derive(Clone, Copy, Debug, PartialEq, Eq)]
+pub struct DagJsonCodec;
+
+// The tree of a block.
+fn decode_block(alloc: Global, bytes: &[u8]) -> Result<Ipld, DagJsonCodecError>
+    ensures ok { IfOk result (λ tree. decoded bytes.now ≡ Some (tree_of tree)) }
+    ensures err { IfErr result (λ error. (error ≡ DagJsonCodecError.Memory)
+        ⊎ ((codec_failure error ≡ None) × (decoded bytes.now ≡ None))) }
+    ensures errors { IfErr result (λ error. (error ≡ DagJsonCodecError.Memory) ⊎ IsTextError bytes.now error) }
+{
+    // No text passes these.
+    let limits = Limits {
+        levels: bytes.len(),
+        values: bytes.len().max(1),
+    };
+    match from_slice(alloc, bytes, &limits) {
+        Ok(tree) => Ok(tree),
+        Err(error) => Err(error_of(error)),
+    }
+}
+
+// The error of a block that isn't read.
+fn error_of(error: ReadError) -> DagJsonCodecError
+    ensures { ((error.kind ≡ ReadErrorKind.Memory) × (result ≡ DagJsonCodecError.Memory))
+        ⊎ ((error.kind ≡ ReadErrorKind.Memory → ⊥) × (result ≡ DagJsonCodecError.Text error)) }
+{
+    match error.kind {
+        ReadErrorKind::Memory => DagJsonCodecError::Memory,
+        _ => DagJsonCodecError::Text(error),
+    }
+}
+
+// The block of a tree.
+fn encode_block(alloc: Global, value: &Ipld) -> Result<Vec<u8>, DagJsonCodecError>
+    ensures ok { IfOk result (λ text. codec_text (tree_of value.now) ≡ Some text.items) }
+    ensures err { IfErr result (λ error. (error ≡ DagJsonCodecError.Memory)
+        ⊎ ((codec_failure error ≡ None) × (codec_text (tree_of value.now) ≡ None))) }
+    ensures errors { IfErr result (λ error. (error ≡ DagJsonCodecError.Memory) ⊎ IsReservedIn (tree_of value.now) error) }
+{
+    // For the proof alone: the keys of each map ascend.
+    value.try_nesting(alloc)?;
+    match to_vec(alloc, value) {
+        Ok(text) => Ok(text),
+        Err(DagJsonError::Memory) => Err(DagJsonCodecError::Memory),
+        Err(DagJsonError::Reserved(place)) => Err(DagJsonCodecError::Reserved(place)),
+    }
+}
+
+// All that the reader still has.
+fn read_block<R: BufRead>(alloc: Global, reader: &mut R) -> Result<Vec<u8>, DagJsonCodecError>
+    ensures ok { IfOk result (λ bytes. IfSome (R.remaining reader.old) (λ block. block ≡ bytes.items)) }
+    ensures read_out { OnOk result (IsReadOut (R.remaining reader.old) (R.remaining reader.new)) }
+    ensures err { IfErr result (λ error. (error ≡ DagJsonCodecError.Memory) ⊎ (error ≡ DagJsonCodecError.Read)) }
+{
+    match RawCodec::decode(alloc, reader) {
+        Ok(Ipld::Bytes(bytes)) => Ok(bytes),
+        Err(RawError::Memory) => Err(DagJsonCodecError::Memory),
+        _ => Err(DagJsonCodecError::Read),
+    }
+}
+
+impl Links for DagJsonCodec {
+    type LinksError = DagJsonCodecError;
+
+    ghost found = { links_found };
+
+    ghost links_failure_of = { codec_failure };
+
+    /// The links of a block, in the order of a walk of its tree. The tree is read for them.
+    ///
+    /// # Errors
+    ///
+    /// `Memory` where an allocation failed, else `Text`, as of [`Codec::decode_from_slice`].
+    fn links(alloc: Global, bytes: &[u8]) -> Result<LinkIter, DagJsonCodecError>
+        ensures ok { IfOk result (λ links. links_found bytes.now ≡ Some (links_left links)) }
+        ensures err { IfErr result (λ error. MatchOption (codec_failure error)
+            (links_found bytes.now ≡ None) (λ failure. failure ≡ memory)) }
+        ensures errors { IfErr result (λ error. (error ≡ DagJsonCodecError.Memory) ⊎ IsTextError bytes.now error) }
+    {
+        let tree = match decode_block(alloc, bytes) {
+            Ok(tree) => tree,
+            Err(error) => return Err(error),
+        };
+        let mut cids = Vec::new(alloc);
+        let gathered = tree.references(alloc, &mut cids);
+        tree.discard();
+        match gathered {
+            Ok(()) => Ok(LinkIter::new(cids)),
+            Err(_) => Err(DagJsonCodecError::Memory),
+        }
+    }
+}
+
+impl Codec<Ipld> for DagJsonCodec {
+    const CODE: u64 = 0x0129;
+
+    type Error = DagJsonCodecError;
+
+    ghost use Rattle.dag_json.specs.Encodes.{EncodesTree};
+    ghost use Rattle.dag_json.specs.Lemmas.CodecLaws.{json_encoded_once, json_decodes_encoded, json_writes_encoded};
+
+    ghost CODE = { 0x0129 };
+
+    ghost Contents = { Tree };
+
+    ghost contents = { tree_of };
+
+    ghost Encodes = { EncodesTree };
+
+    ghost decoded = { decoded };
+
+    ghost writes = { codec_text };
+
+    ghost failure_of = { codec_failure };
+
+    /// Reads the reader to its end, and decodes the block that it gave.
+    ///
+    /// # Errors
+    ///
+    /// - `Read` where the reader failed or did not end.
+    /// - `Memory` where an allocation failed.
+    /// - Else `Text`, the first error of the block. `Write` and `Reserved` are never returned.
+    fn decode<R: BufRead>(alloc: Global, reader: &mut R) -> Result<Ipld, DagJsonCodecError>
+        ensures ok { IfOk result (λ value. IfSome (R.remaining reader.old) (λ block. decoded block ≡ Some (tree_of value))) }
+        ensures read_out { OnOk result (IsReadOut (R.remaining reader.old) (R.remaining reader.new)) }
+        ensures err { IfErr result (λ error. MatchOption (codec_failure error)
+            (IfSome (R.remaining reader.old) (λ block. decoded block ≡ None)) (MemoryOr reading)) }
+        ensures errors { IfErr result (λ error. (error ≡ DagJsonCodecError.Memory)
+            ⊎ ((error ≡ DagJsonCodecError.Read) ⊎ IsTextErrorOf (R.remaining reader.old) error)) }
+    {
+        match read_block(alloc, reader) {
+            Ok(block) => decode_block(alloc, &block),
+            Err(error) => Err(error),
+        }
+    }
+
+    /// Writes the text of a tree. It is held in memory before any of it is written, and it is written at once.
+    ///
+    /// # Errors
+    ///
+    /// - `Reserved` where a map would be read as a link or as bytes, or `Memory`. The writer is then as it was.
+    /// - Of any other tree `Memory`, also where the writer says that it found none, or `Write` where the writer failed. How much was written is
+    ///   then not said.
+    fn encode<W: Write>(
+        alloc: Global,
+        writer: &mut W,
+        value: &Ipld,
+    ) -> Result<(), DagJsonCodecError>
+        ensures ok { OnOk result (Writes (codec_text (tree_of value.now)) (W.contents writer.old) (W.contents writer.new)) }
+        ensures err { IfErr result (λ error. MatchOption (codec_failure error)
+            (codec_text (tree_of value.now) ≡ None) (MemoryOr writing)) }
+        ensures errors { IfErr result (λ error. (error ≡ DagJsonCodecError.Memory)
+            ⊎ ((error ≡ DagJsonCodecError.Write) ⊎ IsReservedIn (tree_of value.now) error)) }
+        ensures rejected { codec_text (tree_of value.now) ≡ None → (writer.new ≡ writer.old)
+            × IsErrAnd result (λ error. (error ≡ DagJsonCodecError.Memory) ⊎ IsReservedIn (tree_of value.now) error) }
+    {
+        let text = match encode_block(alloc, value) {
+            Ok(text) => text,
+            Err(error) => return Err(error),
+        };
+        match writer.write_all(&text) {
+            Ok(()) => Ok(()),
+            Err(error) if error.kind() == ErrorKind::OutOfMemory => Err(DagJsonCodecError::Memory),
+            Err(_) => Err(DagJsonCodecError::Write),
+        }
+    }
+
+    /// Decodes a block, all of the bytes.
+    ///
+    /// # Errors
+    ///
+    /// `Memory` where an allocation failed, else `Text`.
+    fn decode_from_slice(alloc: Global, bytes: &[u8]) -> Result<Ipld, DagJsonCodecError>
+        ensures ok { IfOk result (λ value. decoded bytes.now ≡ Some (tree_of value)) }
+        ensures err { IfErr result (λ error. MatchOption (codec_failure error)
+            (decoded bytes.now ≡ None) (MemoryOr reading)) }
+        ensures errors { IfErr result (λ error. (error ≡ DagJsonCodecError.Memory) ⊎ IsTextError bytes.now error) }
+    {
+        decode_block(alloc, bytes)
+    }
+
+    /// The text of a tree.
+    ///
+    /// # Errors
+    ///
+    /// `Memory` where an allocation failed, else `Reserved`.
+    fn encode_to_vec(alloc: Global, value: &Ipld) -> Result<Vec<u8>, DagJsonCodecError>
+        ensures ok { IfOk result (λ text. codec_text (tree_of value.now) ≡ Some text.items) }
+        ensures err { IfErr result (λ error. MatchOption (codec_failure error)
+            (codec_text (tree_of value.now) ≡ None) (MemoryOr writing)) }
+        ensures errors { IfErr result (λ error. (error ≡ DagJsonCodecError.Memory) ⊎ IsReservedIn (tree_of value.now) error) }
+    {
+        encode_block(alloc, value)
+    }
+
+    ghost encoded_once = { json_encoded_once };
+
+    ghost decodes_encoded = { json_decodes_encoded };
+
+    ghost writes_encoded = { json_writes_encoded };
+}
+
+impl TreeCodec for DagJsonCodec {
+    ghost use Rattle.dag_json.specs.Lemmas.CodecLaws.{json_same_trees, json_links_where_decoded, json_links_of_tree};
+
+    ghost same_trees = { json_same_trees };
+
+    ghost links_where_decoded = { json_links_where_decoded };
+
+    ghost links_of_tree = { json_links_of_tree };
+}

@@ -1,2 +1,0 @@
--- Proofs that the source cites, of laws that a trait asks for: no definitions.
-pub mod CodecLaws

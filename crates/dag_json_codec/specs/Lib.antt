@@ -1,3 +1,0 @@
-pub mod Codec
-pub mod Lemmas
-pub mod Errors

@@ -1,8 +1,0 @@
-use Rattle.std.proofs.Common.{ap, ◌∙◌}
-use Rattle.ipld_tree.specs.TreeOf.{tree_of}
-use Rattle.dag_json_tape.specs.Writing.{written}
-use Rattle.dag_json_tape.proofs.Describing.{described}
-use Rattle.dag_json_tape.proofs.write.tape_of.Goals as goal
-
-pub returns-in-Ok : goal.returns-in-Ok
-returns-in-Ok c = described (tree_of c.args.tree) c.finish.result (c.finish.ensures ∙ c.in-Ok.ensures ∙ ap (written (tree_of c.args.tree)) c.new-writer.ensures)

@@ -1,7 +1,0 @@
-use Rattle.dag_json_tape.proofs.write.tape_of.Given as goal
-
-abbrev pub invariant-loop-container : goal.invariant-loop-container
-invariant-loop-container l = Unit {0}
-
-abbrev pub decreases-loop-container : goal.decreases-loop-container
-decreases-loop-container l = goal.left-loop-container l

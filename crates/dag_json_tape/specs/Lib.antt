@@ -1,4 +1,0 @@
-pub mod Tape
-pub mod Writing
-pub mod Open
-pub mod Reading

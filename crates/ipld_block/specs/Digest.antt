@@ -1,0 +1,23 @@
+-- The digest of a block by a hash function of the multicodec table.
+use Rattle.std.specs.Prelude.{◌≡◌, ◌≢◌, ◌==◌, ℕ, List, Option, Some, None, if◌then◌else◌}
+use Rattle.sha2.specs.Sha256.{sha256}
+use Rattle.sha2.specs.Sha512.{sha512}
+use Rattle.ipld_cid.specs.Cid.{Link}
+use Rattle.ipld_block.specs.declared.block_cid.error.VerifyError.{VerifyError}
+use Rattle.ipld_block.specs.declared.block_cid.error.VerifyError.TheVariants.{UnknownHash, WrongDigest}
+
+-- The digest of a block by the hash function of a code: by 0x12 the block's SHA2-256, by 0x13 its
+-- SHA2-512, and by 0x00 the block itself. It is nothing for other codes, whose functions are not
+-- known (multicodec: `sha2-256`, `sha2-512`, `identity`; FIPS 180-4).
+abbrev pub digest_by : ℕ → List ℕ → Option (List ℕ)
+digest_by code block =
+    if code == 0x12 then Some (sha256 block)
+    else if code == 0x13 then Some (sha512 block)
+    else if code == 0x00 then Some block
+    else None
+
+-- True if the error is why the block is not known to be the CID's: the hash function is unknown, or
+-- the digest is another.
+abbrev pub IsVerifyError : Link → List ℕ → VerifyError → Type 0
+IsVerifyError link block (UnknownHash code) = (code ≡ link.code) × (digest_by link.code block ≡ None)
+IsVerifyError link block WrongDigest = (digest : List ℕ) × (digest_by link.code block ≡ Some digest) × (digest ≢ link.digest)

@@ -1,0 +1,10 @@
+-- The sentence of each error.
+use Rattle.std.specs.Prelude.{ℕ, List, ◌++◌, codes}
+use Rattle.std.specs.Fmt.{decimal}
+use Rattle.ipld_block.specs.declared.block_cid.error.VerifyError.{VerifyError}
+use Rattle.ipld_block.specs.declared.block_cid.error.VerifyError.TheVariants.{UnknownHash, WrongDigest}
+
+-- The sentence of an error.
+abbrev pub sentence_of : VerifyError → List ℕ
+sentence_of (UnknownHash code) = codes "unknown hash code " ++ decimal code
+sentence_of WrongDigest = codes "the block has another digest than the CID"

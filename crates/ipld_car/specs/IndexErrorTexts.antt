@@ -1,0 +1,21 @@
+-- What the errors print.
+use Rattle.std.specs.Prelude.{ℕ, List, ◌++◌, codes, Some, None, false}
+use Rattle.std.specs.declared.option.Option.{Option}
+use Rattle.std.specs.Fmt.{decimal, digits}
+use Rattle.ipld_car.specs.declared.index.error.IndexError.{IndexError}
+use Rattle.ipld_car.specs.declared.index.error.IndexError.TheVariants.{Memory, Read, UnexpectedEnd, Format, Width, Length, NotSorted}
+
+-- the sentence of an error, whatever the options; of an error of a reader and of another format it isn't said
+abbrev pub styled_sentence : IndexError → Option (List ℕ)
+styled_sentence Memory = Some (codes "out of memory")
+styled_sentence (Read error) = None
+styled_sentence UnexpectedEnd = Some (codes "the file ends within the index")
+styled_sentence (Format code) = None
+styled_sentence (Width width) = Some (codes "the index has rows of " ++ (decimal width ++ codes " bytes, and 8 to 72 are read"))
+styled_sentence (Length length) = Some (codes "the index has " ++ (decimal length ++ codes " bytes of rows, which is no number of rows"))
+styled_sentence NotSorted = Some (codes "the index is not sorted")
+
+-- the sentence by `{}`, which is said of another format too, with its code in hexadecimal digits
+abbrev pub sentence_of : IndexError → Option (List ℕ)
+sentence_of (Format code) = Some (codes "the index has the format 0x" ++ (digits 16 false code ++ codes ", and 0x401 alone is read"))
+sentence_of error = styled_sentence error

@@ -1,0 +1,85 @@
+-- What is wrong with bytes that are no index of MultihashIndexSorted whose entries are sorted: the first thing that is, in the order of the bytes. What
+-- stands in front of it is the beginning of such an index. Bytes that end where an index goes on end early, whatever else there might have been.
+use Rattle.std.specs.Prelude.{◌≡◌, ◌≢◌, ◌≤◌, ◌<◌, ◌+◌, ◌*◌, ◌-◌, ◌%◌, ◌^◌, ℕ, nat_lt, if◌then◌else◌, List, [], ◌∷◌, ◌++◌, length, IfSome, Option}
+use Rattle.ipld_car.specs.Index.{row, format_code}
+use Rattle.ipld_car.specs.IndexLayout.{IsOf, IsBucket, IsHash, Parts}
+use Rattle.ipld_car.specs.IndexNumbers.{le32, le64}
+use Rattle.ipld_car.specs.IndexOrder.{AreSorted}
+use Rattle.ipld_car.specs.IndexReading.{AreInOrder, AreRows}
+use Rattle.ipld_car.specs.declared.index.entry.IndexEntry.{IndexEntry}
+use Rattle.ipld_car.specs.declared.index.error.IndexError.{IndexError}
+use Rattle.ipld_car.specs.declared.index.error.IndexError.TheVariants.{Memory, Read, UnexpectedEnd, Format, Width, Length, NotSorted}
+
+-- the error says what is wrong with known bytes, or that an allocation or the reader failed, which says nothing of them
+abbrev pub Blames : (List ℕ → IndexError → Type 0) → Option (List ℕ) → IndexError → Type 0
+Blames IsWrong known Memory = Unit {0}
+Blames IsWrong known (Read error) = Unit {0}
+Blames IsWrong known error = IfSome known (λ bytes. IsWrong bytes error)
+
+-- known bytes end before so many, or an allocation or the reader failed
+abbrev pub EndsWithin : ℕ → Option (List ℕ) → IndexError → Type 0
+EndsWithin count known Memory = Unit {0}
+EndsWithin count known (Read error) = Unit {0}
+EndsWithin count known UnexpectedEnd = IfSome known (λ bytes. length bytes < count)
+EndsWithin count known _ = ⊥
+
+-- the entries aren't sorted, or an allocation failed
+abbrev pub IsUnsorted : List IndexEntry → IndexError → Type 0
+IsUnsorted entries Memory = Unit {0}
+IsUnsorted entries NotSorted = AreSorted entries → ⊥
+IsUnsorted entries _ = ⊥
+
+-- of so many parts the first are right, their entries in order behind those in front of them, and the next is wrong
+pub record FirstWrong (AreParts : ℕ → List ℕ → List IndexEntry → Type 0) (IsWrongPart : List IndexEntry → List ℕ → IndexError → Type 0) (count : ℕ)
+    (before : List IndexEntry) (bytes : List ℕ) (error : IndexError) : Type 0 where
+  pub right : ℕ
+  pub front : List ℕ
+  pub back : List ℕ
+  pub entries : List IndexEntry
+  pub fewer : right < count
+  pub are_parts : AreParts right front entries
+  pub in_order : AreInOrder (before ++ entries)
+  pub is_wrong : IsWrongPart (before ++ entries) back error
+  pub split : bytes ≡ front ++ back
+
+-- what is wrong first with a row: the bytes end within it, or its entry comes before the last of those in front of it
+pub data WrongRow (code digest_len : ℕ) (before : List IndexEntry) : List ℕ → IndexError → Type 0 where
+  row_ends : (bytes : List ℕ) → length bytes < digest_len + 8 → WrongRow code digest_len before bytes UnexpectedEnd
+  unsorted : (entry : IndexEntry) (rest : List ℕ) → IsOf code digest_len entry → entry.offset < 2 ^ 64 → (AreSorted (before ++ entry ∷ []) → ⊥)
+      → WrongRow code digest_len before (row entry ++ rest) NotSorted
+
+-- what is wrong first with the rows of digests of one length: the bytes end within how many bytes a row has, or all of them have; a row has as many as with no
+-- digest of at most 64 bytes; all of them have as many as no number of rows; or one of them is wrong
+pub data WrongBucket (code : ℕ) (before : List IndexEntry) : List ℕ → IndexError → Type 0 where
+  width_ends : (bytes : List ℕ) → length bytes < 4 → WrongBucket code before bytes UnexpectedEnd
+  wrong_width : (width : ℕ) (rest : List ℕ) → width < 2 ^ 32 → ((digest_len : ℕ) → digest_len ≤ 64 → width ≢ digest_len + 8)
+      → WrongBucket code before (le32 width ++ rest) (Width width)
+  length_ends : (digest_len : ℕ) (rest : List ℕ) → digest_len ≤ 64 → length rest < 8 → WrongBucket code before (le32 (digest_len + 8) ++ rest) UnexpectedEnd
+  wrong_length : (digest_len len : ℕ) (rest : List ℕ) → digest_len ≤ 64 → len < 2 ^ 64 → ((count : ℕ) → len ≢ (digest_len + 8) * count)
+      → WrongBucket code before (le32 (digest_len + 8) ++ (le64 len ++ rest)) (Length len)
+  wrong_row : (digest_len count : ℕ) (rest : List ℕ) (error : IndexError) → digest_len ≤ 64 → (digest_len + 8) * count < 2 ^ 64
+      → FirstWrong (AreRows code digest_len) (WrongRow code digest_len) count before rest error
+      → WrongBucket code before (le32 (digest_len + 8) ++ (le64 ((digest_len + 8) * count) ++ rest)) error
+
+-- what is wrong first with the rows of a hash function: the bytes end within its code or how many lengths of digests there are, or the rows of one of these are wrong
+pub data WrongHash (before : List IndexEntry) : List ℕ → IndexError → Type 0 where
+  hash_ends : (bytes : List ℕ) → length bytes < 12 → WrongHash before bytes UnexpectedEnd
+  wrong_bucket : (code count : ℕ) (rest : List ℕ) (error : IndexError) → code < 2 ^ 64 → count < 2 ^ 32
+      → FirstWrong (Parts (IsBucket code)) (WrongBucket code) count before rest error → WrongHash before (le64 code ++ (le32 count ++ rest)) error
+
+-- the code of a format by its first two bytes: of a varint of one byte or two, and of a longer one the lowest 14 bits
+abbrev pub code_in : ℕ → ℕ → ℕ
+code_in low high = if nat_lt low 128 then low else low - 128 + high % 128 * 128
+
+-- what is wrong first with the code of the format: the bytes end within its two, or it is another one
+pub data WrongFormat : List ℕ → IndexError → Type 0 where
+  format_ends : (bytes : List ℕ) → length bytes < 2 → WrongFormat bytes UnexpectedEnd
+  other_format : (low high : ℕ) (rest : List ℕ) → low ∷ high ∷ [] ≢ format_code → WrongFormat (low ∷ high ∷ rest) (Format (code_in low high))
+
+-- what is wrong first with bytes that are no index whose entries are sorted: the code of the format, the bytes end within how many hash functions there are, or
+-- the rows of one of these are wrong
+pub data WrongIndex : List ℕ → IndexError → Type 0 where
+  wrong_format : (bytes : List ℕ) (error : IndexError) → WrongFormat bytes error → WrongIndex bytes error
+  count_ends : (rest : List ℕ) → length rest < 4 → WrongIndex (format_code ++ rest) UnexpectedEnd
+  wrong_hash : (count : ℕ) (rest : List ℕ) (error : IndexError) → count < 2 ^ 32 → FirstWrong (Parts IsHash) WrongHash count [] rest error
+      → WrongIndex (format_code ++ (le32 count ++ rest)) error

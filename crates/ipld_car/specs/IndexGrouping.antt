@@ -1,0 +1,32 @@
+-- The entries of an index that is to be written, by the hash function and by the length of the digest.
+use Rattle.std.specs.Prelude.{nat_lt, Bool, List, length, filter}
+use Rattle.std.specs.List.{All, flat_map}
+use Rattle.ipld_car.specs.IndexLayout.{IsOf}
+use Rattle.ipld_car.specs.declared.index.entry.IndexEntry.{IndexEntry}
+use Rattle.ipld_car.specs.declared.index.Bucket.{Bucket}
+use Rattle.ipld_car.specs.declared.index.HashBuckets.{HashBuckets}
+use Rattle.ipld_car.specs.declared.index.CarIndex.{CarIndex}
+
+-- the digest of the entry has a byte or more
+abbrev pub has_digest : IndexEntry → Bool
+has_digest entry = nat_lt 0 (length entry.hash.digest)
+
+-- those of the entries that stand in an index
+abbrev pub indexed : List IndexEntry → List IndexEntry
+indexed entries = filter has_digest entries
+
+-- the entries of a hash function, in the order of the index
+abbrev pub entries_of_hash : HashBuckets → List IndexEntry
+entries_of_hash hash = flat_map (λ (bucket : Bucket). bucket.entries.items) hash.buckets.items
+
+-- the entries, in the order of the index
+abbrev pub entries_in : CarIndex → List IndexEntry
+entries_in index = flat_map entries_of_hash index.hashes.items
+
+-- the entries of a hash function stand with those of their digest's length
+abbrev pub AreGroupedHash : HashBuckets → Type 0
+AreGroupedHash hash = All (λ (bucket : Bucket). All (IsOf hash.code bucket.digest_len) bucket.entries.items) hash.buckets.items
+
+-- the entries stand with those of their hash function and of their digest's length
+abbrev pub AreGrouped : CarIndex → Type 0
+AreGrouped index = All AreGroupedHash index.hashes.items

@@ -1,0 +1,111 @@
+//! The index of a CAR of version 2, and the header that says where it stands; here the index that is to be written: its entries by the hash
+//! function and by the length of the digest.
+
+ghost use Rattle.std.specs.Prelude.{◌≡◌, ◌∷◌, ◌++◌, [], IfOk, OnOk};
+ghost use Rattle.std.specs.List.Sorted.{IsPermutation};
+ghost use Rattle.ipld_car.specs.IndexGrouping.{entries_in, entries_of_hash, AreGrouped, AreGroupedHash, indexed};
+ghost use Rattle.ipld_car.specs.IndexOrder.{AreSorted};
+
+mod entry;
+mod error;
+mod header;
+mod lookup;
+mod numbers;
+mod read;
+mod write;
+
+pub use entry::IndexEntry;
+pub use error::IndexError;
+pub use header::{CarHeader, HEADER_END, write_header};
+pub use lookup::entries_of;
+pub use read::read_index;
+use std::alloc::{AllocError, Global};
+
+// The entries of digests of one length.
+#[derive(Debug, Drop)]
+pub(crate) struct Bucket {
+    pub(crate) digest_len: u8,
+    pub(crate) entries: Vec<IndexEntry>,
+}
+
+// The entries of a hash function, by the lengths of the digests.
+#[derive(Debug, Drop)]
+pub(crate) struct HashBuckets {
+    pub(crate) code: u64,
+    pub(crate) buckets: Vec<Bucket>,
+}
+
+/// The index of a CAR, as it is written: sorted by the code of the hash function, the length of the digest, the digest and the offset.
+#[derive(Debug, Drop)]
+pub struct CarIndex {
+    pub(crate) hashes: Vec<HashBuckets>,
+}
+
+impl CarIndex {
+    /// The index that has these entries, but for those whose digest is empty: a row without a digest names no block, and readers of indexes
+    /// reject it. Such a digest is that of an empty block under the identity hash. Allocates for all of them; `AllocError` where that fails.
+    pub fn new(alloc: Global, entries: Vec<IndexEntry>) -> Result<CarIndex, AllocError>
+        ensures same { IfOk result (λ index. IsPermutation (indexed entries.items) (entries_in index)) }
+        ensures sorted { IfOk result (λ index. AreSorted (entries_in index)) }
+        ensures grouped { IfOk result AreGrouped }
+    {
+        let mut entries = entries;
+        entries.retain(|entry| entry.hash.size() > 0);
+        entries.sort()?;
+        let mut index = CarIndex {
+            hashes: Vec::new(alloc),
+        };
+        for entry in entries.iter() {
+            index.push(alloc, entry)?;
+        }
+        Ok(index)
+    }
+
+    // Adds an entry behind all others.
+    fn push(&mut self, alloc: Global, entry: &IndexEntry) -> Result<(), AllocError>
+        ensures behind { OnOk result (entries_in self.new ≡ entries_in self.old ++ entry.now ∷ []) }
+        ensures grouped { OnOk result (AreGrouped self.old → AreGrouped self.new) }
+    {
+        let code = entry.hash.code();
+        match self.hashes.last_mut() {
+            Some(last) if last.code == code => last.push(alloc, entry),
+            _ => {
+                let mut buckets = HashBuckets {
+                    code,
+                    buckets: Vec::new(alloc),
+                };
+                buckets.push(alloc, entry)?;
+                self.hashes.push(buckets)?;
+                Ok(())
+            }
+        }
+    }
+}
+
+impl HashBuckets {
+    // Adds an entry of this hash function behind all others.
+    fn push(&mut self, alloc: Global, entry: &IndexEntry) -> Result<(), AllocError>
+        requires { entry.now.hash.code ≡ self.old.code }
+        ensures code { self.new.code ≡ self.old.code }
+        ensures behind { OnOk result (entries_of_hash self.new ≡ entries_of_hash self.old ++ entry.now ∷ []) }
+        ensures grouped { OnOk result (AreGroupedHash self.old → AreGroupedHash self.new) }
+    {
+        let digest = entry.hash.digest();
+        let digest_len = digest.len() as u8;
+        match self.buckets.last_mut() {
+            Some(last) if last.digest_len == digest_len => {
+                last.entries.push(*entry)?;
+                Ok(())
+            }
+            _ => {
+                let mut bucket = Bucket {
+                    digest_len,
+                    entries: Vec::new(alloc),
+                };
+                bucket.entries.push(*entry)?;
+                self.buckets.push(bucket)?;
+                Ok(())
+            }
+        }
+    }
+}

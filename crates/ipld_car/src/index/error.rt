@@ -1,0 +1,101 @@
+//! Why an index isn't read.
+
+use crate::error::write_number;
+use std::alloc::{AllocError, AllocFailed};
+use std::{error, fmt, io};
+
+/// Why the index of a CAR isn't read. Of bytes that are no index whose entries are sorted it is what is wrong first, in the order of the bytes.
+/// Its `Display` is a sentence.
+#[derive(Debug, Drop)]
+pub enum IndexError {
+    /// An allocation failed.
+    Memory,
+    /// The reader failed.
+    Read(io::Error),
+    /// The file ends before the index does: within the code of its format, a number or a row.
+    UnexpectedEnd,
+    /// It has another format than MultihashIndexSorted: the one of this code, or of a code above 14 bits its lowest 14.
+    Format(u64),
+    /// Its rows have so many bytes: fewer than an offset has, or more than one and a digest of 64 bytes.
+    Width(u32),
+    /// The rows of a digest's length have so many bytes in all, which is no number of rows.
+    Length(u64),
+    /// Its entries aren't sorted: one comes before the one in front of it.
+    NotSorted,
+}
+
+impl fmt::Display for IndexError {
+    ghost use Rattle.ipld_car.specs.IndexErrorTexts.{sentence_of, styled_sentence};
+
+    ghost output = { sentence_of };
+
+    ghost styled_output = { λ error _. styled_sentence error };
+
+    fn fmt<W: fmt::Write>(&self, f: &mut fmt::Formatter<W>) -> fmt::Result {
+        match self {
+            IndexError::Memory => f.write_str("out of memory"),
+            IndexError::Read(error) => write!(f, "the reader failed: {error}"),
+            IndexError::UnexpectedEnd => f.write_str("the file ends within the index"),
+            IndexError::Format(code) => write!(
+                f,
+                "the index has the format 0x{code:x}, and 0x401 alone is read"
+            ),
+            IndexError::Width(width) => {
+                write_number(
+                    f,
+                    "the index has rows of ",
+                    u64::from(*width),
+                    " bytes, and 8 to 72 are read",
+                )
+            }
+            IndexError::Length(length) => {
+                write_number(
+                    f,
+                    "the index has ",
+                    *length,
+                    " bytes of rows, which is no number of rows",
+                )
+            }
+            IndexError::NotSorted => f.write_str("the index is not sorted"),
+        }
+    }
+}
+
+impl error::Error for IndexError {}
+
+impl From<AllocError> for IndexError {
+    ghost use Rattle.std.specs.Prelude.{◌≡◌};
+    ghost use Rattle.ipld_car.specs.declared.index.error.IndexError.TheVariants.{Memory};
+
+    ghost from_gives = { λ _ error. error ≡ Memory };
+
+    fn from(_error: AllocError) -> Self {
+        IndexError::Memory
+    }
+}
+
+impl<T: Drop> From<AllocFailed<T>> for IndexError {
+    ghost use Rattle.std.specs.Prelude.{◌≡◌};
+    ghost use Rattle.ipld_car.specs.declared.index.error.IndexError.TheVariants.{Memory};
+
+    ghost from_gives = { λ _ error. error ≡ Memory };
+
+    fn from(_error: AllocFailed<T>) -> Self {
+        IndexError::Memory
+    }
+}
+
+impl From<io::Error> for IndexError {
+    ghost use Rattle.std.specs.IoError.{error_kind};
+    ghost use Rattle.ipld_car.specs.IndexReading.{IsErrorOfReader};
+
+    ghost from_gives = { λ error made. IsErrorOfReader (error_kind error) made };
+
+    fn from(error: io::Error) -> Self {
+        match error.kind() {
+            io::ErrorKind::OutOfMemory => IndexError::Memory,
+            io::ErrorKind::UnexpectedEof => IndexError::UnexpectedEnd,
+            _ => IndexError::Read(error),
+        }
+    }
+}

@@ -1,0 +1,264 @@
+//! An index, read.
+
+ghost use Rattle.std.specs.Prelude.{◌≡◌, ◌≤◌, ◌∷◌, ◌++◌, [], ℕ, List, Some, length, IfErr, IfOk, MatchResult, OnOk};
+ghost use Rattle.std.specs.Io.KnownBytes.{Consumes};
+ghost use Rattle.ipld_car.specs.Index.{format_code};
+ghost use Rattle.ipld_car.specs.IndexLayout.{IsBucket, Parts, IsHash, IsIndex};
+ghost use Rattle.ipld_car.specs.IndexNumbers.{le32, le64};
+ghost use Rattle.ipld_car.specs.IndexOrder.{AreSorted};
+ghost use Rattle.ipld_car.specs.IndexReading.{TakesRow, TakesRows, TakesPart, TakesIndex, IsOfReader, AreInOrder, IsRow, AreRows, ReadsPart, ReadsFormat};
+ghost use Rattle.ipld_car.specs.IndexErrors.{Blames, EndsWithin, IsUnsorted, FirstWrong, WrongRow, WrongBucket, WrongHash, WrongFormat, WrongIndex, code_in};
+
+use crate::index::entry::IndexEntry;
+use crate::index::error::IndexError;
+use ipld_cid::Multihash;
+use std::alloc::Global;
+use std::io::{Error, ErrorKind, Read};
+
+// The bytes of an offset, and the most that a digest has.
+const OFFSET_LEN: u32 = 8;
+
+const LONGEST_DIGEST: u32 = 64;
+
+// The varint of 0x0401, the code of MultihashIndexSorted, has two bytes.
+const FORMAT: [u8; 2] = [0x81, 0x08];
+
+// The number of 32 bits that bytes encode, the lowest byte first.
+fn u32_from_le(bytes: [u8; 4]) -> u32
+    ensures { le32 result ≡ bytes }
+{
+    u32::from_le_bytes(bytes)
+}
+
+// The number of 64 bits that bytes encode, the lowest byte first.
+fn u64_from_le(bytes: [u8; 8]) -> u64
+    ensures { le64 result ≡ bytes }
+{
+    u64::from_le_bytes(bytes)
+}
+
+// Fills the buffer with bytes of the reader. A reader that is interrupted without end has failed.
+fn read_exact<R: Read>(reader: &mut R, buffer: &mut [u8]) -> Result<(), IndexError>
+    ensures takes { OnOk result (Consumes (R.remaining reader.old) (R.remaining reader.new) buffer.new) }
+    ensures fails { IfErr result (EndsWithin (length buffer.old) (R.remaining reader.old)) }
+{
+    let mut filled = 0;
+    for _ in 0..u64::MAX {
+        if filled >= buffer.len() {
+            return Ok(());
+        }
+        match reader.read(&mut buffer[filled..]) {
+            Ok(0) => return Err(IndexError::UnexpectedEnd),
+            Ok(count) => filled += count,
+            Err(error) => match error.kind() {
+                ErrorKind::Interrupted => {}
+                ErrorKind::OutOfMemory => return Err(IndexError::Memory),
+                _ => return Err(IndexError::Read(error)),
+            },
+        }
+    }
+    Err(IndexError::Read(Error::from(ErrorKind::Other)))
+}
+
+fn read_u32<R: Read>(reader: &mut R) -> Result<u32, IndexError>
+    ensures takes { IfOk result (λ n. Consumes (R.remaining reader.old) (R.remaining reader.new) (le32 n)) }
+    ensures fails { IfErr result (EndsWithin 4 (R.remaining reader.old)) }
+{
+    let mut bytes = [0; 4];
+    read_exact(reader, &mut bytes)?;
+    Ok(u32_from_le(bytes))
+}
+
+fn read_u64<R: Read>(reader: &mut R) -> Result<u64, IndexError>
+    ensures takes { IfOk result (λ n. Consumes (R.remaining reader.old) (R.remaining reader.new) (le64 n)) }
+    ensures fails { IfErr result (EndsWithin 8 (R.remaining reader.old)) }
+{
+    let mut bytes = [0; 8];
+    read_exact(reader, &mut bytes)?;
+    Ok(u64_from_le(bytes))
+}
+
+// The code of a format by the first two bytes of its varint.
+fn format_code(low: u8, high: u8) -> u64
+    ensures { result ≡ code_in low high }
+{
+    match low.checked_sub(128) {
+        Some(low) => u64::from(low) + u64::from(high % 128) * 128,
+        None => u64::from(low),
+    }
+}
+
+// The code of a format, a varint, of which two bytes are looked at: no format of an index has a longer one.
+#[tactic(auto, unfolding(crate::specs::Index::format_code), using(crate::proofs::index::Only::format_read, crate::proofs::index::Only::format_failed, crate::proofs::index::Blaming::format_cut))]
+fn read_format<R: Read>(reader: &mut R) -> Result<(), IndexError>
+    ensures takes { OnOk result (Consumes (R.remaining reader.old) (R.remaining reader.new) format_code) }
+    ensures only { ReadsFormat (R.remaining reader.old) result }
+    ensures wrong { IfErr result (Blames WrongFormat (R.remaining reader.old)) }
+{
+    let mut bytes = [0; 2];
+    read_exact(reader, &mut bytes)?;
+    if bytes == FORMAT {
+        return Ok(());
+    }
+    let [low, high] = bytes;
+    Err(IndexError::Format(format_code(low, high)))
+}
+
+// Puts an entry behind the others, where it comes in order.
+fn add_entry(entries: &mut Vec<IndexEntry>, entry: IndexEntry) -> Result<(), IndexError>
+    ensures behind { OnOk result (entries.new.items ≡ entries.old.items ++ entry ∷ []) }
+    ensures sorted { OnOk result (AreSorted entries.old.items → AreSorted entries.new.items) }
+    ensures fails { IfErr result (IsUnsorted (entries.old.items ++ entry ∷ [])) }
+{
+    if let Some(last) = entries.last() {
+        if entry.cmp(last).is_lt() {
+            return Err(IndexError::NotSorted);
+        }
+    }
+    entries.push(entry)?;
+    Ok(())
+}
+
+// Reads a row of this hash function, and puts it behind the others.
+#[tactic(auto, unfolding(crate::specs::Index::row), using(crate::proofs::index::Only::row_no_digest, crate::proofs::index::Only::row_no_offset, crate::proofs::index::Blaming::row_cut, crate::proofs::index::Blaming::offset_cut))]
+fn read_row<R: Read>(
+    reader: &mut R,
+    code: u64,
+    digest: &mut [u8],
+    entries: &mut Vec<IndexEntry>,
+) -> Result<(), IndexError>
+    requires { length digest.old ≤ 64 }
+    ensures takes { OnOk result (TakesRow code (length digest.old) (R.remaining reader.old) (R.remaining reader.new) entries.old.items entries.new.items) }
+    ensures only { ReadsPart (IsRow code (length digest.old)) (R.remaining reader.old) (R.remaining reader.new) entries.old.items entries.new.items result }
+    ensures wrong { IfErr result (Blames (WrongRow code (length digest.old) entries.old.items) (R.remaining reader.old)) }
+{
+    read_exact(reader, digest)?;
+    let offset = read_u64(reader)?;
+    let Ok(hash) = Multihash::wrap(code, digest) else {
+        unreachable!()
+    };
+    add_entry(entries, IndexEntry { hash, offset })
+}
+
+// Reads so many rows of digests of one length.
+#[tactic(auto, using(crate::proofs::index::Taking::rows_none, crate::proofs::index::Taking::rows_more, crate::proofs::index::Taking::rows_all, crate::proofs::index::Only::ahead_of_rows, crate::proofs::index::Only::goes_begin, crate::proofs::index::Only::goes_end, crate::proofs::index::Only::rows_wrong, crate::proofs::index::Blaming::rows_blame))]
+fn read_rows<R: Read>(
+    reader: &mut R,
+    code: u64,
+    digest_len: usize,
+    count: u64,
+    entries: &mut Vec<IndexEntry>,
+) -> Result<(), IndexError>
+    requires { digest_len ≤ 64 }
+    ensures takes { OnOk result (TakesRows code digest_len count (R.remaining reader.old) (R.remaining reader.new) entries.old.items entries.new.items) }
+    ensures only { ReadsPart (AreRows code digest_len count) (R.remaining reader.old) (R.remaining reader.new) entries.old.items entries.new.items result }
+    ensures wrong { IfErr result (λ error. AreInOrder entries.old.items → Blames (FirstWrong (AreRows code digest_len) (WrongRow code digest_len) count entries.old.items) (R.remaining reader.old) error) }
+{
+    let mut digest = [0; 64];
+    let mut left = count;
+    while left > 0 {
+        read_row(reader, code, &mut digest[..digest_len], entries)?;
+        left -= 1;
+    }
+    Ok(())
+}
+
+// Reads the rows of digests of one length, behind that length and how many bytes they have.
+#[tactic(auto, using(crate::proofs::index::Taking::bucket_taken, crate::proofs::index::Only::bucket_read, crate::proofs::index::Only::bucket_not_narrow, crate::proofs::index::Only::bucket_not_wide, crate::proofs::index::Only::bucket_not_uneven, crate::proofs::index::Only::bucket_no_width, crate::proofs::index::Only::bucket_no_length, crate::proofs::index::Blaming::width_cut, crate::proofs::index::Blaming::width_narrow, crate::proofs::index::Blaming::width_wide, crate::proofs::index::Blaming::length_cut, crate::proofs::index::Blaming::length_uneven, crate::proofs::index::Blaming::bucket_blames))]
+fn read_bucket<R: Read>(
+    reader: &mut R,
+    code: u64,
+    entries: &mut Vec<IndexEntry>,
+) -> Result<(), IndexError>
+    ensures takes { OnOk result (TakesPart (IsBucket code) (R.remaining reader.old) (R.remaining reader.new) entries.old.items entries.new.items) }
+    ensures only { ReadsPart (IsBucket code) (R.remaining reader.old) (R.remaining reader.new) entries.old.items entries.new.items result }
+    ensures wrong { IfErr result (λ error. AreInOrder entries.old.items → Blames (WrongBucket code entries.old.items) (R.remaining reader.old) error) }
+{
+    let width = read_u32(reader)?;
+    let Some(digest_len) = width.checked_sub(OFFSET_LEN) else {
+        return Err(IndexError::Width(width));
+    };
+    if digest_len > LONGEST_DIGEST {
+        return Err(IndexError::Width(width));
+    }
+    let length = read_u64(reader)?;
+    let width = u64::from(width);
+    if length % width != 0 {
+        return Err(IndexError::Length(length));
+    }
+    read_rows(reader, code, digest_len as usize, length / width, entries)
+}
+
+// Reads the rows of so many lengths of digests.
+#[tactic(auto, using(crate::proofs::index::Taking::parts_none, crate::proofs::index::Taking::parts_more, crate::proofs::index::Taking::parts_all, crate::proofs::index::Only::ahead_of_parts, crate::proofs::index::Only::goes_begin, crate::proofs::index::Only::goes_more, crate::proofs::index::Only::goes_wrong, crate::proofs::index::Only::goes_end, crate::proofs::index::Blaming::parts_blame))]
+fn read_buckets<R: Read>(
+    reader: &mut R,
+    code: u64,
+    count: u32,
+    entries: &mut Vec<IndexEntry>,
+) -> Result<(), IndexError>
+    ensures takes { OnOk result (TakesPart (Parts (IsBucket code) count) (R.remaining reader.old) (R.remaining reader.new) entries.old.items entries.new.items) }
+    ensures only { ReadsPart (Parts (IsBucket code) count) (R.remaining reader.old) (R.remaining reader.new) entries.old.items entries.new.items result }
+    ensures wrong { IfErr result (λ error. AreInOrder entries.old.items → Blames (FirstWrong (Parts (IsBucket code)) (WrongBucket code) count entries.old.items) (R.remaining reader.old) error) }
+{
+    let mut left = count;
+    while left > 0 {
+        read_bucket(reader, code, entries)?;
+        left -= 1;
+    }
+    Ok(())
+}
+
+// Reads the rows of a hash function, behind its code and how many lengths of digests there are.
+#[tactic(auto, using(crate::proofs::index::Taking::hash_taken, crate::proofs::index::Only::hash_read, crate::proofs::index::Only::hash_no_code, crate::proofs::index::Only::hash_no_count, crate::proofs::index::Blaming::code_cut, crate::proofs::index::Blaming::count_cut, crate::proofs::index::Blaming::hash_blames))]
+fn read_hash<R: Read>(reader: &mut R, entries: &mut Vec<IndexEntry>) -> Result<(), IndexError>
+    ensures takes { OnOk result (TakesPart IsHash (R.remaining reader.old) (R.remaining reader.new) entries.old.items entries.new.items) }
+    ensures only { ReadsPart IsHash (R.remaining reader.old) (R.remaining reader.new) entries.old.items entries.new.items result }
+    ensures wrong { IfErr result (λ error. AreInOrder entries.old.items → Blames (WrongHash entries.old.items) (R.remaining reader.old) error) }
+{
+    let code = read_u64(reader)?;
+    let count = read_u32(reader)?;
+    read_buckets(reader, code, count, entries)
+}
+
+// Reads the rows of so many hash functions.
+#[tactic(auto, using(crate::proofs::index::Taking::parts_none, crate::proofs::index::Taking::parts_more, crate::proofs::index::Taking::parts_all, crate::proofs::index::Only::ahead_of_parts, crate::proofs::index::Only::goes_begin, crate::proofs::index::Only::goes_more, crate::proofs::index::Only::goes_wrong, crate::proofs::index::Only::goes_end, crate::proofs::index::Blaming::parts_blame))]
+fn read_hashes<R: Read>(
+    reader: &mut R,
+    count: u32,
+    entries: &mut Vec<IndexEntry>,
+) -> Result<(), IndexError>
+    ensures takes { OnOk result (TakesPart (Parts IsHash count) (R.remaining reader.old) (R.remaining reader.new) entries.old.items entries.new.items) }
+    ensures only { ReadsPart (Parts IsHash count) (R.remaining reader.old) (R.remaining reader.new) entries.old.items entries.new.items result }
+    ensures wrong { IfErr result (λ error. AreInOrder entries.old.items → Blames (FirstWrong (Parts IsHash) WrongHash count entries.old.items) (R.remaining reader.old) error) }
+{
+    let mut left = count;
+    while left > 0 {
+        read_hash(reader, entries)?;
+        left -= 1;
+    }
+    Ok(())
+}
+
+/// Reads an index in the format MultihashIndexSorted (CARv2, "Index format", code 0x0401), and returns its entries in their order. It reads the
+/// index and nothing behind it, in time and memory that grow with the bytes that there are.
+///
+/// # Errors
+///
+/// [`IndexError`] says what is wrong first, in the order of the bytes. Entries that aren't sorted are an error, since none could be looked for. An
+/// index whose entries are sorted is an error only where an allocation or the reader fails: `Memory` where the reader's error is
+/// [`ErrorKind::OutOfMemory`], and `Read` with any other, but a read that was interrupted is tried again. How much of the reader was read is then
+/// not said.
+#[tactic(auto, using(crate::proofs::index::Taking::index_taken, crate::proofs::index::Only::index_no_format, crate::proofs::index::Only::index_no_count, crate::proofs::index::Blaming::index_format, crate::proofs::index::Blaming::hashes_cut, crate::proofs::index::Blaming::index_blames))]
+pub fn read_index<R: Read>(alloc: Global, reader: &mut R) -> Result<Vec<IndexEntry>, IndexError>
+    ensures takes { IfOk result (λ entries. TakesIndex (R.remaining reader.old) (R.remaining reader.new) entries.items) }
+    ensures only { (bytes rest : List ℕ) (entries : List IndexEntry) → R.remaining reader.old ≡ Some (bytes ++ rest) → IsIndex bytes entries → AreInOrder entries
+        → MatchResult result (λ read. read.items ≡ entries) IsOfReader }
+    ensures wrong { IfErr result (Blames WrongIndex (R.remaining reader.old)) }
+{
+    read_format(reader)?;
+    let count = read_u32(reader)?;
+    let mut entries = Vec::new(alloc);
+    read_hashes(reader, count, &mut entries)?;
+    Ok(entries)
+}

@@ -1,5 +1,0 @@
-use Rattle.ipld_cid.proofs.Letters.{Gathers}
-use Rattle.ipld_cid.proofs.from_text.number.Given as goal
-
-abbrev pub invariant-loop-letter : goal.invariant-loop-letter
-invariant-loop-letter l = Gathers l.letters l.letter-index l.bits l.seen

@@ -1,0 +1,79 @@
+//! Bytes as digits of a base, digits as letters, and back.
+
+ghost use Rattle.std.specs.Prelude.{◌≡◌, ◌≤◌, ◌<◌, length, take, IfSome, MatchResult};
+ghost use Rattle.ipld_cid_text.specs.Base.{size};
+ghost use Rattle.ipld_cid_text.specs.Digits.{IsBelow};
+ghost use Rattle.ipld_cid_text.specs.Encodes.{Encodes, IsEncoded, IsUnencoded, AreDigits, IsFirstOther};
+
+use crate::base::Base;
+use crate::blocks::read_groups;
+use crate::convert::convert_base;
+use crate::digits::Digits;
+use crate::error::TextError;
+use crate::regroup::{bytes_of_groups, groups_of};
+
+// The digits that encode bytes.
+pub(crate) fn encode_digits(base: Base, bytes: &[u8]) -> Digits
+    requires { length bytes.now ≤ 95 }
+    ensures { IsEncoded base bytes.now result }
+{
+    match base {
+        Base::Base16Lower => groups_of::<4>(bytes),
+        Base::Base32Lower => groups_of::<5>(bytes),
+        Base::Base32Upper => groups_of::<5>(bytes),
+        Base::Base36Lower => convert_base::<256, 3, 2176782336, 36, 6>(bytes),
+        Base::Base58Btc => convert_base::<256, 3, 656356768, 58, 5>(bytes),
+        Base::Base64Url => groups_of::<6>(bytes),
+    }
+}
+
+// The bytes that digits encode.
+pub(crate) fn decode_digits(base: Base, digits: &[u8]) -> Result<Digits, TextError>
+    requires few { length digits.now ≤ 190 }
+    requires below { IsBelow (size base) digits.now }
+    ensures { MatchResult result (λ bytes. IsEncoded base bytes digits.now) (λ error. IsUnencoded base digits.now error) }
+{
+    match base {
+        Base::Base16Lower => bytes_of_groups::<4>(digits),
+        Base::Base32Lower => bytes_of_groups::<5>(digits),
+        Base::Base32Upper => bytes_of_groups::<5>(digits),
+        Base::Base36Lower => Ok(convert_base::<36, 6, 4294967296, 256, 4>(digits)),
+        Base::Base58Btc => Ok(convert_base::<58, 5, 4294967296, 256, 4>(digits)),
+        Base::Base64Url => bytes_of_groups::<6>(digits),
+    }
+}
+
+// Writes the bytes that letters of a base of groups of bits encode, and returns how many they are. `None` where the base is another,
+// and where the letters encode none.
+#[inline(always)]
+pub(crate) fn decode_groups(base: Base, letters: &[u8], bytes: &mut [u8; 192]) -> Option<usize>
+    requires { length letters.now ≤ 184 }
+    ensures { IfSome result (λ len. (len ≤ 192) × Encodes base (take len bytes.new) letters.now) }
+{
+    match base {
+        Base::Base16Lower => read_groups::<16, 4>(base, letters, bytes),
+        Base::Base32Lower => read_groups::<32, 5>(base, letters, bytes),
+        Base::Base32Upper => read_groups::<32, 5>(base, letters, bytes),
+        Base::Base36Lower => None,
+        Base::Base58Btc => None,
+        Base::Base64Url => read_groups::<64, 6>(base, letters, bytes),
+    }
+}
+
+// The digits that letters stand for, or the place of the first character that is no letter.
+#[inline(always)]
+pub(crate) fn digits_of_letters(base: Base, letters: &[u8]) -> Result<Digits, usize>
+    requires { length letters.now ≤ 190 }
+    ensures { MatchResult result (λ digits. AreDigits base letters.now digits) (λ place. IsFirstOther base letters.now place) }
+{
+    let values = base.values();
+    let mut digits = Digits::new();
+    for (place, letter) in letters.iter().enumerate() {
+        let digit = values[*letter as usize];
+        if digit == 255 {
+            return Err(place);
+        }
+        digits.push(digit);
+    }
+    Ok(digits)
+}

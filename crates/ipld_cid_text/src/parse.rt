@@ -1,0 +1,169 @@
+//! Content identifiers from any of their texts.
+
+ghost use Rattle.std.specs.Prelude.{◌≡◌, ◌≤◌, ◌<◌, ◌+◌, ℕ, List, Some, None, Err, length, drop, MatchResult, MatchOption, IfOk, IfErr, IfSome, IsOkAnd};
+ghost use Rattle.ipld_cid.specs.Cid.{Link};
+ghost use Rattle.ipld_cid.specs.Bytes.{IsCid};
+ghost use Rattle.ipld_cid.specs.LinkOf.{link_of};
+ghost use Rattle.ipld_cid_text.specs.Encodes.{Encodes};
+ghost use Rattle.ipld_cid_text.specs.Text as texts;
+
+use crate::base::Base;
+use crate::encode::{decode_digits, decode_groups, digits_of_letters};
+use crate::error::TextError;
+use ipld_cid::{Cid, Version};
+
+// More letters than these encode more bytes than any CID has.
+const MOST: usize = 190;
+
+// So many letters are read eight at a time; no CID has more.
+const FAST: usize = 184;
+
+// How many characters stand before the CID.
+#[inline(always)]
+fn path_len(text: &[u8]) -> usize
+    ensures len { result ≡ texts.path_len text.now }
+    ensures within { result ≤ length text.now }
+    ensures short { result ≤ 6 }
+{
+    match text {
+        [b'/', b'i', b'p', b'f', b's', b'/', ..] => 6,
+        _ => 0,
+    }
+}
+
+// Whether the text begins with `Qm`.
+#[inline(always)]
+fn begins_qm(text: &[u8]) -> bool
+    ensures { result ≡ texts.begins_qm text.now }
+{
+    match text {
+        [b'Q', b'm', ..] => true,
+        _ => false,
+    }
+}
+
+// What a text is by how it begins: the base, the version, and how many characters stand before the letters.
+#[inline(always)]
+fn form_of(text: &[u8]) -> Option<(Base, Version, usize)>
+    ensures { MatchOption result (texts.form_of text.now ≡ None)
+        (λ form. (texts.form_of text.now ≡ Some (record { base = form.0; version = form.1; skip = form.2 })) × (form.2 ≤ length text.now) × (form.2 ≤ 1)) }
+{
+    if text.len() == 46 && begins_qm(text) {
+        return Some((Base::Base58Btc, Version::V0, 0));
+    }
+    let [first, ..] = text else {
+        return None;
+    };
+    let base = Base::from_code(char::from(*first))?;
+    Some((base, Version::V1, 1))
+}
+
+// The CID whose bytes the letters encode, which stand from `place` on in the text, and if they don't, why.
+#[inline(never)]
+fn explain_letters(
+    base: Base,
+    version: Version,
+    place: usize,
+    letters: &[u8],
+) -> Result<Cid, TextError>
+    requires { place ≤ 7 }
+    ensures why { MatchResult result
+        (λ cid. ((link_of cid).version ≡ version) × (bytes : List ℕ) × Encodes base bytes letters.now × IsCid 64 bytes (link_of cid))
+        (λ error. texts.IsLettersError base version place letters.now error) }
+    ensures long { 190 < length letters.now → result ≡ Err TextError.InvalidLength }
+{
+    if letters.len() > MOST {
+        return Err(TextError::InvalidLength);
+    }
+    let digits = match digits_of_letters(base, letters) {
+        Ok(digits) => digits,
+        Err(at) => return Err(TextError::InvalidLetter(place + at)),
+    };
+    let bytes = match decode_digits(base, digits.as_slice()) {
+        Ok(bytes) => bytes,
+        Err(error) => return Err(error),
+    };
+    match Cid::try_from(bytes.as_slice()) {
+        Ok(cid) => {
+            if cid.version() == version {
+                Ok(cid)
+            } else {
+                Err(TextError::WrongVersion)
+            }
+        }
+        Err(error) => Err(TextError::Cid(error)),
+    }
+}
+
+// The CID whose bytes the letters encode, where the base is one of groups of bits and they encode one.
+#[inline(always)]
+fn try_read_letters(base: Base, version: Version, letters: &[u8]) -> Option<Cid>
+    ensures found { IfSome result (λ cid. ((link_of cid).version ≡ version) × (bytes : List ℕ) × Encodes base bytes letters.now × IsCid 64 bytes (link_of cid)) }
+    ensures few { IfSome result (λ _. length letters.now ≤ 190) }
+{
+    if letters.len() > FAST {
+        return None;
+    }
+    let mut bytes = [0; 192];
+    let len = decode_groups(base, letters, &mut bytes)?;
+    match Cid::try_from(&bytes[..len]) {
+        Ok(cid) if cid.version() == version => Some(cid),
+        _ => None,
+    }
+}
+
+// The CID whose bytes the letters encode, which stand from `place` on in the text.
+#[inline(always)]
+fn read_letters(
+    base: Base,
+    version: Version,
+    place: usize,
+    letters: &[u8],
+) -> Result<Cid, TextError>
+    requires { place ≤ 7 }
+    ensures why { MatchResult result
+        (λ cid. ((link_of cid).version ≡ version) × (bytes : List ℕ) × Encodes base bytes letters.now × IsCid 64 bytes (link_of cid))
+        (λ error. texts.IsLettersError base version place letters.now error) }
+    ensures long { 190 < length letters.now → result ≡ Err TextError.InvalidLength }
+{
+    match try_read_letters(base, version, letters) {
+        Some(cid) => Ok(cid),
+        None => explain_letters(base, version, place, letters),
+    }
+}
+
+// The CID of a text.
+#[inline(always)]
+fn read_text(text: &[u8]) -> Result<Cid, TextError>
+    ensures why { MatchResult result (λ cid. texts.IsText (link_of cid) text.now) (λ error. texts.IsTextError text.now error) }
+    ensures long { texts.IsTooLong text.now → result ≡ Err TextError.InvalidLength }
+{
+    let path = path_len(text);
+    let Some((base, version, skip)) = form_of(&text[path..]) else {
+        return Err(TextError::UnknownBase);
+    };
+    read_letters(base, version, path + skip, &text[path + skip..])
+}
+
+/// The CID of a text in any [`Base`], also after `/ipfs/`: `Qm..` of version 0, or the multibase text of version 1.
+///
+/// Each CID with a digest of at most 64 bytes has such a text in each base, that of [`to_string_of_base`](crate::to_string_of_base),
+/// and each text is of one CID. Does not allocate.
+///
+/// # Errors
+///
+/// - [`TextError::UnknownBase`]: the text is empty, or begins with a character that is no prefix of a [`Base`].
+/// - [`TextError::InvalidLength`]: more than 190 characters follow, letters or not, or the letters leave over as many bits as a letter
+///   has.
+/// - [`TextError::InvalidLetter`]: a character is no letter of the base. It has the place of the first in the text.
+/// - [`TextError::UnusedBits`]: the bits that the last letter leaves over are not zero.
+/// - [`TextError::WrongVersion`]: the bytes of a version 0 CID stand in a multibase text, which that version doesn't have.
+/// - [`TextError::Cid`]: the letters encode bytes that are no CID, with the error that reading those bytes returns.
+pub fn parse_any(text: &str) -> Result<Cid, TextError>
+    ensures found { IfOk result (λ cid. texts.IsText (link_of cid) text.now) }
+    ensures only { (link : Link) → texts.IsText link text.now → IsOkAnd result (λ cid. link_of cid ≡ link) }
+    ensures error { IfErr result (λ error. texts.IsTextError text.now error) }
+    ensures long { texts.IsTooLong text.now → result ≡ Err TextError.InvalidLength }
+{
+    read_text(text.as_bytes())
+}

@@ -1,0 +1,96 @@
+//! The text of a content identifier in a base.
+
+ghost use Rattle.std.specs.Prelude.{◌≡◌, ◌≤◌, ◌++◌, ◌∷◌, ◌⊎◌, ℕ, List, length, map, if◌then◌else◌, IfOk, OnOk, IsAscii, MatchResult};
+ghost use Rattle.std.specs.String.{string_bytes};
+ghost use Rattle.ipld_cid.specs.Bytes.{bytes_of};
+ghost use Rattle.ipld_cid.specs.LinkOf.{link_of};
+ghost use Rattle.ipld_cid_text.specs.Base.{letter, prefix, size};
+ghost use Rattle.ipld_cid_text.specs.Digits.{IsBelow};
+ghost use Rattle.ipld_cid_text.specs.Encodes.{Encodes};
+ghost use Rattle.ipld_cid_text.specs.Text.{IsTextIn, IsText, IsPrefixed};
+
+use crate::base::Base;
+use crate::encode::encode_digits;
+use crate::error::ToStringError;
+use ipld_cid::{Cid, Version};
+use std::alloc::{AllocError, Global};
+
+// Writes the letters of digits at the end.
+#[inline(always)]
+fn push_letters(text: &mut Vec<u8>, base: Base, digits: &[u8]) -> Result<(), AllocError>
+    requires { IsBelow (size base) digits.now }
+    ensures { OnOk result (text.new.items ≡ text.old.items ++ map (letter base) digits.now) }
+{
+    let letters = base.letters();
+    for digit in digits {
+        text.push(letters[*digit as usize])?;
+    }
+    Ok(())
+}
+
+// The letters that encode the CID's bytes, after the prefix where there is to be one.
+fn letters_of(alloc: Global, cid: &Cid, base: Base, prefixed: bool) -> Result<Vec<u8>, AllocError>
+    ensures { IfOk result (λ text. IsPrefixed base prefixed (bytes_of (link_of cid.now)) text.items) }
+{
+    let mut text = Vec::with_capacity(alloc, 1 + base.most_letters(cid.encoded_len()))?;
+    cid.write_bytes(&mut text)?;
+    let digits = encode_digits(base, &text);
+    text.clear();
+    if prefixed {
+        text.push(base.prefix())?;
+    }
+    push_letters(&mut text, base, digits.as_slice())?;
+    Ok(text)
+}
+
+// The text of these letters, which are ASCII.
+fn text_of(alloc: Global, cid: &Cid, base: Base, prefixed: bool) -> Result<String, AllocError>
+    ensures { IfOk result (λ text. IsPrefixed base prefixed (bytes_of (link_of cid.now)) (string_bytes text)) }
+{
+    let letters = letters_of(alloc, cid, base, prefixed)?;
+    let Ok(text) = String::from_utf8(letters) else {
+        unreachable!()
+    };
+    Ok(text)
+}
+
+// The text of the CID in the base, if it has one there.
+fn write_text(alloc: Global, cid: &Cid, base: Base) -> Result<String, ToStringError>
+    ensures { MatchResult result
+        (λ text. IsTextIn base (link_of cid.now) (string_bytes text))
+        (λ error. (error ≡ ToStringError.Memory)
+        ⊎ ((error ≡ ToStringError.InvalidCidV0Base) × ((link_of cid.now).version ≡ Version.V0) × (base ≡ Base.Base58Btc → ⊥))) }
+{
+    let prefixed = match cid.version() {
+        Version::V0 => {
+            if base != Base::Base58Btc {
+                return Err(ToStringError::InvalidCidV0Base);
+            }
+            false
+        }
+        Version::V1 => true,
+    };
+    match text_of(alloc, cid, base, prefixed) {
+        Ok(text) => Ok(text),
+        Err(_) => Err(ToStringError::Memory),
+    }
+}
+
+/// The text of a CID in a [`Base`]: of version 1 the multibase prefix and the letters that encode its bytes, of version 0
+/// the letters alone, which it has in [`Base::Base58Btc`] alone.
+///
+/// [`parse_any`](crate::parse_any) reads the text as that CID. Allocates once, at most the letters of a text of this length and a few more.
+///
+/// # Errors
+///
+/// - [`ToStringError::InvalidCidV0Base`]: the CID is of version 0 and the base another than base58btc.
+/// - [`ToStringError::Memory`]: the allocation failed.
+pub fn to_string_of_base(alloc: Global, cid: &Cid, base: Base) -> Result<String, ToStringError>
+    ensures exact { MatchResult result
+        (λ text. IsTextIn base (link_of cid.now) (string_bytes text))
+        (λ error. (error ≡ ToStringError.Memory)
+        ⊎ ((error ≡ ToStringError.InvalidCidV0Base) × ((link_of cid.now).version ≡ Version.V0) × (base ≡ Base.Base58Btc → ⊥))) }
+    ensures round_trip { IfOk result (λ text. IsText (link_of cid.now) (string_bytes text)) }
+{
+    write_text(alloc, cid, base)
+}

@@ -1,0 +1,423 @@
+//! The blocks of a CAR by their CIDs, wherever in the file they stand.
+
+use crate::bytes::{Bytes, BytesAt};
+use crate::complaints::report_car_error;
+use crate::files::{is_file, read_file};
+use crate::input::BUFFER;
+use crate::messages::{NamedCid, Outcome};
+use car_files::CarFileError;
+use indexmap::IndexMap;
+use ipld_car::{
+    CarError, CarErrorKind, CarHeader, CarReader, CarVersion, HEADER_END, IndexEntry, IndexError,
+    Section, entries_of, read_index,
+};
+use ipld_cid::Cid;
+use std::alloc::Global;
+use std::fs;
+use std::hash::RandomState;
+use std::io::{self, BufReader, Chain, Error, ErrorKind, Read};
+
+// The header of a CAR without roots. Sections behind it are read as those of a CAR that begins with them.
+const NO_ROOTS: &[u8] = b"\x11\xa2eroots\x80gversion\x01";
+
+// How many bytes that header has.
+const NO_ROOTS_LEN: u64 = 18;
+
+// A reader of the sections from one of them on.
+type Sections<'a> = CarReader<BufReader<Chain<&'static [u8], BytesAt<'a>>>>;
+
+/// The blocks of a CAR. They are found by the index of the file, if it has one, else by reading on from where the last was found.
+#[derive(Drop)]
+pub struct Blocks<'a> {
+    rt: &'a HostRuntime,
+    file: &'a str,
+    bytes: Bytes,
+    limit: u64,
+    version: CarVersion,
+    roots: Vec<Cid>,
+    // Where the payload begins and ends.
+    start: u64,
+    end: u64,
+    // The entries of the index, as long as it is believed.
+    index: Option<Vec<IndexEntry>>,
+    passed: PassedSections,
+}
+
+// Where the blocks stand that were passed, and up to where that is.
+#[derive(Drop)]
+struct PassedSections {
+    offsets: IndexMap<Cid, u64, RandomState>,
+    end: u64,
+}
+
+// What the entries of an index that have a CID's hash lead to.
+#[derive(Drop)]
+enum Indexed {
+    // Its block.
+    Block(Section),
+    // No block of it.
+    Nothing,
+    // Something else at this byte of the file.
+    Wrong(u64),
+}
+
+impl PassedSections {
+    // Reads sections on, which begin where those end that were passed, to the block of this CID.
+    fn read_on(
+        &mut self,
+        alloc: Global,
+        sections: Sections<'_>,
+        cid: &Cid,
+    ) -> Result<Option<Section>, CarFileError> {
+        let mut sections = sections;
+        let from = self.end;
+        let mut section = Section::new(alloc);
+        for _ in 0..u64::MAX {
+            match sections.read_section(&mut section) {
+                Ok(true) => {}
+                Ok(false) => return Ok(None),
+                Err(error) => return Err(CarFileError::from(error_in_file(from, error))),
+            }
+            if !self.offsets.contains_key(section.cid()) {
+                match self.offsets.insert(*section.cid(), self.end) {
+                    Ok(_) => {}
+                    Err(_) => return Err(CarFileError::Memory),
+                }
+            }
+            self.end = place_in_file(from, sections.offset());
+            if section.cid() == cid {
+                return Ok(Some(section));
+            }
+        }
+        Ok(None)
+    }
+}
+
+/// What a file is.
+#[derive(Drop)]
+pub enum Opened<'a> {
+    /// A block, its bytes.
+    Block(Vec<u8>),
+    /// A CAR, of which the header was read.
+    Car(Blocks<'a>),
+}
+
+/// Opens a file, or standard input, which is a CAR if it begins as one and may be one, else a block.
+///
+/// # Errors
+///
+/// That of the system, where the file can't be read or there are no random bytes, and `OutOfMemory` where an allocation failed.
+pub fn open_blocks<'a>(
+    rt: &'a HostRuntime,
+    file: &'a str,
+    limit: u64,
+    may_be_car: bool,
+) -> io::Result<Opened<'a>> {
+    if !may_be_car {
+        return open_as_block(rt, file);
+    }
+    let bytes = match bytes_of(rt, file) {
+        Ok(bytes) => bytes,
+        Err(error) => return Err(error),
+    };
+    match blocks_of(rt, file, bytes, limit) {
+        Ok(blocks) => Ok(Opened::Car(blocks)),
+        Err(NoBlocks::NoCar(Bytes::Memory(bytes))) => Ok(Opened::Block(bytes)),
+        Err(NoBlocks::NoCar(Bytes::File(_))) => open_as_block(rt, file),
+        Err(NoBlocks::Failed(error)) => Err(error),
+    }
+}
+
+// A file as a block.
+fn open_as_block<'a>(rt: &HostRuntime, file: &str) -> io::Result<Opened<'a>> {
+    match read_file(rt, file) {
+        Ok(bytes) => Ok(Opened::Block(bytes)),
+        Err(error) => Err(error),
+    }
+}
+
+// A file's bytes: what is no file is read into memory, since it can be read once alone.
+fn bytes_of(rt: &HostRuntime, file: &str) -> io::Result<Bytes> {
+    if file == "-" || !is_file(rt, file) {
+        return Ok(Bytes::Memory(read_file(rt, file)?));
+    }
+    Ok(Bytes::File(fs::open(rt, file)?))
+}
+
+/// The blocks of a file that is a CAR with an index that can be read, or `None` of another, also where it can't be read.
+pub fn open_indexed<'a>(rt: &'a HostRuntime, file: &'a str, limit: u64) -> Option<Blocks<'a>> {
+    if file == "-" || !is_file(rt, file) {
+        return None;
+    }
+    let bytes = Bytes::File(fs::open(rt, file).ok()?);
+    let blocks = blocks_of(rt, file, bytes, limit).ok()?;
+    if blocks.index.is_some() {
+        Some(blocks)
+    } else {
+        None
+    }
+}
+
+// What the header of a CAR says.
+#[derive(Drop)]
+struct Front {
+    version: CarVersion,
+    roots: Vec<Cid>,
+    first: u64,
+    end: u64,
+}
+
+// What the header of bytes says that begin as a CAR, or `None` of others.
+fn read_front(rt: &HostRuntime, bytes: &Bytes, limit: u64) -> io::Result<Option<Front>> {
+    let reader = BytesAt::new(bytes, 0, u64::MAX);
+    let reader = BufReader::with_capacity(rt.alloc(), BUFFER, reader)?;
+    let car = match CarReader::new(rt.alloc(), reader, limit) {
+        Ok(car) => car,
+        Err(error) => {
+            return match error.kind {
+                CarErrorKind::Memory => Err(Error::from(ErrorKind::OutOfMemory)),
+                CarErrorKind::Read(error) => Err(error),
+                _ => Ok(None),
+            };
+        }
+    };
+    Ok(Some(Front {
+        version: car.version(),
+        roots: Vec::from_slice(rt.alloc(), car.roots())?,
+        first: car.offset(),
+        end: car.end(),
+    }))
+}
+
+/// The header of version 2, or `None` of bytes that begin with none.
+///
+/// # Errors
+///
+/// That of the system, where the file can't be read.
+pub fn header_of(bytes: &Bytes) -> io::Result<Option<CarHeader>> {
+    let mut header = [0; HEADER_END];
+    match BytesAt::new(bytes, 0, u64::MAX).read_exact(&mut header) {
+        Ok(()) => Ok(CarHeader::from_bytes(&header)),
+        Err(error) if error.kind() == ErrorKind::UnexpectedEof => Ok(None),
+        Err(error) => Err(error),
+    }
+}
+
+/// The index that the header of a CAR of version 2 places in the file.
+///
+/// # Errors
+///
+/// Those of [`read_index`].
+pub fn index_at(
+    rt: &HostRuntime,
+    bytes: &Bytes,
+    header: &CarHeader,
+) -> Result<Vec<IndexEntry>, IndexError> {
+    let reader = BytesAt::new(bytes, header.index, u64::MAX);
+    let mut reader = BufReader::with_capacity(rt.alloc(), BUFFER, reader)?;
+    read_index(rt.alloc(), &mut reader)
+}
+
+// Why there are no blocks.
+#[derive(Drop)]
+enum NoBlocks {
+    // These bytes don't begin as a CAR.
+    NoCar(Bytes),
+    // The system says this, or an allocation failed.
+    Failed(Error),
+}
+
+// The blocks of these bytes.
+fn blocks_of<'a>(
+    rt: &'a HostRuntime,
+    file: &'a str,
+    bytes: Bytes,
+    limit: u64,
+) -> Result<Blocks<'a>, NoBlocks> {
+    let front = match read_front(rt, &bytes, limit) {
+        Ok(Some(front)) => front,
+        Ok(None) => return Err(NoBlocks::NoCar(bytes)),
+        Err(error) => return Err(NoBlocks::Failed(error)),
+    };
+    let header = match header_of(&bytes) {
+        Ok(header) => header,
+        Err(error) => return Err(NoBlocks::Failed(error)),
+    };
+    let hasher = match RandomState::new(rt) {
+        Ok(hasher) => hasher,
+        Err(error) => return Err(NoBlocks::Failed(error)),
+    };
+    let mut blocks = Blocks {
+        rt,
+        file,
+        bytes,
+        limit,
+        version: front.version,
+        roots: front.roots,
+        start: 0,
+        end: front.end,
+        index: None,
+        passed: PassedSections {
+            offsets: IndexMap::with_hasher(rt.alloc(), hasher),
+            end: front.first,
+        },
+    };
+    if let Some(header) = header {
+        blocks.start = header.payload;
+        blocks.use_index(&header);
+    }
+    Ok(blocks)
+}
+
+// The reader of the sections from this byte of the file on, up to another.
+fn sections_at<'a>(
+    rt: &HostRuntime,
+    bytes: &'a Bytes,
+    from: u64,
+    end: u64,
+    limit: u64,
+) -> Result<Sections<'a>, CarFileError> {
+    let reader = NO_ROOTS.chain(BytesAt::new(bytes, from, end));
+    let reader = BufReader::with_capacity(rt.alloc(), BUFFER, reader)?;
+    // The file has a header, which is no shorter than this one, so the limit is no lower.
+    match CarReader::new(rt.alloc(), reader, limit) {
+        Ok(sections) => Ok(sections),
+        Err(error) => Err(CarFileError::from(error)),
+    }
+}
+
+// Where in the file this offset of such a reader is.
+fn place_in_file(from: u64, offset: u64) -> u64 {
+    from.saturating_add(offset.saturating_sub(NO_ROOTS_LEN))
+}
+
+// An error of such a reader, with its places in the file.
+fn error_in_file(from: u64, error: CarError) -> CarError {
+    CarError {
+        kind: error.kind,
+        section: place_in_file(from, error.section),
+        offset: place_in_file(from, error.offset),
+    }
+}
+
+impl<'a> Blocks<'a> {
+    /// The name of the file.
+    pub fn file(&self) -> &'a str {
+        self.file
+    }
+
+    /// The roots.
+    pub fn roots(&self) -> &[Cid] {
+        &self.roots
+    }
+
+    // Reads the index, if there is one, and says where it can't be used.
+    fn use_index(&mut self, header: &CarHeader) {
+        if header.index == 0 {
+            return;
+        }
+        match index_at(self.rt, &self.bytes, header) {
+            Ok(entries) => self.index = Some(entries),
+            Err(error) => {
+                let (file, at) = (self.file, header.index);
+                let _ = eprintln!(self.rt;
+                    "ipld: {file}: the index at byte {at} is not used: {error}"
+                );
+            }
+        }
+    }
+
+    /// The block of this CID, or `None` where the file has none. What is wrong with the file is said.
+    pub fn find(&mut self, cid: &Cid) -> Result<Option<Section>, Outcome> {
+        if let Some(section) = self.find_indexed(cid) {
+            return Ok(Some(section));
+        }
+        let found = match self.passed.offsets.get(cid) {
+            Some(offset) => self.section_at(*offset),
+            None => self.read_on(cid),
+        };
+        match found {
+            Ok(found) => {
+                if found.is_some() && self.index.is_some() {
+                    let (file, cid) = (self.file, NamedCid::new(self.rt.alloc(), cid));
+                    let _ = eprintln!(self.rt; "ipld: {file}: {cid}: the index lacks this block");
+                }
+                Ok(found)
+            }
+            Err(error) => Err(report_car_error(self.rt, self.file, &error)),
+        }
+    }
+
+    /// The block of this CID to which the index leads, or `None` where it leads to none. That an entry leads to another block is said, and the
+    /// index isn't used any more then.
+    pub fn find_indexed(&mut self, cid: &Cid) -> Option<Section> {
+        let index = self.index.take()?;
+        match self.find_among(entries_of(&index, cid.hash()), cid) {
+            Indexed::Block(section) => {
+                self.index = Some(index);
+                Some(section)
+            }
+            Indexed::Nothing => {
+                self.index = Some(index);
+                None
+            }
+            Indexed::Wrong(offset) => {
+                let (file, cid) = (self.file, NamedCid::new(self.rt.alloc(), cid));
+                let _ = eprintln!(self.rt;
+                    "ipld: {file}: the index is wrong, and not used: what it has for {cid}, at byte {offset}, is no block of it"
+                );
+                None
+            }
+        }
+    }
+
+    // What these entries of an index lead to.
+    fn find_among(&self, entries: &[IndexEntry], cid: &Cid) -> Indexed {
+        for entry in entries {
+            let offset = self.start.saturating_add(entry.offset);
+            match self.section_at(offset) {
+                Ok(Some(section)) if section.cid() == cid => return Indexed::Block(section),
+                // A block of the same digest and of another codec.
+                Ok(Some(section)) if section.cid().hash() == cid.hash() => {}
+                _ => return Indexed::Wrong(offset),
+            }
+        }
+        Indexed::Nothing
+    }
+
+    // The block whose section begins at this byte of the file.
+    fn section_at(&self, offset: u64) -> Result<Option<Section>, CarFileError> {
+        let mut sections = sections_at(self.rt, &self.bytes, offset, self.end, self.limit)?;
+        let mut section = Section::new(self.rt.alloc());
+        match sections.read_section(&mut section) {
+            Ok(true) => Ok(Some(section)),
+            Ok(false) => Ok(None),
+            Err(error) => Err(CarFileError::from(error_in_file(offset, error))),
+        }
+    }
+
+    // Reads on to the block of this CID.
+    fn read_on(&mut self, cid: &Cid) -> Result<Option<Section>, CarFileError> {
+        let sections = sections_at(self.rt, &self.bytes, self.passed.end, self.end, self.limit)?;
+        match self.passed.read_on(self.rt.alloc(), sections, cid) {
+            Ok(Some(section)) => Ok(Some(section)),
+            Ok(None) => self.end_of_payload(),
+            Err(error) => Err(error),
+        }
+    }
+
+    // No block more, where the payload ends, by its header too.
+    fn end_of_payload(&self) -> Result<Option<Section>, CarFileError> {
+        match self.version {
+            CarVersion::V2 if self.passed.end < self.end => Err(CarFileError::Car(CarError {
+                kind: CarErrorKind::ShortPayload {
+                    expected: self.end.saturating_sub(self.start),
+                    found: self.passed.end.saturating_sub(self.start),
+                },
+                section: self.passed.end,
+                offset: self.passed.end,
+            })),
+            _ => Ok(None),
+        }
+    }
+}

@@ -1,0 +1,168 @@
+//! Whether the index of a CAR has each block where it stands.
+
+use crate::blocks::{header_of, index_at};
+use crate::bytes::{Bytes, BytesAt};
+use crate::complaints::report_unreadable;
+use crate::files::is_file;
+use crate::input::BUFFER;
+use crate::messages::Outcome;
+use car_files::{CarFileError, VerdictForm};
+use ipld_block::write_cid;
+use ipld_car::{CarHeader, CarReader, IndexEntry, IndexError, Section, entries_of};
+use ipld_cid::{Cid, IDENTITY};
+use std::cmp::Ordering;
+use std::fs;
+use std::io::{BufReader, Write};
+
+// What is wrong with an index.
+#[derive(Clone, Copy)]
+enum Fault {
+    // It has no entry for this block, whose section begins at this byte of the file.
+    Lacks(Cid, u64),
+    // It has an entry that leads to this byte, where no section of such a digest begins.
+    LeadsNowhere(u64),
+}
+
+// Writes what is wrong with an index.
+fn write_fault<W: Write>(
+    rt: &HostRuntime,
+    form: VerdictForm,
+    fault: &Fault,
+    writer: &mut W,
+) -> Result<(), CarFileError> {
+    match (form, fault) {
+        (VerdictForm::Line, Fault::Lacks(cid, offset)) => {
+            write_cid(rt.alloc(), writer, cid)?;
+            writeln!(
+                writer,
+                " at byte {offset}: the index has no entry for this block"
+            )?;
+        }
+        (VerdictForm::Line, Fault::LeadsNowhere(offset)) => {
+            writeln!(
+                writer,
+                "the index leads to byte {offset}, where no block of its digest begins"
+            )?;
+        }
+        (VerdictForm::Object, Fault::Lacks(cid, offset)) => {
+            writer.write_all(b"{\"cid\":\"")?;
+            write_cid(rt.alloc(), writer, cid)?;
+            write!(writer, "\",\"offset\":{offset}")?;
+            writer.write_all(b",\"error\":\"NotIndexed\"}\n")?;
+        }
+        (VerdictForm::Object, Fault::LeadsNowhere(offset)) => {
+            write!(writer, "{{\"offset\":{offset}")?;
+            writer.write_all(b",\"error\":\"WrongEntry\"}\n")?;
+        }
+    }
+    Ok(())
+}
+
+// A section of the payload.
+#[derive(Clone, Copy)]
+struct IndexedSection {
+    entry: IndexEntry,
+    cid: Cid,
+}
+
+// The sections of the payload, in the order of an index.
+fn sections_of(
+    rt: &HostRuntime,
+    bytes: &Bytes,
+    payload: u64,
+    limit: u64,
+) -> Result<Vec<IndexedSection>, CarFileError> {
+    let reader = BytesAt::new(bytes, 0, u64::MAX);
+    let reader = BufReader::with_capacity(rt.alloc(), BUFFER, reader)?;
+    let mut car = match CarReader::new(rt.alloc(), reader, limit) {
+        Ok(car) => car,
+        Err(error) => return Err(CarFileError::from(error)),
+    };
+    let mut section = Section::new(rt.alloc());
+    let mut stands = Vec::new(rt.alloc());
+    for _ in 0..u64::MAX {
+        let offset = car.offset().saturating_sub(payload);
+        match car.read_section(&mut section) {
+            Ok(true) => {}
+            Ok(false) => break,
+            Err(error) => return Err(CarFileError::from(error)),
+        }
+        let cid = *section.cid();
+        let hash = *cid.hash();
+        stands.push(IndexedSection {
+            entry: IndexEntry { hash, offset },
+            cid,
+        })?;
+    }
+    stands.sort_by_key(|it| it.entry)?;
+    Ok(stands)
+}
+
+// Compares an index with the sections of the payload, and writes what is wrong.
+fn compare<W: Write>(
+    rt: &HostRuntime,
+    form: VerdictForm,
+    header: &CarHeader,
+    entries: &[IndexEntry],
+    stands: &[IndexedSection],
+    writer: &mut W,
+) -> Result<Outcome, CarFileError> {
+    let mut outcome = Outcome::Done;
+    for it in stands {
+        // One entry is enough for several sections of a digest, and CIDs that carry their block, or have a digest without a byte, may have none.
+        let hash = it.cid.hash();
+        let carries = hash.code() == IDENTITY || hash.size() == 0;
+        let may_lack = carries && !header.is_fully_indexed;
+        if entries_of(entries, &it.entry.hash).is_empty() && !may_lack {
+            let at = header.payload.saturating_add(it.entry.offset);
+            write_fault(rt, form, &Fault::Lacks(it.cid, at), writer)?;
+            outcome = Outcome::NotSo;
+        }
+    }
+    for entry in entries {
+        if stands.binary_search_by(|it| it.entry.cmp(entry)).is_err() {
+            let at = header.payload.saturating_add(entry.offset);
+            write_fault(rt, form, &Fault::LeadsNowhere(at), writer)?;
+            outcome = Outcome::NotSo;
+        }
+    }
+    Ok(outcome)
+}
+
+// Says that an index can't be read.
+fn report_index_error(rt: &HostRuntime, file: &str, at: u64, error: &IndexError) -> Outcome {
+    let _ = eprintln!(rt; "ipld: {file}: the index at byte {at} is not read: {error}");
+    match error {
+        IndexError::Memory | IndexError::Read(_) => Outcome::Failed,
+        _ => Outcome::NotSo,
+    }
+}
+
+/// Writes where the index of a CAR of version 2 isn't right, if the file has one: each block that has no entry, and each entry that leads to no
+/// block of its digest. Of standard input and of pipes it isn't looked at.
+pub fn check_index<W: Write>(
+    rt: &HostRuntime,
+    file: &str,
+    limit: u64,
+    form: VerdictForm,
+    writer: &mut W,
+) -> Result<Outcome, CarFileError> {
+    if file == "-" || !is_file(rt, file) {
+        return Ok(Outcome::Done);
+    }
+    let bytes = match fs::open(rt, file) {
+        Ok(opened) => Bytes::File(opened),
+        Err(error) => return Ok(report_unreadable(rt, file, &error)),
+    };
+    let header = match header_of(&bytes) {
+        Ok(Some(header)) if header.index > 0 => header,
+        Ok(_) => return Ok(Outcome::Done),
+        Err(error) => return Ok(report_unreadable(rt, file, &error)),
+    };
+    let entries = match index_at(rt, &bytes, &header) {
+        Ok(entries) => entries,
+        Err(error) => return Ok(report_index_error(rt, file, header.index, &error)),
+    };
+    let stands = sections_of(rt, &bytes, header.payload, limit)?;
+    compare(rt, form, &header, &entries, &stands, writer)
+}

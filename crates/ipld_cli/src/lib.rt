@@ -1,0 +1,47 @@
+//! The files of the program `ipld`, and what it says of them.
+//!
+//! Files and standard input, read whole, as CARs or from any byte on; the blocks of a CAR by their CIDs, and those of files and CARs gathered for
+//! one that is made; outputs, so that nothing that is there is lost and nothing is left half written; what is wrong with a block, a CAR or a
+//! digest in a sentence, with what stands at the byte at fault; objects of JSON for scripts; and how a command ends.
+//!
+//! ```rust
+//! use ipld_cli::{Opened, open_blocks};
+//!
+//! match open_blocks(rt, file, limit, true)? {
+//!     Opened::Block(bytes) => show(&bytes),
+//!     Opened::Car(mut blocks) => blocks.find(&cid),
+//! }
+//! ```
+#![tactic(auto)]
+
+mod blocks;
+mod bytes;
+mod collected_blocks;
+mod complaints;
+mod files;
+mod hasher;
+mod index_check;
+mod input;
+pub mod json;
+mod messages;
+mod new_car;
+mod output;
+mod per_word;
+mod progress;
+mod writer;
+
+pub use blocks::{Blocks, Opened, open_blocks, open_indexed};
+pub use collected_blocks::{CollectedBlocks, Source};
+pub use complaints::{
+    Complaints, parse_cid_argument, report, report_car_error, report_invalid_block,
+    report_out_of_memory, report_show_error, report_unreadable, report_wrong_arguments,
+};
+pub use files::{is_file, read_file};
+pub use hasher::hasher_of;
+pub use index_check::check_index;
+pub use input::{BUFFER, Car, OpenCar, open_car};
+pub use messages::{DigestExplanation, Explanation, NamedCid, NoCid, Outcome};
+pub use new_car::{NewBlock, NewCar, framed_len, header_len};
+pub use output::{Content, Output, OutputError, output_of, report_unwritable, write};
+pub use per_word::{PerWord, reads_twice, run_over, run_to_end};
+pub use writer::{UntilClosed, end_writer};

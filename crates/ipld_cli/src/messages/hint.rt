@@ -1,0 +1,96 @@
+//! What a file seems to be that isn't what it was read as.
+
+use ipld_block::{BlockCodec, check};
+use ipld_car::{CarReader, DEFAULT_LIMIT};
+use ipld_cid_text::parse_any;
+use std::alloc::Global;
+use std::{fmt, str};
+
+/// What bytes seem to be. Its `Display` stands behind a message, and is empty where nothing is known.
+#[derive(Clone, Copy, Debug, PartialEq, Eq)]
+pub enum Hint {
+    /// Nothing is known.
+    Unknown,
+    /// There are no bytes.
+    Empty,
+    /// A CAR file.
+    Car,
+    /// A block of this codec, and of no other.
+    Block(BlockCodec),
+    /// A block of DAG-CBOR, and no CAR file.
+    NoCar,
+    /// The text of a CID.
+    CidText,
+    /// Other text.
+    Text,
+}
+
+impl fmt::Display for Hint {
+    fn fmt<W: fmt::Write>(&self, f: &mut fmt::Formatter<W>) -> fmt::Result {
+        f.write_str(match self {
+            Hint::Unknown => "",
+            Hint::Empty => " (there are no bytes)",
+            Hint::Car => " (it is a CAR file: ipld car reads it)",
+            Hint::Block(BlockCodec::DagCbor) => " (it is a block of DAG-CBOR: --codec dag-cbor)",
+            Hint::Block(BlockCodec::DagPb) => " (it is a block of DAG-PB: --codec dag-pb)",
+            Hint::Block(BlockCodec::Raw) => "",
+            Hint::NoCar => " (it is a block of DAG-CBOR: ipld show reads it)",
+            Hint::CidText => " (it is the text of a CID: ipld cid --text reads it)",
+            Hint::Text => " (it is text)",
+        })
+    }
+}
+
+// Whether text has no control characters but those between words and lines.
+fn is_plain(text: &str) -> bool {
+    text.chars()
+        .all(|c| !c.is_control() || c == '\n' || c == '\r' || c == '\t')
+}
+
+// What the bytes are as text, or that there are none.
+fn hint_of_text(bytes: &[u8]) -> Option<Hint> {
+    if bytes.is_empty() {
+        return Some(Hint::Empty);
+    }
+    let text = str::from_utf8(bytes).ok()?;
+    if parse_any(text.trim_end()).is_ok() {
+        Some(Hint::CidText)
+    } else if is_plain(text) {
+        Some(Hint::Text)
+    } else {
+        None
+    }
+}
+
+// The other codec than this whose block the bytes are.
+fn hint_of_block(alloc: Global, codec: BlockCodec, bytes: &[u8]) -> Hint {
+    let other = match codec {
+        BlockCodec::DagCbor => BlockCodec::DagPb,
+        _ => BlockCodec::DagCbor,
+    };
+    match check(alloc, other, bytes) {
+        Ok(()) => Hint::Block(other),
+        Err(_) => Hint::Unknown,
+    }
+}
+
+impl Hint {
+    /// What bytes seem to be that are no block of this codec. It allocates to read them as a CAR and as a block of another codec; where it
+    /// finds no memory, it knows less.
+    pub fn of_no_block(alloc: Global, codec: BlockCodec, bytes: &[u8]) -> Hint {
+        match hint_of_text(bytes) {
+            Some(hint) => hint,
+            None if CarReader::new(alloc, bytes, DEFAULT_LIMIT).is_ok() => Hint::Car,
+            None => hint_of_block(alloc, codec, bytes),
+        }
+    }
+
+    /// What bytes seem to be that are no CAR. It allocates to read them as a block; where it finds no memory, it knows less.
+    pub fn of_no_car(alloc: Global, bytes: &[u8]) -> Hint {
+        match hint_of_text(bytes) {
+            Some(hint) => hint,
+            None if check(alloc, BlockCodec::DagCbor, bytes).is_ok() => Hint::NoCar,
+            None => Hint::Unknown,
+        }
+    }
+}

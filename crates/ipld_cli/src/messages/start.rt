@@ -1,0 +1,162 @@
+//! What the first bytes of an item of CBOR say that it is, whether DAG-CBOR has it or not.
+
+use std::fmt;
+
+/// What the first bytes of an item of CBOR say that it is (RFC 8949, section 3), whether DAG-CBOR has it or not.
+///
+/// Its `Display` names it, as `a list` or `tag 2`.
+#[derive(Clone, Copy, Debug)]
+pub enum ItemStart {
+    /// No byte, or a head that is cut.
+    Cut,
+    /// An unsigned integer, its argument.
+    Unsigned(u64),
+    /// A negative integer, -1 less its argument.
+    Negative(u64),
+    /// A byte string of so many bytes.
+    Bytes(u64),
+    /// A text string of so many bytes.
+    Text(u64),
+    /// A list of so many items.
+    List(u64),
+    /// A map of so many entries.
+    Map(u64),
+    /// A tag of this number.
+    Tag(u64),
+    /// False or true.
+    Bool,
+    /// Null.
+    Null,
+    /// Undefined.
+    Undefined,
+    /// Another simple value, by its number.
+    Simple(u8),
+    /// A float of so many bits.
+    Float(u8),
+    /// A break, which ends an item of indefinite length.
+    Break,
+    /// A byte string of indefinite length.
+    IndefiniteBytes,
+    /// A text string of indefinite length.
+    IndefiniteText,
+    /// A list of indefinite length.
+    IndefiniteList,
+    /// A map of indefinite length.
+    IndefiniteMap,
+    /// Additional information that has no meaning there: 28 to 30, and 31 of integers and tags.
+    Reserved(u8),
+}
+
+impl ItemStart {
+    /// The argument of the head, where it has one.
+    pub fn argument(self) -> Option<u64> {
+        match self {
+            ItemStart::Unsigned(argument)
+            | ItemStart::Negative(argument)
+            | ItemStart::Bytes(argument)
+            | ItemStart::Text(argument)
+            | ItemStart::List(argument)
+            | ItemStart::Map(argument)
+            | ItemStart::Tag(argument) => Some(argument),
+            _ => None,
+        }
+    }
+}
+
+// The argument by the additional information, also where it isn't in its shortest form.
+fn argument(additional: u8, rest: &[u8]) -> Option<u64> {
+    match additional {
+        0..24 => Some(u64::from(additional)),
+        24 => Some(u64::from(*rest.first()?)),
+        25 => Some(u64::from(u16::from_be_bytes(*rest.first_chunk::<2>()?))),
+        26 => Some(u64::from(u32::from_be_bytes(*rest.first_chunk::<4>()?))),
+        27 => Some(u64::from_be_bytes(*rest.first_chunk::<8>()?)),
+        _ => None,
+    }
+}
+
+// A simple value or a float.
+fn simple_start(additional: u8, rest: &[u8]) -> ItemStart {
+    match additional {
+        20 | 21 => ItemStart::Bool,
+        22 => ItemStart::Null,
+        23 => ItemStart::Undefined,
+        24 => match rest {
+            [number, ..] => ItemStart::Simple(*number),
+            [] => ItemStart::Cut,
+        },
+        25 => ItemStart::Float(16),
+        26 => ItemStart::Float(32),
+        27 => ItemStart::Float(64),
+        28..31 => ItemStart::Reserved(additional),
+        31 => ItemStart::Break,
+        _ => ItemStart::Simple(additional),
+    }
+}
+
+// An item of a major type below 7, whose additional information is 31.
+fn indefinite_start(major: u8) -> ItemStart {
+    match major {
+        2 => ItemStart::IndefiniteBytes,
+        3 => ItemStart::IndefiniteText,
+        4 => ItemStart::IndefiniteList,
+        5 => ItemStart::IndefiniteMap,
+        _ => ItemStart::Reserved(31),
+    }
+}
+
+// An item of a major type below 7, with its argument.
+fn start_with_argument(major: u8, argument: u64) -> ItemStart {
+    match major {
+        0 => ItemStart::Unsigned(argument),
+        1 => ItemStart::Negative(argument),
+        2 => ItemStart::Bytes(argument),
+        3 => ItemStart::Text(argument),
+        4 => ItemStart::List(argument),
+        5 => ItemStart::Map(argument),
+        _ => ItemStart::Tag(argument),
+    }
+}
+
+/// What the bytes begin with.
+pub fn item_start(bytes: &[u8]) -> ItemStart {
+    let [first, rest @ ..] = bytes else {
+        return ItemStart::Cut;
+    };
+    match (*first / 32, *first % 32) {
+        (7, additional) => simple_start(additional, rest),
+        (_, additional @ 28..31) => ItemStart::Reserved(additional),
+        (major, 31) => indefinite_start(major),
+        (major, additional) => match argument(additional, rest) {
+            Some(argument) => start_with_argument(major, argument),
+            None => ItemStart::Cut,
+        },
+    }
+}
+
+impl fmt::Display for ItemStart {
+    fn fmt<W: fmt::Write>(&self, f: &mut fmt::Formatter<W>) -> fmt::Result {
+        f.write_str(match self {
+            ItemStart::Cut => "an item that is cut",
+            ItemStart::Unsigned(_) | ItemStart::Negative(_) => "an integer",
+            ItemStart::Bytes(_) => "a byte string",
+            ItemStart::Text(_) => "a text string",
+            ItemStart::List(_) => "a list",
+            ItemStart::Map(_) => "a map",
+            ItemStart::Tag(number) => return write!(f, "tag {number}"),
+            ItemStart::Bool => "a Boolean",
+            ItemStart::Null => "null",
+            ItemStart::Undefined => "undefined",
+            ItemStart::Simple(number) => return write!(f, "the simple value {number}"),
+            ItemStart::Float(_) => "a float",
+            ItemStart::Break => "a break",
+            ItemStart::IndefiniteBytes => "a byte string of indefinite length",
+            ItemStart::IndefiniteText => "a text string of indefinite length",
+            ItemStart::IndefiniteList => "a list of indefinite length",
+            ItemStart::IndefiniteMap => "a map of indefinite length",
+            ItemStart::Reserved(information) => {
+                return write!(f, "the reserved additional information {information}");
+            }
+        })
+    }
+}

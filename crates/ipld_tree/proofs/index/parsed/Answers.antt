@@ -1,6 +1,0 @@
-use Rattle.ipld_tree.proofs.Looking.{parsed_as}
-use Rattle.std.proofs.Common.{◌∙◌}
-use Rattle.ipld_tree.proofs.index.parsed.Goals as goal
-
-pub returns : goal.returns
-returns c = c.ok.ensures.value ∙ parsed_as c.args.text.now c.parse.result c.parse.ensures.value.0
