@@ -141,8 +141,8 @@ def word_of(kind, params, is_whole=True):
     if kind.startswith("&"):
         rest = re.sub(r"^'\w+\s*", "", kind[1:].strip())
         if rest.startswith("mut "):
-            return "RefMut" + word_of(rest[4:], params, is_whole)
-        return "Ref" + word_of(rest, params, is_whole)
+            return "RefMut" + word_of(rest[4:], params, False)
+        return "Ref" + word_of(rest, params, False)
     if kind.startswith("["):
         item, semicolon, size = kind[1:-1].partition(";")
         return (
@@ -217,7 +217,7 @@ class Source:
             for item in re.finditer(
                 r"^\s*(?:pub(?:\([^)]*\))? )?(?:struct|enum|union) (\w+)", text, re.M
             ):
-                self.types[item[1]] = module_of(path)
+                self.types.setdefault(item[1], []).append(module_of(path))
         self.functions = {
             path: list(self.functions_of(path, text)) for path, text in self.texts.items()
         }
@@ -275,5 +275,10 @@ class Source:
                     words.append(word_of(made.kind, made.params) + word_of(of_trait, made.params))
                 else:
                     kind = word_of(re.sub(r"<.*", "", made.kind).rpartition("::")[2], made.params)
-                    words = [*self.types.get(kind, words), kind]
+                    words = [*self.home_of(kind, words), kind]
         return "::".join([*words, name])
+
+    def home_of(self, kind, module):
+        """The module of a type that this module names: its own, if two types have one name."""
+        homes = self.types.get(kind, [module])
+        return module if module in homes else homes[-1]
