@@ -310,7 +310,7 @@ PARTS = {
     "proofs": proofs,
     "mutants": mutants,
     "programs": the_programs,
-    "bindings": lambda: commands(["bindings/test.sh"]),
+    "bindings": lambda: commands(["bindings/test.sh"], ["bindings/portable/test.sh"]),
     "bench": lambda: commands([".ci/bench"]),
     "readme": lambda: commands([".ci/readme"]),
 }

@@ -1,0 +1,35 @@
+"""The compilers by which the C file is tested: of each the command, its flags, and what runs a
+program of its processor."""
+
+STANDARD = ["-std=c99", "-Wall", "-Wextra", "-pedantic"]
+ASAN = ["-g", "-fsanitize=address,undefined", "-fno-sanitize-recover=all"]
+STRICT = ["-include", "strict_memory.h"]
+
+
+def cross(triple, processor, *flags):
+    return (f"{triple}-gcc", [*STANDARD, "-static", *flags], [f"qemu-{processor}"])
+
+
+COMPILERS = {
+    "gcc -O0": ("gcc", [*STANDARD, "-O0"], []),
+    "gcc -O2": ("gcc", [*STANDARD, "-O2"], []),
+    "clang -O2": ("clang", [*STANDARD, "-O2"], []),
+    "gcc -O2 baseline": ("gcc", [*STANDARD, "-O2", "-DKOMBILAD_BASELINE"], []),
+    "gcc -O2 plain": ("gcc", [*STANDARD, "-O2", "-DKOMBILAD_PLAIN"], []),
+    "gcc strict memcpy": ("gcc", [*STANDARD, "-O1", "-DKOMBILAD_PLAIN", *STRICT], []),
+    "tcc": ("tcc", [], []),
+    "musl-gcc": ("musl-gcc", [*STANDARD, "-O2", "-static"], []),
+    "gcc sanitized": ("gcc", [*STANDARD, "-O1", *ASAN], []),
+    "clang sanitized": ("clang", [*STANDARD, "-O1", *ASAN], []),
+    "aarch64": cross("aarch64-linux-gnu", "aarch64", "-O2"),
+    "riscv64": cross("riscv64-linux-gnu", "riscv64", "-O2"),
+    "s390x": cross("s390x-linux-gnu", "s390x", "-O2"),
+    "i386": cross("i686-linux-gnu", "i386", "-O2"),
+}
+
+
+def command(name):
+    """Returns the words of a compiler, with the folder of this file for what it includes."""
+    compiler, flags, _ = COMPILERS[name]
+    folder = __file__.rpartition("/")[0]
+    return [compiler, *(f"{folder}/{it}" if it == "strict_memory.h" else it for it in flags)]

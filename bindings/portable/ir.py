@@ -1,0 +1,194 @@
+"""The part of LLVM's IR that the translator knows: types, their layout in memory, operands,
+instructions, and what stops the translation."""
+
+import dataclasses
+from typing import Any, Dict, List, Optional, Tuple
+
+
+class Unknown(Exception):
+    """The module has something that the translator doesn't know."""
+
+
+# ---- Types
+
+
+@dataclasses.dataclass(frozen=True)
+class Integer:
+    bits: int
+
+
+@dataclasses.dataclass(frozen=True)
+class Pointer:
+    pass
+
+
+@dataclasses.dataclass(frozen=True)
+class Void:
+    pass
+
+
+@dataclasses.dataclass(frozen=True)
+class Array:
+    count: int
+    item: Any
+
+
+@dataclasses.dataclass(frozen=True)
+class Struct:
+    fields: Tuple[Any, ...]
+
+
+@dataclasses.dataclass(frozen=True)
+class Vector:
+    count: int
+    item: Any
+
+
+I1, I8, I16, I32, I64, I128 = (Integer(bits) for bits in (1, 8, 16, 32, 64, 128))
+POINTER, VOID = Pointer(), Void()
+
+
+def name_of(kind):
+    """Returns a type as LLVM writes it."""
+    if isinstance(kind, Integer):
+        return f"i{kind.bits}"
+    if isinstance(kind, Pointer):
+        return "ptr"
+    if isinstance(kind, Void):
+        return "void"
+    if isinstance(kind, Array):
+        return f"[{kind.count} x {name_of(kind.item)}]"
+    if isinstance(kind, Vector):
+        return f"<{kind.count} x {name_of(kind.item)}>"
+    return "{ " + ", ".join(map(name_of, kind.fields)) + " }"
+
+
+# ---- Layout in memory: that of the module's data layout, on every processor.
+
+LAYOUT = "e-m:e-p270:32:32-p271:32:32-p272:64:64-i64:64-i128:128-f80:128-n8:16:32:64-S128"
+TRIPLE = "x86_64-unknown-linux-gnu"
+
+
+def stored_bytes(kind):
+    """Returns how many bytes a load or a store of the type reads or writes."""
+    if isinstance(kind, Integer):
+        if kind.bits % 8:
+            raise Unknown(f"a number of {kind.bits} bits in memory")
+        return kind.bits // 8
+    if isinstance(kind, Vector):
+        if kind.item != I8:
+            raise Unknown(f"a vector in memory: {name_of(kind)}")
+        return kind.count
+    if isinstance(kind, Pointer):
+        return 8
+    raise Unknown(f"a load or a store of {name_of(kind)}")
+
+
+def alignment_of(kind):
+    """Returns the alignment of a type in bytes."""
+    if isinstance(kind, Integer):
+        size, power = (kind.bits + 7) // 8, 1
+        while power < size:
+            power *= 2
+        return min(power, 16)
+    if isinstance(kind, Pointer):
+        return 8
+    if isinstance(kind, Array):
+        return alignment_of(kind.item)
+    if isinstance(kind, Struct):
+        return max(map(alignment_of, kind.fields), default=1)
+    raise Unknown(f"the layout of {name_of(kind)}")
+
+
+def size_of(kind):
+    """Returns how far apart two values of the type are in an array."""
+    if isinstance(kind, (Integer, Pointer)):
+        step = alignment_of(kind)
+        return (stored_bytes(kind) + step - 1) // step * step
+    if isinstance(kind, Array):
+        return kind.count * size_of(kind.item)
+    if isinstance(kind, Struct):
+        end = offset_of(kind, len(kind.fields))
+        step = alignment_of(kind)
+        return (end + step - 1) // step * step
+    if isinstance(kind, Vector) and kind.item == I8 and kind.count & kind.count - 1 == 0:
+        return kind.count
+    raise Unknown(f"the layout of {name_of(kind)}")
+
+
+def offset_of(kind, field):
+    """Returns the offset of a field in a struct, or the end of its last field."""
+    at = 0
+    for place, item in enumerate(kind.fields):
+        step = alignment_of(item)
+        at = (at + step - 1) // step * step
+        if place == field:
+            return at
+        at += size_of(item)
+    return at
+
+
+# ---- Operands: a value beside its type
+
+
+@dataclasses.dataclass(frozen=True)
+class Operand:
+    """A value that an instruction takes.
+
+    `sort` is "local" or "global" (`value` is the name), "number" (an int, of an integer type),
+    "null", "zero", "undef" (also poison), "items" (a tuple of operands: a vector, an array or a
+    struct), or "expression" (a constant Instruction).
+    """
+
+    kind: Any
+    sort: str
+    value: Any = None
+
+
+@dataclasses.dataclass
+class Instruction:
+    """An instruction: `words` has what else its line says: the condition of a comparison, the
+    callee, indices, labels."""
+
+    op: str
+    kind: Any
+    operands: List[Operand]
+    result: Optional[str] = None
+    words: Dict[str, Any] = dataclasses.field(default_factory=dict)
+    line: str = ""
+
+    def __hash__(self):
+        return id(self)
+
+
+@dataclasses.dataclass
+class Block:
+    name: str
+    phis: List[Instruction] = dataclasses.field(default_factory=list)
+    body: List[Instruction] = dataclasses.field(default_factory=list)
+    end: Optional[Instruction] = None
+
+
+@dataclasses.dataclass
+class Function:
+    name: str
+    result: Any
+    parameters: List[Tuple[Any, str]]
+    is_internal: bool
+    blocks: List[Block] = dataclasses.field(default_factory=list)
+
+
+@dataclasses.dataclass
+class Constant:
+    """A global constant, as bytes."""
+
+    name: str
+    data: bytes
+    alignment: int
+
+
+@dataclasses.dataclass
+class Module:
+    functions: Dict[str, Function] = dataclasses.field(default_factory=dict)
+    constants: Dict[str, Constant] = dataclasses.field(default_factory=dict)
+    declared: Dict[str, Tuple[Any, List[Any]]] = dataclasses.field(default_factory=dict)
