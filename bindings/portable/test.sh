@@ -12,6 +12,7 @@ install=
 out=../out/portable
 mkdir -p "$out"
 
+./faults.py --check
 ./make.py "$out"
 ./test_ir2c.py --inputs 256 "gcc -O0" "gcc -O2" "clang -O2"
 compare/same.py "$out" ../../crates/kombilad_c/out/libkombilad_c.a "gcc -O0" "gcc -O2" "clang -O2" "gcc sanitized"
