@@ -279,6 +279,6 @@ class Source:
         return "::".join([*words, name])
 
     def home_of(self, kind, module):
-        """The module of a type that this module names: its own, if two types have one name."""
+        """Returns the module of a type that a module names: its own, if two types have one name."""
         homes = self.types.get(kind, [module])
         return module if module in homes else homes[-1]
