@@ -119,49 +119,48 @@ def keeping(toolchain, folder, made, stops_at=None):
     return made
 
 
-def build_static_library(crate):
+def build_keeping(crate):
     """
-    The path of a crate's static library, made over the libraries in the folders out/rlib; its
-    module stays in out/module/module.bc.
+    Proves a program or a static library over the libraries in the folders out/rlib, and builds it
+    by a compiler that keeps its module: out/module/module.bc. Returns the path of the static
+    library, or of the program's object. RT_JOBS is the number of jobs, and 1 if it isn't set.
     """
-    home = kit()
-    made = CRATES / crate / "out" / f"lib{crate}.a"
-    made.parent.mkdir(exist_ok=True)
-    kept = made.parent / "module"
-    words = [
-        home / "bin" / "rattle",
-        "build",
-        "--crate-name",
-        crate,
-        "--crate-type",
-        "staticlib",
-        "src/lib.rt",
-        "-o",
-        made,
-    ]
-    words += ["-L", f"dependency={home}/rlibs"]
+    home, out = kit(), CRATES / crate / "out"
+    kept = out / "module"
+    kept.mkdir(parents=True, exist_ok=True)
+    words = [home / "bin" / "rattle", "build", "--crate-name", crate]
+    if (CRATES / crate / "src" / "main.rt").is_file():
+        made = kept / f"{crate}.o"
+        words += ["src/main.rt"]
+    else:
+        made = out / f"lib{crate}.a"
+        words += ["--crate-type", "staticlib", "src/lib.rt"]
+    words += ["-o", made, "-L", f"dependency={home}/rlibs"]
     for name in ("std", *of_kit(crate)):
         words += ["--extern", f"{name}={home}/rlibs/{name}.rlib"]
     for name in libraries(crate):
         folder = CRATES / name / "out" / "rlib"
         words += ["--extern", f"{name}={folder}/{name}.rlib", "-L", f"dependency={folder}"]
-    words += [
-        "--antt-project",
-        home / "rattle" / "logic" / "antt-project.json",
-        "--logic-built",
-        home / "logic_built",
-    ]
-    words += ["--links", f"{crate}=", "--jobs", "1"]
+    words += ["--antt-project", home / "rattle" / "logic" / "antt-project.json"]
+    words += ["--logic-built", home / "logic_built"]
+    words += ["--links", f"{crate}=", "--jobs", os.environ.get("RT_JOBS", "1")]
     # Its links stand outside of out/, in which rt takes none.
     with tempfile.TemporaryDirectory() as toolchain:
-        said = told(
-            [*words, "--toolchain", keeping(home / "toolchain", kept, pathlib.Path(toolchain))],
-            CRATES / crate,
-            made.name,
-        )
+        words += ["--toolchain", keeping(home / "toolchain", kept, pathlib.Path(toolchain))]
+        said = told(words, CRATES / crate, made.name)
     if "logic=proved " not in said:
         raise NotBuilt(f"rattle did not say that {crate} is proved:\n{said[-3000:]}")
     return made
+
+
+def has_libraries(crate):
+    """
+    Returns whether `rt ci` left the libraries below a crate, without what `rt lib` knows them by.
+    """
+    return all(
+        (folder / f"{name}.rlib").is_dir() and not (folder / "stamp").is_file()
+        for name, folder in ((it, CRATES / it / "out" / "rlib") for it in libraries(crate))
+    )
 
 
 def static_library(crate):
@@ -169,11 +168,7 @@ def static_library(crate):
     The path of a crate's static library: over what `rt ci` left, else as `rt lib` makes it, which
     proves what isn't yet.
     """
-    # `rt ci` leaves the libraries without what `rt lib` knows them by.
-    if any(
-        (folder / "stamp").is_file() or not (folder / f"{name}.rlib").is_dir()
-        for name, folder in ((it, CRATES / it / "out" / "rlib") for it in libraries(crate))
-    ):
+    if not has_libraries(crate):
         print(
             f"rt lib of {crate}: it proves and builds what isn't yet, which takes minutes in a fresh clone",
             file=sys.stderr,
@@ -182,4 +177,4 @@ def static_library(crate):
         return CRATES / crate / "out" / f"lib{crate}.a"
     # `rt ci` makes the program of all that the libraries are made of.
     built("ipld_links", "ipld_links")
-    return build_static_library(crate)
+    return build_keeping(crate)

@@ -3,16 +3,18 @@
 #
 #     bindings/release.sh [--uncommitted] FOLDER
 #
-#     kombilad-VERSION-x86_64-linux.tar.gz    header, static and shared library, kombilad.pc, licences: for C
-#     kombilad-VERSION-cp39-abi3-*.whl        for pip
-#     kombilad*-VERSION.crate                 as `cargo package` lays them out, and the licences
+#     libkombilad-VERSION.tar.gz              for C: the C file, its header, CMakeLists.txt
+#     kombilad-VERSION.tar.gz                 for pip: the sdist
+#     kombilad-VERSION-cp39-abi3-*.whl        for pip: the wheel
+#     kombilad*-VERSION.crate                 for cargo, as `cargo package` lays them out, with the licences
+#     kombilad-go-VERSION.zip                 for go: the module's zip
 #     kombilad-VERSION.tgz                    for npm
 #     BUILT-FROM                              version and commit, which toolchain proved it, which tools made the files
 #     SHA256SUMS                              of all of these
 #
-# Changes that aren't committed are an error; with --uncommitted BUILT-FROM says that there were some. What isn't proved and built yet is,
-# as build.sh and wasm.sh do it. Where BUILT is set, the library and the package for npm are taken from bindings/out as they stand there.
-# It needs what build.sh, wheel.sh and wasm.sh need, and git. A library or a package that --unproved made is refused.
+# It refuses changes that aren't committed; with --uncommitted BUILT-FROM names them. It refuses a dist/ that isn't what the commit makes. If
+# BUILT is set, it takes the C file from the folder DIST, or from dist/ as it is, and the packages for Python and npm that bindings/out has.
+# It needs what portable/make.py, wheel.sh and wasm.sh need, and git. It refuses what --unproved made.
 set -eu
 umask 022
 export LC_ALL=C TZ=UTC0
@@ -35,7 +37,7 @@ NEEDS_RT=no
 . ../.ci/start.sh
 out=$PWD/out
 version=$(cat ../VERSION)
-../.ci/needs --tools git ar readelf
+../.ci/needs --tools git
 commit=$(git rev-parse -q --verify HEAD 2> /dev/null) || failed "these sources are not a clone of the repository: check them out by git, since a release names its commit"
 SOURCE_DATE_EPOCH=$(git log -1 --format=%ct HEAD)
 export SOURCE_DATE_EPOCH
@@ -45,17 +47,28 @@ if [ -n "$changes" ] && [ -z "$uncommitted" ]; then
     failed "these changes aren't committed"
 fi
 
+[ -n "${BUILT:-}" ] || DIST=../dist
+dist=$(realpath "${DIST:-../dist}")
+! grep -q "NOTHING OF THIS FILE IS PROVED" "$dist/kombilad.c" || failed "$dist/kombilad.c is not of the proved library: run bindings/portable/make.py dist"
 if [ -z "${BUILT:-}" ]; then
-    ./build.sh > /dev/null
+    portable/make.py "$out/portable" > /dev/null
+    compared=$(portable/make.py --compare "$out/portable" 2>&1) || true
+    if [ "$(echo "$compared" | grep -c 'is what its sources give$')" != "$(echo "$compared" | wc -l)" ]; then
+        echo "$compared" >&2
+        failed "dist/ is not what this commit makes: run bindings/portable/make.py dist, and commit it"
+    fi
     ./wasm.sh > /dev/null
 fi
+[ -n "${BUILT:-}" ] && [ -e "$out/kombilad-$version.tar.gz" ] || DIST=$dist ./wheel.sh > /dev/null
 stage=$(mktemp -d)
 trap 'rm -rf "$stage"' EXIT
 
 # What --unproved made has the mark inside too, so that another name doesn't hide it.
-again="is not of the proved library: run bindings/build.sh and bindings/wasm.sh"
-[ "$(ar t "$out/libkombilad.a")" = kombilad.o ] || failed "$out/libkombilad.a $again"
-readelf -d "$out/libkombilad.so.0" | grep -qF '[libkombilad.so.0]' || failed "$out/libkombilad.so.0 $again"
+again="is not of the proved library: run bindings/wheel.sh and bindings/wasm.sh"
+{ tar -xzOf "$out/kombilad-$version.tar.gz" "kombilad-$version/PKG-INFO" 2> /dev/null || true; } | grep -qx "Version: $version" ||
+    failed "$out/kombilad-$version.tar.gz $again"
+python3 -c 'import sys, zipfile; sys.exit(not any(it.startswith(sys.argv[2]) for it in zipfile.ZipFile(sys.argv[1]).namelist()))' \
+    "$(echo "$out"/kombilad-"$version"-*.whl)" "kombilad-$version.dist-info/" || failed "the wheel in $out $again"
 tar -xzOf "$out/kombilad-$version.tgz" package/package.json | grep -qF "\"version\": \"$version\"" || failed "$out/kombilad-$version.tgz $again"
 mkdir -p "$into"
 
@@ -65,18 +78,32 @@ tarball() {
         --mtime="@$SOURCE_DATE_EPOCH" --no-recursion -T - -cf - | gzip -9n > "$1")
 }
 
+# tracked FOLDER NAME: copies the files that git has in FOLDER, or could add, to the folder NAME of the stage, with the licences.
+tracked() {
+    mkdir -p "$stage/$2"
+    (cd "$1" && git ls-files -z --cached --others --exclude-standard | tar --null -T - -cf -) | tar -C "$stage/$2" -xf -
+    cp ../LICENSE-APACHE ../LICENSE-MIT "$stage/$2"
+}
+
+# source_to FOLDER: copies the C file and its header.
+source_to() {
+    mkdir -p "$1"
+    cp "$dist/kombilad.c" "$dist/kombilad.h" "$1"
+}
+
 # ---- C
 
-name=kombilad-$version-x86_64-linux
-./install.sh "$stage/$name" > /dev/null
-# Wherever it is unpacked, pkg-config finds the rest beside this file.
-sed "s|@PREFIX@|\${pcfiledir}/../..|; s|@VERSION@|$version|" c/kombilad.pc.in > "$stage/$name/lib/pkgconfig/kombilad.pc"
-cp ../LICENSE-APACHE ../LICENSE-MIT "$stage/$name"
+name=libkombilad-$version
+tracked c "$name"
+rm "$stage/$name/alloc.c"
+source_to "$stage/$name"
 tarball "$into/$name.tar.gz" "$name"
 
 # ---- Python
 
-./wheel.sh > /dev/null
+tar -C "$stage" -xzf "$out/kombilad-$version.tar.gz"
+tarball "$into/kombilad-$version.tar.gz" "kombilad-$version"
+rm -r "$stage/kombilad-$version" # a crate has this name too
 cp "$out"/kombilad-"$version"-*.whl "$into"
 
 # ---- Rust
@@ -85,15 +112,33 @@ cp "$out"/kombilad-"$version"-*.whl "$into"
 # one of the repository. cargo itself asks a registry for the crates of this repository, which has them only once they are published.
 for crate in kombilad-sys kombilad kombilad-cid; do
     name=$crate-$version
-    mkdir "$stage/$name"
-    (cd "rust/$crate" && git ls-files -z --cached --others --exclude-standard | tar --null -T - -cf -) | tar -C "$stage/$name" -xf -
+    tracked "rust/$crate" "$name"
+    [ "$crate" != kombilad-sys ] || source_to "$stage/$name/c"
     mv "$stage/$name/Cargo.toml" "$stage/$name/Cargo.toml.orig"
     sed 's/path = "\.\.[^"]*", //; /^\[workspace\]$/d' "$stage/$name/Cargo.toml.orig" > "$stage/$name/Cargo.toml"
     ! grep -n '\.\./' "$stage/$name/Cargo.toml" || failed "Cargo.toml of $crate names a path outside of it"
     printf '{\n  "git": {\n    "sha1": "%s"\n  },\n  "path_in_vcs": "bindings/rust/%s"\n}' "$commit" "$crate" > "$stage/$name/.cargo_vcs_info.json"
-    cp ../LICENSE-APACHE ../LICENSE-MIT "$stage/$name"
     tarball "$into/$name.crate" "$name"
 done
+
+# ---- Go
+
+# As Go's module proxies have it: all files below MODULE@vVERSION, without the folder of another module.
+name=$(sed -n 's/^module //p' go/go.mod)@v$version
+tracked go "go/$name"
+rm -r "$stage/go/$name/bench"
+source_to "$stage/go/$name"
+(cd "$stage/go" && find "$name" ! -type d | sort | python3 -c '
+import os, sys, time, zipfile
+
+when = time.gmtime(int(os.environ["SOURCE_DATE_EPOCH"]))[:6]
+with zipfile.ZipFile(sys.argv[1], "w", zipfile.ZIP_DEFLATED) as made:
+    for name in sys.stdin.read().splitlines():
+        entry = zipfile.ZipInfo(name, when)
+        entry.external_attr = 0o644 << 16
+        with open(name, "rb") as file:
+            made.writestr(entry, file.read(), zipfile.ZIP_DEFLATED)
+' "$into/kombilad-go-$version.zip")
 
 # ---- JavaScript
 
@@ -106,11 +151,10 @@ first_line() { "$@" 2>&1 | head -n 1; }
     echo "version: $version"
     echo "commit: $commit${changes:+, and changes that are not committed}"
     echo "time of the commit: $(date -u -d "@$SOURCE_DATE_EPOCH" +%Y-%m-%dT%H:%M:%SZ)"
-    echo "proved and compiled by: $(rt version)${BUILT:+, of the sources as they were when bindings/out was made}"
-    echo "C compiler: $(first_line "${CC:-cc}" --version)"
-    echo "linker: $(first_line ld --version)"
+    echo "proved by: $(rt version)${BUILT:+, of the sources as they were when dist and bindings/out were made}"
+    echo "extension module by: $(first_line "${CC:-cc}" --version), $(first_line ld --version)"
     echo "wheel by: $(/usr/bin/python3 -c 'import platform, setuptools, wheel; print("Python", platform.python_version() + ", setuptools", setuptools.__version__ + ", wheel", wheel.__version__)')"
-    echo "package for npm by: $(first_line wasm-opt --version)"
+    echo "package for npm by: $(first_line clang --version), $(first_line wasm-ld --version)"
     echo "archives by: $(first_line tar --version), $(first_line gzip --version)"
 } > "$into/BUILT-FROM"
 chmod 644 "$into"/*

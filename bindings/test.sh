@@ -1,11 +1,13 @@
 #!/bin/sh
-# Tests libkombilad and what calls it: C, C++, Rust and Python, each call with each buffer that is too short and each allocation refused,
-# threads, 10,000,000 nested lists, random blocks, nodes of DAG-PB and CARs against an independent reader, and the snippets of the README as they stand.
+# Tests libkombilad and what calls it: C, C++, Rust, Python, JavaScript and Go, each call with each buffer that is too short and each allocation refused,
+# threads, 10,000,000 nested lists, random blocks, nodes of DAG-PB and CARs against an independent reader, and the programs that pages show.
 #
-# It takes the library that `rt ci` or `rt lib` proved and built. Before anything else it asks `.ci/needs bindings` for all that it and the
-# scripts that it calls need; where the variable CI is `true` it installs what is missing. It writes into bindings/out, and a checkout into a
-# temporary folder. Any failure is its own.
+# The library for x86-64 is the one that `rt ci` or `rt lib` proved and built. The packages are built of the C file that portable/make.py
+# makes of the same module, or of the one in the folder DIST. Before anything else the script asks `.ci/needs bindings` for all that it and
+# the scripts that it calls need. If the variable CI is `true` it installs what is missing. It writes into bindings/out, and a checkout into
+# a temporary folder.
 set -eu
+[ -z "${DIST:-}" ] || DIST=$(realpath "$DIST")
 cd "$(dirname "$0")"
 . ../.ci/start.sh
 registry=/usr/share/cargo/registry
@@ -21,14 +23,33 @@ install=
 
 ./build.sh > /dev/null
 out=$PWD/out
-version=$(cat ../VERSION)
 tests=$out/tests
 rm -rf "$tests"
 mkdir -p "$tests"
+if [ -z "${DIST:-}" ]; then
+    DIST=$out/portable
+    portable/make.py "$DIST" kombilad > /dev/null
+fi
+export DIST
+
+# The packages, and the C file as far from them as it is in the repository.
+copy=$tests/copy
+mkdir -p "$copy/bindings" "$copy/dist"
+cp -r c rust "$copy/bindings"
+cp "$DIST/kombilad.c" "$DIST/kombilad.h" "$copy/dist"
+
+# ---- The package for C
+
+prefix=$tests/prefix
+quietly() { "$@" > "$tests/log" 2>&1 || { cat "$tests/log"; exit 1; }; }
+quietly cmake -S "$copy/bindings/c" -B "$tests/c" -DCMAKE_C_FLAGS_RELEASE=-O2 -DCMAKE_C_FLAGS="-Wall -Wextra -Werror" \
+    -DCMAKE_POSITION_INDEPENDENT_CODE=ON -DCMAKE_INSTALL_PREFIX="$prefix"
+quietly cmake --build "$tests/c"
+quietly cmake --install "$tests/c"
 
 # ---- What is exported, and what the header, the bindings and the definitions say of the numbers
 
-python3 test/exports.py "$out/libkombilad.a" "$out/libkombilad.so.$version"
+python3 test/exports.py "$out/libkombilad.a" "$out/libkombilad.so.0" "$prefix/lib/libkombilad.a"
 python3 test/numbers.py
 
 # ---- C and C++
@@ -38,16 +59,15 @@ wrapped="-Wl,--wrap=malloc,--wrap=realloc,--wrap=free"
 # shellcheck disable=SC2086
 {
     cc -std=c11 -g -O1 $warnings -fsanitize=address,undefined -fno-sanitize-recover=all -Ic test/calls.c "$out/libkombilad.a" $wrapped -pthread -o "$tests/calls-sanitized"
-    cc -std=c11 -O2 $warnings -Ic test/calls.c "$out/libkombilad.a" $wrapped -pthread -o "$tests/calls"
     "$tests/calls-sanitized"
-    # shellcheck disable=SC3045
-    (ulimit -s 512 && "$tests/calls" && "$tests/calls" deep)
+    for library in "$out/libkombilad.a" "$prefix/lib/libkombilad.a"; do
+        cc -std=c11 -O2 $warnings -I"$copy/dist" test/calls.c "$library" $wrapped -pthread -o "$tests/calls"
+        # shellcheck disable=SC3045
+        (ulimit -s 512 && "$tests/calls" && "$tests/calls" deep)
+    done
 }
 
-prefix=$tests/prefix
-./install.sh "$prefix" > /dev/null
 export PKG_CONFIG_PATH="$prefix/lib/pkgconfig"
-export LD_LIBRARY_PATH="$prefix/lib"
 # shellcheck disable=SC2046,SC2086
 g++ -std=c++11 -O2 $warnings test/calls.cpp $(pkg-config --cflags --libs kombilad) -o "$tests/calls-in-c++"
 "$tests/calls-in-c++"
@@ -56,9 +76,6 @@ g++ -std=c++11 -O2 $warnings test/calls.cpp $(pkg-config --cflags --libs kombila
 
 export CARGO_TARGET_DIR="$out/rust"
 export CARGO_NET_OFFLINE=true
-export KOMBILAD_LIB_DIR="$prefix/lib"
-rm -rf "$tests/rust"
-cp -r rust "$tests/rust"
 # cargo with the crates that Debian's packages have installed.
 with_debian() {
     command=$1
@@ -66,17 +83,19 @@ with_debian() {
     cargo "$command" -q --config 'source.crates-io.replace-with="debian"' --config "source.debian.directory=\"$registry\"" "$@" \
         > "$tests/rust.log" 2>&1 || { cat "$tests/rust.log"; exit 1; }
 }
-with_debian test --manifest-path "$tests/rust/Cargo.toml"
-said "Rust, linked statically: ok"
-KOMBILAD_DYNAMIC=1 with_debian test --test calls --test car --test values --test typed --manifest-path "$tests/rust/Cargo.toml"
-said "Rust, linked dynamically: ok"
-with_debian test --no-default-features --test calls --test car --test values --manifest-path "$tests/rust/Cargo.toml"
+rust=$copy/bindings/rust
+with_debian test --manifest-path "$rust/Cargo.toml"
+said "Rust: ok"
+with_debian test --no-default-features --test calls --test car --test values --manifest-path "$rust/Cargo.toml"
 said "Rust without serde: ok"
-RUSTDOCFLAGS="-D warnings" with_debian doc --no-deps --manifest-path "$tests/rust/Cargo.toml"
+RUSTDOCFLAGS="-D warnings" with_debian doc --no-deps --manifest-path "$rust/Cargo.toml"
 said "Rust, documentation: ok"
-with_debian test --manifest-path "$tests/rust/kombilad-cid/Cargo.toml"
-said "Rust, beside $(basename "$(echo "$registry"/cid-[0-9]*)"): ok"
-unset LD_LIBRARY_PATH
+with_debian build --examples --manifest-path "$rust/Cargo.toml"
+# Over installed libraries: the static one of the package for C, and the shared one for x86-64.
+KOMBILAD_LIB_DIR=$prefix/lib with_debian test --manifest-path "$rust/kombilad-cid/Cargo.toml"
+said "Rust, over a static library and with $(basename "$(echo "$registry"/cid-[0-9]*)"): ok"
+KOMBILAD_LIB_DIR=$out LD_LIBRARY_PATH=$out with_debian test --test calls --test car --test values --test typed --manifest-path "$rust/Cargo.toml"
+said "Rust, over a shared library: ok"
 
 # ---- Python
 
@@ -94,36 +113,49 @@ unset LD_LIBRARY_PATH
 PYTHONPATH=/usr/lib/python3/dist-packages "$tests/venv/bin/python" test/values.py "$blocks"
 PYTHONPATH=/usr/lib/python3/dist-packages "$tests/venv/bin/python" test/missing_blocks.py "$tests/missing"
 
-# Where the interpreter's lock is released.
+# The package with other extension modules: one that looks at the interpreter's lock at some calls, one whose allocations in libkombilad are
+# refused, and both of its C code under the sanitizers.
+installed=$("$tests/venv/bin/python" -c 'import kombilad, pathlib; print(pathlib.Path(kombilad.__file__).parent)')
+(cd "$tests" && ar x "$prefix/lib/libkombilad.a")
+library=$tests/kombilad.c.o
+include="-I$copy/dist -Ipython/native -I$("$python" -c 'import sysconfig; print(sysconfig.get_path("include"))')"
+# module NAME WORD..: puts the package with the module that these words make into the folder NAME.
+module() {
+    name=$1
+    shift
+    mkdir "$tests/$name"
+    cp -r "$installed" "$tests/$name/"
+    # shellcheck disable=SC2086
+    cc -std=c11 -fPIC -shared $warnings $include python/native/*.c "$@" -o "$tests/$name/kombilad/_native.abi3.so"
+}
+failing="test/failing.c -Wl,--wrap=malloc,--wrap=realloc"
+sanitizers="-g -O1 -fsanitize=address,undefined -fno-sanitize-recover=all"
 renamed=
 for name in kombilad_tape kombilad_block_check kombilad_block_check_canonical kombilad_verify; do renamed="$renamed --redefine-sym $name=real_$name"; done
 # shellcheck disable=SC2086
-objcopy $renamed "$out/kombilad.o" "$tests/renamed.o"
+objcopy $renamed "$library" "$tests/renamed.o"
+module lock -O1 -D_POSIX_C_SOURCE=200809L test/lock.c "$tests/renamed.o" -pthread
+PYTHONPATH=$tests/lock "$tests/venv/bin/python" test/lock.py
 # shellcheck disable=SC2086
-cc -std=c11 -O1 $warnings -D_POSIX_C_SOURCE=200809L -shared -fPIC -Ic test/lock.c "$tests/renamed.o" -pthread -Wl,-soname,libkombilad.so.0 -o "$tests/libkombilad-lock.so"
-KOMBILAD_LIBRARY=$tests/libkombilad-lock.so "$tests/venv/bin/python" test/lock.py
-
-# The extension module under the sanitizers, and with each allocation refused.
-cc -shared -fPIC -O1 -o "$tests/libkombilad-failing.so" test/failing.c -Wl,--whole-archive "$out/libkombilad.a" -Wl,--no-whole-archive \
-    -Wl,-soname,libkombilad.so.0 -Wl,--wrap=malloc,--wrap=realloc
-KOMBILAD_LIBRARY=$tests/libkombilad-failing.so "$tests/venv/bin/python" test/allocations.py
-mkdir "$tests/sanitized"
-cp -r "$("$tests/venv/bin/python" -c 'import kombilad, pathlib; print(pathlib.Path(kombilad.__file__).parent)')" "$tests/sanitized/"
+module failing -O1 $failing "$library"
+PYTHONPATH=$tests/failing "$tests/venv/bin/python" test/allocations.py
 # shellcheck disable=SC2086
-cc -std=c11 -g -O1 -fPIC -shared -fvisibility=hidden $warnings -fsanitize=address,undefined -fno-sanitize-recover=all -Ipython/native -I"$out" \
-    -I"$("$python" -c 'import sysconfig; print(sysconfig.get_path("include"))')" python/native/*.c \
-    -o "$tests/sanitized/kombilad/_native.abi3.so" -L"$out" -l:libkombilad.so.0 -Wl,-rpath,'$ORIGIN'
+module sanitized $sanitizers $failing "$library"
 sanitized() {
     LD_PRELOAD=$(cc -print-file-name=libasan.so) ASAN_OPTIONS=detect_leaks=0 PYTHONMALLOC=malloc PYTHONDONTWRITEBYTECODE=1 \
         PYTHONPATH="$tests/sanitized:/usr/lib/python3/dist-packages" "$python" "$@"
 }
 sanitized test/values.py 1000
 sanitized test/car.py
-KOMBILAD_LIBRARY=$tests/libkombilad-failing.so sanitized test/allocations.py
+sanitized test/allocations.py
 
 # ---- JavaScript
 
 js/test.sh
+
+# ---- Go
+
+go/test.sh
 
 # ---- What is published
 
@@ -139,8 +171,7 @@ printf '\202\330\052\105\000\001\125\000\000\330\052\130\043\000\022\040\343\260
 printf 'bafkqaaa\nQmdfTbBqBPQ7VNxZEYEj14VmRuZBkqFbiwReogJgS1zR1n\n' > "$tests/expected"
 # shellcheck disable=SC2046,SC2086
 cc -O2 $warnings c/examples/links.c $(pkg-config --cflags --libs kombilad) -o "$tests/links"
-LD_LIBRARY_PATH=$prefix/lib "$tests/links" "$tests/block" | cmp - "$tests/expected"
-with_debian build --examples --manifest-path "$tests/rust/Cargo.toml"
+"$tests/links" "$tests/block" | cmp - "$tests/expected"
 "$out/rust/debug/examples/links" "$tests/block" | cmp - "$tests/expected"
 "$tests/venv/bin/python" python/examples/links.py "$tests/block" | cmp - "$tests/expected"
 printf 'Link(Cid(bafkqaaa))\nLink(Cid(QmdfTbBqBPQ7VNxZEYEj14VmRuZBkqFbiwReogJgS1zR1n))\n' > "$tests/expected"

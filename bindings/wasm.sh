@@ -1,100 +1,74 @@
 #!/bin/sh
-# Makes the proved library for WebAssembly with 32-bit memory, bindings/out/wasm/kombilad.wasm, and of it the package for JavaScript,
-# bindings/out/kombilad-VERSION.tgz, and the inspector, bindings/out/inspector.
+# Makes the library for WebAssembly with 32-bit memory, bindings/out/wasm/kombilad.wasm, of the C file, and of it the package for
+# JavaScript, bindings/out/kombilad-VERSION.tgz, and the inspector, bindings/out/inspector. It needs clang and LLVM's linker, wasm-ld.
 #
-#     bindings/wasm.sh [--unproved] [--heap MIB]   how much memory it may ever have, in MiB: at most 4095 (and 4095 if left out)
-#     MODULE=FILE.ll bindings/wasm.sh ..           of this module in place of the proved one: for tests of the steps
+#     bindings/wasm.sh [--unproved] [--heap MIB]      MIB is the most memory that it may have, from 3 to 4095 (4095 if left out)
 #
-# With --unproved it proves nothing, and makes bindings/out/unproved/kombilad-VERSION-unproved.tgz, and the rest in bindings/out/unproved too.
-# It needs rt, Python 3.9 and binaryen's wasm-opt. docs/BINDINGS.md says what each step does, and what is proved of the result.
+# DIST is the absolute path of the folder with kombilad.c and kombilad.h, or dist of the repository. With --unproved the package is
+# bindings/out/unproved/kombilad-VERSION-unproved.tgz, the rest is in bindings/out/unproved too, and if DIST isn't set, the C file is made
+# without proofs first. docs/BINDINGS.md describes each step, and what is proved of the result.
 set -eu
 cd "$(dirname "$0")"
+# shellcheck disable=SC2034
+NEEDS_RT=no
 . ../.ci/start.sh
 out=$PWD/out
 heap=4095
-code=proved
 mark=
 if [ "${1:-}" = --unproved ]; then
-    mark=-unproved code=unproved out=$out/unproved
+    mark=-unproved out=$out/unproved
     shift
 fi
+dist=${DIST:-$(cd .. && pwd)/dist}
 made=$out/wasm
 case ${1:-} in
     "") ;;
     --heap) heap=${2:-0} ;;
-    *) sed -n '2,9s/^# \{0,1\}//p' "$(basename "$0")" >&2; exit 2 ;;
+    *) sed -n '5s/^# *//p' "$(basename "$0")" >&2; exit 2 ;;
 esac
-[ "$heap" -ge 2 ] && [ "$heap" -le 4095 ] || { echo "wasm.sh: --heap is from 2 to 4095" >&2; exit 2; }
-../.ci/needs --tools rt wasm-opt
+[ "$heap" -ge 3 ] && [ "$heap" -le 4095 ] || { echo "wasm.sh: --heap takes a number from 3 to 4095" >&2; exit 2; }
+../.ci/needs --tools clang wasm-ld
+if [ -n "$mark" ] && [ -z "${DIST:-}" ]; then
+    dist=$out/module
+    portable/make.py --unproved "$dist" > /dev/null
+fi
+[ -e "$dist/kombilad.c" ] || { echo "wasm.sh: there is no $dist/kombilad.c: make it by bindings/portable/make.py $dist" >&2; exit 1; }
+if [ -z "$mark" ] && grep -qF "NOTHING OF THIS FILE IS PROVED" "$dist/kombilad.c"; then
+    echo "wasm.sh: $dist/kombilad.c is made without proofs: run wasm.sh --unproved, or make the file by bindings/portable/make.py $dist" >&2
+    exit 1
+fi
 mkdir -p "$made"
 
-# 1. The proved module, as text; or one of the same sources that nobody proved.
-module=${MODULE:-}
-if [ -z "$module" ] && [ -n "$mark" ]; then
-    ../.ci/quick.py --library kombilad_c "$out/module"
-    module=$out/module/module.ll
-elif [ -z "$module" ]; then
-    python3 wasm/module.py "$made"
-    module=$made/module.ll
-fi
-
-# 2. For WebAssembly.
-python3 wasm/retarget.py ${mark:+--unproved} "$module" "$made/retargeted.new"
-
-# 3. Compiled and linked by the kit's tools, with the words that the kit's own builds for WebAssembly have.
-tools=$(dirname "$(rt doc)")/toolchain/bin
-target="--target=wasm64-unknown-unknown -mcpu=lime1 --no-default-config -no-canonical-prefixes -fintegrated-cc1 -ffunction-sections -fdata-sections -Werror"
-late="-expand-div-rem-bits=64 -expand-fp-convert-bits=64 -trap-unreachable -disable-machine-licm -disable-postra-machine-licm -sink-common-insts=false"
-# Not for speed alone: vectors of loops and loops that are unrolled make the module a third larger, and no faster.
-size="-O2 -fno-vectorize -fno-slp-vectorize -mllvm -unroll-runtime=0"
-if ! cmp -s "$made/retargeted.new" "$made/retargeted.ll" || [ -z "$(find "$made/$code.o" -newer wasm.sh 2> /dev/null)" ]; then
-    rm -f "$made/$code.o"
-    mv "$made/retargeted.new" "$made/retargeted.ll"
-    # shellcheck disable=SC2046,SC2086
-    "$tools/clang" $target $(printf -- '-mllvm %s ' $late) $size -fstack-usage -x ir -c "$made/retargeted.ll" -o "$made/$code.o"
-fi
-defines="-DHEAP_BOUND=$((heap * 1048576))u"
-exports=
-objects=$code.o
-frames_of=$code.su
-for name in heap calls ${mark:+multiply}; do
+# 1. Compiled, with the instructions that Node 18, Chrome 91, Firefox 89 and Safari 16.4 have. Vectors of loops, loops that are unrolled, and
+# more functions inlined would make the module larger and no faster. Without __int128 a product of 128 bits isn't a call of a library.
+target="--target=wasm32-unknown-unknown -mbulk-memory -msign-ext -msimd128 -ffreestanding -U__SIZEOF_INT128__"
+size="-O2 -mllvm -inline-threshold=60 -fno-vectorize -fno-slp-vectorize -fno-unroll-loops -ffunction-sections -fdata-sections"
+for source in "$dist/kombilad.c" wasm/heap.c; do
     # shellcheck disable=SC2086
-    "$tools/clang" $target -std=c11 -O2 -fstack-usage -ffreestanding -nostdinc -Wall -Wextra -Iwasm/include -Ic $defines -c "wasm/$name.c" -o "$made/$name.o"
-    exports="$exports $(sed -n 's/^[a-z0-9_]* \(kombilad_wasm_[a-z0-9_]*\)(.*/--export=\1/p' "wasm/$name.c" | tr '\n' ' ')"
-    objects="$objects $name.o" frames_of="$frames_of $name.su"
-done
-# shellcheck disable=SC2086
-(cd "$made" && "$tools/ld.lld" -flavor wasm -mwasm64 --no-entry --stack-first -z stack-size=1048576 --max-memory=$((heap * 1048576)) --gc-sections --strip-all \
-    --fatal-warnings --threads=1 $exports $objects -o kombilad64.wasm)
-
-# What calls itself checks that this much of the stack is left, so that all other functions, one below the other, have enough.
-# shellcheck disable=SC2086
-frames=$(cd "$made" && cat $frames_of | awk -F '\t' '$3 != "static" { exit 1 } { sum += $2 } END { print sum }')
-[ "$frames" -gt 0 ] && [ "$frames" -le "$(python3 wasm/retarget.py lowest -)" ] || { echo "wasm.sh: the frames of all functions take $frames bytes" >&2; exit 1; }
-
-# The heap alone, for its own test, with a memory that ends before its bound.
-# shellcheck disable=SC2086
-"$tools/clang" $target -std=c11 -O2 -ffreestanding -nostdinc -Wall -Wextra -Iwasm/include -c wasm/heap_test.c -o "$made/heap_test.o"
-"$tools/ld.lld" -flavor wasm -mwasm64 --no-entry --stack-first -z stack-size=65536 --max-memory=16777216 --fatal-warnings --threads=1 \
-    --export-all "$made/heap.o" "$made/heap_test.o" -o "$made/heap64.wasm"
-
-# 4. Addresses of 32 bits, which every engine has.
-features="--enable-simd --enable-memory64 --enable-bulk-memory --enable-sign-ext --enable-nontrapping-float-to-int --enable-mutable-globals"
-for name in kombilad heap; do
-    # shellcheck disable=SC2086
-    wasm-opt $features --flatten -S "$made/${name}64.wasm" -o "$made/$name.wat"
-    python3 wasm/lanes.py "$made/$name.wat" "$made/$name-loaded.wat"
-    # shellcheck disable=SC2086
-    wasm-opt $features --memory64-lowering -O3 -Oz "$made/$name-loaded.wat" -o "$made/$name.wasm"
+    clang $target $size -std=c99 -Wall -Wextra -Werror -fstack-usage -Iwasm/include -DHEAP_BOUND=$((heap * 1048576))u \
+        -c "$source" -o "$made/$(basename "$source" .c).o"
 done
 
-# 5. The package and the inspector.
+# 2. Linked. The stack lies below all else, so that what overflows it leaves the memory and traps. The library calls itself for at most
+# 32 levels of its input, so that no call needs more of the stack than 33 times all frames.
+stack=2097152
+frames=$(awk -F '\t' '$3 != "static" { exit 1 } { sum += $2 } END { print sum }' "$made/kombilad.su" "$made/heap.su")
+[ "$frames" -gt 0 ] && [ $((33 * frames)) -le $stack ] || { echo "wasm.sh: the frames of all functions take $frames bytes, too many" >&2; exit 1; }
+link="wasm-ld --no-entry --stack-first --gc-sections --strip-all -O2 --compress-relocations --fatal-warnings --threads=1"
+# What JavaScript calls.
+exports="$(cat js/src/*.js | sed -n 's/.*calls\.\(kombilad_[a-z0-9_]*\)(.*/--export=\1/p' | sort -u) --export=kombilad_wasm_live"
+# shellcheck disable=SC2086
+$link -z stack-size=$stack --max-memory=$((heap * 1048576)) $exports "$made/kombilad.o" "$made/heap.o" -o "$made/kombilad.wasm"
+# The heap for its own test, with a memory that ends before its bound.
+$link -z stack-size=65536 --max-memory=16777216 --export-all "$made/heap.o" -o "$made/heap.wasm"
+
+# 3. The package and the inspector.
 package=$out/js/package
 rm -rf "$out/js" "$out/inspector"
 mkdir -p "$package" "$out/inspector"
 cp -r js/package.json js/README.md js/src ../LICENSE-APACHE ../LICENSE-MIT "$package"
 cp "$made/kombilad.wasm" "$package/src"
-# Without the lines that are comments: what a caller has to know stands in the declarations.
+# Without comments: the declarations have what a caller has to know.
 sed -i -E '/^ *\/\*\*.*\*\/$/d; /^ *\/\*\*/,/\*\/$/d; /^ *\/\//d' "$package"/src/*.js
 version=$(cat ../VERSION)$mark
 [ -z "$mark" ] || sed -i "s/^  \"version\": \".*\"/  \"version\": \"$version\"/; s/^  \"description\": \"/&UNPROVED: /" "$package/package.json"

@@ -7,7 +7,7 @@ STRICT = ["-include", "strict_memory.h"]
 
 
 def cross(triple, processor, *flags):
-    return (f"{triple}-gcc", [*STANDARD, "-static", *flags], [f"qemu-{processor}"])
+    return (f"{triple}-gcc", [*STANDARD, "-O1", "-static", *flags], [f"qemu-{processor}"])
 
 
 COMPILERS = {
@@ -18,13 +18,14 @@ COMPILERS = {
     "gcc -O2 plain": ("gcc", [*STANDARD, "-O2", "-DKOMBILAD_PLAIN"], []),
     "gcc strict memcpy": ("gcc", [*STANDARD, "-O1", "-DKOMBILAD_PLAIN", *STRICT], []),
     "tcc": ("tcc", [], []),
-    "musl-gcc": ("musl-gcc", [*STANDARD, "-O2", "-static"], []),
+    "musl-gcc": ("musl-gcc", [*STANDARD, "-O1", "-static"], []),
     "gcc sanitized": ("gcc", [*STANDARD, "-O1", *ASAN], []),
     "clang sanitized": ("clang", [*STANDARD, "-O1", *ASAN], []),
-    "aarch64": cross("aarch64-linux-gnu", "aarch64", "-O2"),
-    "riscv64": cross("riscv64-linux-gnu", "riscv64", "-O2"),
-    "s390x": cross("s390x-linux-gnu", "s390x", "-O2"),
-    "i386": cross("i686-linux-gnu", "i386", "-O2"),
+    # With the flags by which gcc makes one instruction of a product and a sum, if it may.
+    "aarch64": cross("aarch64-linux-gnu", "aarch64", "-std=gnu99", "-fexpensive-optimizations"),
+    "riscv64": cross("riscv64-linux-gnu", "riscv64"),
+    "s390x": cross("s390x-linux-gnu", "s390x"),
+    "i386": cross("i686-linux-gnu", "i386", "-msse2", "-mfpmath=sse"),
 }
 
 

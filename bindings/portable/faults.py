@@ -4,7 +4,8 @@
 usage: faults.py FOLDER [WORD]    (those whose file or text has the word)
        faults.py --check          only looks whether each can be planted: its text is in its file once
 
-FOLDER is what `make.py --unproved` wrote. A fault is tried on a copy, by the tests of instructions
+FOLDER has optimized.ll and libkombilad_c.a, such as crates/kombilad_c/out/unproved after `make.py
+--unproved`. A fault is tried on a copy, by the tests of instructions
 first, and by the cases of compare/ if these don't see it. A fault that no test sees ends it with
 status 1.
 """
@@ -60,6 +61,38 @@ FAULTS = [
     ("prelude.c", "product >> BITS != 0", "product >> 8 != 0", [USUAL]),
     ("prelude.c", "third << 32 | (first & half)", "third << 32", [PLAIN]),
     ("prelude.c", "make_u128(low << (by - 64), 0)", "make_u128(low << (by & 31), 0)", [USUAL]),
+    # Floats
+    (
+        "prelude.c",
+        "volatile double made = double_of(a) OP",
+        "double made = double_of(a) OP",
+        ["aarch64"],
+    ),
+    ("prelude.c", "volatile double made = (double)number", "float made = (float)number", [USUAL]),
+    ("prelude.c", "return a ^ 1ull << 63;", "return bits_of(0 - double_of(a));", [USUAL]),
+    ("prelude.c", "return a & ~(1ull << 63);", "return a & ~(1ull << 62);", [USUAL]),
+    ("prelude.c", "eq_f64(a, a) && eq_f64(b, b)", "eq_f64(a, a) || eq_f64(b, b)", [USUAL]),
+    ("prelude.c", "lt_f64(a, b) || lt_f64(b, a)", "!eq_f64(a, b)", [USUAL]),
+    ("prelude.c", "le=<=\x20*/\nstatic INLINE bool", "le=< */\nstatic INLINE bool", [USUAL]),
+    ("instructions.py", '"ugt": (True, "le", False)', '"ugt": (False, "lt", True)', [USUAL]),
+    ("instructions.py", '"fdiv": "div_f64"', '"fdiv": "mul_f64"', [USUAL]),
+    ("tokens.py", 'struct.pack("<d", float(text))', 'struct.pack("<d", int(float(text)))', [USUAL]),
+    # Wide numbers
+    (
+        "prelude.c",
+        "ult_u128(a, b) ? make_u128(0, 0) :",
+        "ult_u128(b, a) ? make_u128(0, 0) :",
+        [USUAL],
+    ),
+    (
+        "prelude.c",
+        "high_u128(a) >> 63 ? sub_u128(make",
+        "low_u128(a) >> 63 ? sub_u128(make",
+        [USUAL],
+    ),
+    ("prelude.c", "if (!ult_u128(rest, b))", "if (ult_u128(b, rest))", [PLAIN]),
+    ("prelude.c", "make_u128(0, ult_u128(low, a.low))", "make_u128(0, 0)", [USUAL]),
+    ("prelude.c", "make_u128(0, ult_u128(a.low, b.low))", "make_u128(0, 0)", [USUAL]),
     # Choices, structs and places
     (
         "instructions.py",
@@ -157,6 +190,11 @@ FAULTS = [
     ("prelude.c", "from[at_places[at] & 15]", "from[at_places[at] & 7]", [PLAIN]),
     ("prelude.c", "(u32)(a.b[at] >> 7) << at", "(u32)(a.b[at] >> 7) << (15 - at)", [PLAIN]),
     ("prelude.c", "vdupq_n_u8(0x8f)", "vdupq_n_u8(0xff)", ["aarch64"]),
+    ("instructions.py", "self.cut(source.count, mask, 32)", "mask", [USUAL]),
+    ("prelude.c", "memcpy(p, &v, NAME)", "memcpy(p, &v, 16)", [USUAL]),
+    ("instructions.py", "literal(str(at * bits))", "literal(str(at * bits // 2))", [USUAL]),
+    ("instructions.py", "in range(0, 64, bits)", "in range(64 - bits, -1, -bits)", [USUAL]),
+    ("instructions.py", "items[it or 0] for it", "items[it and 0] for it", [USUAL]),
     # Other processors
     ("wrappers.py", 'self.after.append(f"*{it.name}', 'self.before.append(f"*{it.name}', ["i386"]),
     ("wrappers.py", "            self.after.append(line)\n", "", ["s390x"]),

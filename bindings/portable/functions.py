@@ -3,25 +3,67 @@
 import dataclasses
 import re
 
-from instructions import Pure, constant, in_array
-from ir import I8, I64, Integer, Pointer, Struct, Unknown, Vector, name_of, stored_bytes
-from values import Expression, c_type, literal
+from instructions import Pure, constant, in_array, stored_name
+from ir import I8, I32, I64, POINTER, VARIADIC, VOID, Integer, Struct, Unknown, Vector
+from ir import name_of, stored_bytes
+from values import Expression, c_type, has_lanes, lanes_of, literal
 
 # Calls that are written as statements.
 TRAP = "llvm.trap"
 MEMORY = re.compile(r"llvm\.(?:memcpy\.p0\.p0|memmove\.p0\.p0|memset\.p0)\.i64")
 # The functions of the prelude that the module may declare: their results and parameters.
 PAIR = Struct((I64, I64))
-EXTERNALS = {
+ALLOCATING = {
     "rattle_alloc": (PAIR, [I64, I64]),
-    "rattle_realloc": (PAIR, [Pointer(), I64, I64, I64]),
-    "rattle_dealloc": (None, [Pointer()]),
+    "rattle_realloc": (PAIR, [POINTER, I64, I64, I64]),
+    "rattle_dealloc": (None, [POINTER]),
 }
+# Those of posix.c, by which a program reaches the system.
+HOST = {
+    "__sysv_signal": (I64, [I32, I64]),
+    "__xpg_strerror_r": (I32, [I32, POINTER, I64]),
+    "clock_gettime": (I32, [I32, POINTER]),
+    "close": (I32, [I32]),
+    "fchmod": (I32, [I32, I32]),
+    "fdatasync": (I32, [I32]),
+    "flock": (I32, [I32, I32]),
+    "fsync": (I32, [I32]),
+    "ftruncate": (I32, [I32, I64]),
+    "getentropy": (I32, [POINTER, I64]),
+    "lseek": (I64, [I32, I64, I32]),
+    "open": (I32, [POINTER, I32, VARIADIC]),
+    "pread": (I64, [I32, POINTER, I64, I64]),
+    "rattle_arg": (I64, [I64, POINTER, I64]),
+    "rattle_errno": (I32, []),
+    "rattle_set_errno": (VOID, [I32]),
+    "read": (I64, [I32, POINTER, I64]),
+    "realpath": (POINTER, [POINTER, POINTER]),
+    "rename": (I32, [POINTER, POINTER]),
+    "statx": (I32, [I32, POINTER, I32, I32, POINTER]),
+    "unlink": (I32, [POINTER]),
+    "write": (I64, [I32, POINTER, I64]),
+}
+EXTERNALS = {**ALLOCATING, **HOST}
 WIDTH = 100
 
 
 def is_intrinsic(name):
     return name.startswith("llvm.")
+
+
+def host_name(name):
+    """Returns the name that a function of HOST has in C: that of POSIX after `host_`."""
+    return "host_" + re.sub("^(rattle_|__sysv_|__xpg_)", "", name)
+
+
+def host_declarations(code):
+    """Gives the declaration of each function of HOST that a text calls."""
+    called = set(re.findall(r"\bhost_\w+", code))
+    for name, (result, parameters) in HOST.items():
+        if host_name(name) in called:
+            # The mode of `open`, which is 0 if the call has none.
+            kinds = [c_type(I32 if it == VARIADIC else it) for it in parameters]
+            yield f"{c_type(result)} {host_name(name)}({', '.join(kinds) or 'void'});"
 
 
 def is_statement(made):
@@ -104,8 +146,8 @@ class Writer:
         return name
 
     def type_of(self, kind):
-        if isinstance(kind, Struct):
-            self.structs[c_type(kind)] = kind
+        if isinstance(kind, Struct) or has_lanes(kind):
+            self.structs[c_type(kind)] = kind if isinstance(kind, Struct) else lanes_of(kind)
         return c_type(kind)
 
     def operand(self, operand):
@@ -171,7 +213,7 @@ class Writer:
         if isinstance(kind, Struct):
             raise Unknown(f"a store of a struct: {made.line}")
         size = stored_bytes(kind)
-        name = f"u{size * 8}" if isinstance(kind, Integer) else c_type(kind)
+        name = f"u{size * 8}" if isinstance(kind, Integer) else stored_name(kind)
         self.lines.append(f"st_{name}({place.text}, {value.text});")
 
     def write_memory(self, made):
@@ -196,7 +238,11 @@ class Writer:
             return
         parts = [self.operand(it) for it in made.operands]
         self.settle()
-        name = callee if callee in EXTERNALS else self.names[callee]
+        name = self.names.get(callee, callee)
+        if callee in HOST and callee not in self.names:
+            name = host_name(callee)
+            if VARIADIC in HOST[callee][1] and len(parts) < len(HOST[callee][1]):
+                parts.append(literal("0u"))
         text = f"{name}({', '.join(it.text for it in parts)})"
         kind = self.type_of(made.kind)
         if made.result is None or made.result not in self.uses:
@@ -421,13 +467,13 @@ def locals_in(operand):
             yield from locals_in(item)
 
 
-def check_declared(module):
-    """Checks that the functions that the module declares are those of the prelude."""
+def check_declared(module, known):
+    """Checks that the functions that the module declares are known ones."""
     for name, (result, parameters) in module.declared.items():
         if is_intrinsic(name):
             continue
-        if name not in EXTERNALS:
+        if name not in known:
             raise Unknown(f"the function {name}, which isn't defined")
-        wanted_result, wanted = EXTERNALS[name]
+        wanted_result, wanted = known[name]
         if parameters != wanted or (wanted_result and result != wanted_result):
             raise Unknown(f"the function {name} of {name_of(result)}")

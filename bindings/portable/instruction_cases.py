@@ -127,7 +127,7 @@ def arithmetic(cases):
 
 
 def division(cases):
-    for bits in (*WIDTHS, *ODD):
+    for bits in (*WIDTHS, *ODD, 128):
         kind = f"i{bits}"
         for op in ("udiv", "urem"):
             cases.value(f"{op} {kind}", bits, [f"%d = or {kind} %b, 1", f"%r = {op} {kind} %a, %d"])
@@ -145,6 +145,25 @@ def division(cases):
                     f"%r = {op} {kind} %n, %d",
                 ],
             )
+
+
+def checks(cases):
+    """Adds what an unproved module has of 256 bits: whether a sum or a difference of 128 overflows."""
+    for op in ("add", "sub"):
+        for source in (64, 128):
+            for condition in ("ugt", "ule", "ult", "uge"):
+                cases.value(
+                    f"{op} i256 of i{source} {condition}",
+                    128,
+                    [
+                        f"%n = {f'trunc i128 %b to i{source}' if source < 128 else 'freeze i128 %b'}",
+                        "%x = zext i128 %a to i256",
+                        f"%y = zext i{source} %n to i256",
+                        f"%z = {op} i256 %x, %y",
+                        f"%r = icmp {condition} i256 %z, {(1 << 128) - 1}",
+                    ],
+                    1,
+                )
 
 
 def conversions(cases):
@@ -243,9 +262,11 @@ def intrinsics(cases):
                     f"%r = zext i1 %o to {kind}",
                 ],
             )
-    for name in ("umin", "umax"):
+    for name in ("umin", "umax", "usub.sat"):
         cases.declare(f"i128 @llvm.{name}.i128(i128, i128)")
         cases.value(f"{name} i128", 128, [f"%r = call i128 @llvm.{name}.i128(i128 %a, i128 %b)"])
+    cases.declare("i128 @llvm.abs.i128(i128, i1)")
+    cases.value("abs i128", 128, ["%r = call i128 @llvm.abs.i128(i128 %a, i1 false)"])
     cases.declare("i1 @llvm.expect.i1(i1, i1)")
     cases.value(
         "expect",

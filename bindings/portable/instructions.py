@@ -4,8 +4,10 @@ Numbers are unsigned, those below 32 bits are computed as int or u32 and cut, an
 undefined behaviour in C, whatever its operands are, except a division by zero.
 """
 
-from ir import I1, I8, I128, Integer, Pointer, Struct, Unknown, Vector, name_of, offset_of, size_of
-from ir import stored_bytes
+import dataclasses
+
+from ir import DOUBLE, I1, I8, I64, I128, Integer, Operand, Pointer, Struct, Unknown, Vector
+from ir import name_of, offset_of, size_of, stored_bytes
 from values import (
     Expression,
     c_type,
@@ -13,10 +15,13 @@ from values import (
     cast,
     combine,
     held,
+    has_lanes,
     held_bits,
     joined,
+    lanes_of,
     literal,
     number,
+    parts_of,
     structure,
     vector_of,
     vector_type,
@@ -36,6 +41,32 @@ OPERATORS = {
     "lshr": ">>",
 }
 COMPARISONS = {"eq": "==", "ne": "!=", "lt": "<", "le": "<=", "gt": ">", "ge": ">="}
+# Operations of floats, and the pieces of the prelude that they are.
+FLOATS = {
+    "fadd": "add_f64",
+    "fsub": "sub_f64",
+    "fmul": "mul_f64",
+    "fdiv": "div_f64",
+    "fneg": "neg_f64",
+}
+# Comparisons of floats: whether it is the opposite of the piece, the piece, and whether it takes
+# its operands in the other order.
+FLOAT_COMPARISONS = {
+    "oeq": (False, "eq", False),
+    "ogt": (False, "lt", True),
+    "oge": (False, "le", True),
+    "olt": (False, "lt", False),
+    "ole": (False, "le", False),
+    "one": (False, "unlike", False),
+    "ord": (False, "ord", False),
+    "ueq": (True, "unlike", False),
+    "ugt": (True, "le", False),
+    "uge": (True, "lt", False),
+    "ult": (True, "le", True),
+    "ule": (True, "lt", True),
+    "une": (True, "eq", False),
+    "uno": (True, "ord", False),
+}
 # Intrinsics of numbers of 8, 16, 32 or 64 bits: how many numbers they take, and the piece of the
 # prelude that each is.
 NUMERIC = {
@@ -56,6 +87,8 @@ NUMERIC = {
     "cttz": 1,
 }
 FLAGGED = ("abs", "ctlz", "cttz")
+# Those of 128 bits.
+NUMERIC_128 = ("umin", "umax", "usub.sat", "abs")
 OVERFLOWING = {
     "uadd.with.overflow": "uadd_overflow",
     "usub.with.overflow": "usub_overflow",
@@ -74,11 +107,18 @@ def constant(operand, express):
         return number(kind.bits, value)
     if sort in ("undef", "zero", "null"):
         return zero(kind)
+    if sort == "items" and has_lanes(kind):
+        return structure(lanes_of(kind), tuple(express(it) for it in value))
     if sort == "items" and isinstance(kind, Vector):
         return vector_of(kind, value)
     if sort == "items" and isinstance(kind, Struct):
         return structure(kind, tuple(express(it) for it in value))
     raise Unknown(f"a constant {sort} of {name_of(kind)}")
+
+
+def stored_name(kind):
+    """Returns the name that a type has in the functions that read and write memory."""
+    return f"V{kind.count}" if isinstance(kind, Vector) else c_type(kind)
 
 
 class Pure:
@@ -94,6 +134,8 @@ class Pure:
         parts = [self.express(it) for it in operands]
         if made.op in OPERATORS or made.op in ("sdiv", "srem", "ashr"):
             return self.binary(made, *parts)
+        if made.op in FLOATS:
+            return call(FLOATS[made.op], *parts)
         method = getattr(self, "write_" + made.op, None)
         if not method:
             raise Unknown(f"the instruction: {made.line}")
@@ -112,13 +154,19 @@ class Pure:
 
     def binary(self, made, first, second):
         kind, op = made.kind, made.op
+        if has_lanes(kind):
+            return self.lanes_binary(made, first, second)
         if isinstance(kind, Vector):
             return self.vector_binary(made, first, second)
         bits = kind.bits
         if bits == 128:
-            if op in ("udiv", "urem", "sdiv", "srem"):
+            if op in ("sdiv", "srem"):
                 raise Unknown(f"a division of 128 bits: {made.line}")
             return call(f"{op}_u128", first, second)
+        if bits > 128:
+            if op not in ("add", "sub"):
+                raise Unknown(f"an operation of {bits} bits: {made.line}")
+            return call(f"{op}_u{bits}", first, second)
         if bits == 1:
             return self.truth(made, first, second)
         if op in ("and", "or", "xor", "udiv", "urem"):
@@ -191,8 +239,10 @@ class Pure:
                 raise Unknown(f"a signed comparison of pointers: {made.line}")
             first, second = cast("uintptr_t", first), cast("uintptr_t", second)
             return combine("{} " + plain + " {}", first, second)
-        if kind.bits == 128:
-            return self.compare_wide(condition, first, second)
+        if kind.bits > 128 and condition not in ("ugt", "ule", "ult", "uge"):
+            raise Unknown(f"a comparison of {kind.bits} bits: {made.line}")
+        if kind.bits >= 128:
+            return self.compare_wide(kind.bits, condition, first, second)
         if condition in ("eq", "ne") or sign == "u":
             if kind.bits == 1:
                 first, second = cast("u32", first), cast("u32", second)
@@ -203,13 +253,19 @@ class Pure:
         )
         return combine("{} " + plain + " {}", first, second)
 
-    def compare_wide(self, condition, first, second):
+    def write_fcmp(self, made, first, second):
+        is_opposite, piece, is_turned = FLOAT_COMPARISONS[made.words["condition"]]
+        pair = (second, first) if is_turned else (first, second)
+        made = call(f"{piece}_f64", *pair)
+        return combine("!{}", made) if is_opposite else made
+
+    def compare_wide(self, bits, condition, first, second):
         if condition in ("eq", "ne"):
             made = call("eq_u128", first, second)
             return made if condition == "eq" else combine("!{}", made)
         if condition[1:] in ("gt", "le"):
             first, second = second, first
-        made = call(f"{condition[0]}lt_u128", first, second)
+        made = call(f"{condition[0]}lt_u{bits}", first, second)
         return made if condition[1:] in ("lt", "gt") else combine("!{}", made)
 
     def write_select(self, made, condition, first, second):
@@ -235,6 +291,9 @@ class Pure:
                 raise Unknown(f"a conversion of vectors: {made.line}")
             name = vector_type(made.kind)
             return call(f"and_{name}", part, call(f"splat_{name}", literal("1")))
+        if bits.bits > 128:
+            part = part if source.bits == 128 else call("make_u128", literal("0ull"), part)
+            return call("make_u256", number(128, 0), part)
         if bits.bits == 128:
             return call("make_u128", literal("0ull"), part)
         if source.bits > 1 and held_bits(source.bits) == held_bits(bits.bits):
@@ -248,6 +307,8 @@ class Pure:
                 raise Unknown(f"a conversion of vectors: {made.line}")
             return part
         bits = made.kind.bits
+        if bits > 128:
+            raise Unknown(f"a conversion to {bits} bits: {made.line}")
         if bits == 128:
             return call("sext_u128", self.extended(source.bits, 64, part))
         width = held_bits(bits)
@@ -258,6 +319,8 @@ class Pure:
         source, bits = made.operands[0].kind, made.kind.bits
         if isinstance(made.kind, Vector):
             raise Unknown(f"a conversion of vectors: {made.line}")
+        if source.bits > 128:
+            raise Unknown(f"a conversion of {source.bits} bits: {made.line}")
         width = max(held_bits(source.bits), 32)
         if source.bits == 128:
             part, width = call("low_u128", part), 64
@@ -280,16 +343,27 @@ class Pure:
             raise Unknown(f"a pointer of another width: {made.line}")
         return cast("P", cast("uintptr_t", part))
 
+    def write_uitofp(self, made, part):
+        source = made.operands[0].kind
+        if made.kind != DOUBLE or not isinstance(source, Integer) or source.bits > 64:
+            raise Unknown(f"a conversion to a float: {made.line}")
+        return call("f64_of", part)
+
     def write_bitcast(self, made, part):
         source, kind = made.operands[0].kind, made.kind
-        if source == kind:
+        if source == kind or {source, kind} == {I64, DOUBLE}:
             return part
         if isinstance(source, Vector) and source.item == I1 and kind == Integer(source.count):
-            return call(f"mask_{vector_type(source)}", part)
+            mask = call(f"mask_{vector_type(source)}", part)
+            return mask if source.count >= 16 else self.cut(source.count, mask, 32)
         if source == Vector(16, I8) and kind == I128:
             return call("number_V16", part)
         if source == I128 and kind == Vector(16, I8):
             return call("vector_u128", part)
+        if has_lanes(source) and has_lanes(kind):
+            return self.lanes_from(kind, self.halves(source, part))
+        if has_lanes(source) and kind == Vector(16, I8):
+            return call("vector_u128", call("make_u128", *reversed(self.halves(source, part))))
         raise Unknown(f"a conversion: {made.line}")
 
     # ---- Structs
@@ -301,12 +375,12 @@ class Pure:
         return Expression(f"{part.operand}.f{index}", part.reads, part.loads)
 
     def write_insertvalue(self, made, whole, item):
-        index, kinds = made.words["index"], made.kind.fields
-        fields = whole.fields or tuple(
-            Expression(f"{whole.operand}.f{at}", whole.reads, whole.loads)
-            for at in range(len(kinds))
-        )
-        return structure(made.kind, fields[:index] + (item,) + fields[index + 1 :])
+        return self.replaced(made.kind, made.words["index"], whole, item)
+
+    def replaced(self, kind, index, whole, item):
+        """Returns a struct in which one part is another."""
+        fields = parts_of(whole, len(kind.fields))
+        return structure(kind, fields[:index] + (item,) + fields[index + 1 :])
 
     # ---- Vectors
 
@@ -320,6 +394,46 @@ class Pure:
             if len(items) == 1 and all(isinstance(it, int) and it < 8 for it in items):
                 return call(f"{made.op}_{name}", first, literal(f"{items.pop()}"))
         raise Unknown(f"an operation of vectors: {made.line}")
+
+    def lanes_binary(self, made, first, second):
+        """Writes an operation of vectors whose numbers are held one by one."""
+        pairs = zip(parts_of(first, made.kind.count), parts_of(second, made.kind.count))
+        values = []
+        for at, pair in enumerate(pairs):
+            operands = [self.lane_operand(it, at) for it in made.operands]
+            one = dataclasses.replace(made, kind=made.kind.item, operands=operands)
+            values.append(self.binary(one, *pair))
+        return structure(lanes_of(made.kind), tuple(values))
+
+    def lane_operand(self, operand, at):
+        """Returns a number of a vector as an operand."""
+        if operand.sort == "items":
+            return operand.value[at]
+        if operand.sort in ("zero", "undef"):
+            return Operand(operand.kind.item, "number", 0)
+        return Operand(operand.kind.item, operand.sort, operand.value)
+
+    def halves(self, kind, whole):
+        """Returns the two numbers of 64 bits that the bytes of a vector are."""
+        bits, parts = kind.item.bits, parts_of(whole, kind.count)
+        found = []
+        for begin in (0, kind.count // 2):
+            made = cast("u64", parts[begin])
+            for at, part in enumerate(parts[begin + 1 : begin + kind.count // 2], 1):
+                shifted = combine("{} << {}", cast("u64", part), literal(str(at * bits)))
+                made = combine("{} | {}", made, shifted)
+            found.append(made)
+        return found
+
+    def lanes_from(self, kind, halves):
+        """Returns the vector of two numbers of 64 bits."""
+        bits = kind.item.bits
+        values = [
+            self.cut(bits, combine("{} >> {}", half, literal(str(at))), 64)
+            for half in halves
+            for at in range(0, 64, bits)
+        ]
+        return structure(lanes_of(kind), tuple(values))
 
     def place(self, made, operand):
         """Returns a constant place in a vector."""
@@ -339,6 +453,8 @@ class Pure:
 
     def write_extractelement(self, made, whole, _):
         kind = made.operands[0].kind
+        if has_lanes(kind):
+            return parts_of(whole, kind.count)[self.place(made, made.operands[1])]
         vector_type(kind)
         if kind.item != I8:
             raise Unknown(f"an item of truths: {made.line}")
@@ -347,18 +463,23 @@ class Pure:
         return joined(f"lane_V16({chunk.text}, {at % 16})", [whole], True)
 
     def write_insertelement(self, made, whole, item, _):
+        at = self.place(made, made.operands[2])
+        if has_lanes(made.kind):
+            return self.replaced(lanes_of(made.kind), at, whole, item)
         if made.kind.item != I8:
             raise Unknown(f"an item of truths: {made.line}")
-        at = self.place(made, made.operands[2])
         return call(f"put_{vector_type(made.kind)}", whole, item, literal(str(at)))
 
     def write_shufflevector(self, made, first, second):
         """Writes a choice of bytes of two vectors: of each sixteen, those from one place on, or one
         byte alone."""
-        source, name = made.operands[0].kind, vector_type(made.kind)
-        places, count = self.places(made), source.count
-        if source.item != I8:
-            raise Unknown(f"a choice of truths: {made.line}")
+        source, places = made.operands[0].kind, self.places(made)
+        if has_lanes(source) and has_lanes(made.kind):
+            items = parts_of(first, source.count) + parts_of(second, source.count)
+            return structure(lanes_of(made.kind), tuple(items[it or 0] for it in places))
+        name, count = vector_type(made.kind), source.count
+        if source.item != I8 or count < 16 or made.kind.count < 16:
+            raise Unknown(f"a choice of truths, or of less than 16 bytes: {made.line}")
 
         def chunk_at(at):
             whole = first if at < count // 16 else second
@@ -410,7 +531,7 @@ class Pure:
         elif isinstance(kind, Integer):
             text = call(f"ld_u{size * 8}", place)
         else:
-            text = call(f"ld_{c_type(kind)}", place)
+            text = call(f"ld_{stored_name(kind)}", place)
         return Expression(text.text, text.reads, True, text.is_atom, text.depth)
 
     def write_getelementptr(self, made, base, *indices):
@@ -465,7 +586,7 @@ class Pure:
             vector = vector_type(operand)
             if name in ("usub.sat", "umin", "umax") and operand.item == I8:
                 return call(f"{name.replace('.', '_')}_{vector}", *parts)
-            if name == "vector.reduce.or" and operand.item == I8:
+            if name == "vector.reduce.or" and operand.item == I8 and operand.count >= 16:
                 return call(f"any_{vector}", *parts)
         elif isinstance(operand, Integer) and suffix == f"i{operand.bits}":
             if name == "expect":
@@ -473,8 +594,8 @@ class Pure:
             if name.partition(".")[0] in COMPARING and operand.bits in (8, 16, 32, 64):
                 wide = call(f"{name[:4]}_u{operand.bits}", *parts)
                 return wide if kind.bits == 64 else self.cut(kind.bits, wide, 64)
-            if name in ("umin", "umax") and operand.bits == 128:
-                return call(f"{name}_u128", *parts)
+            if name in NUMERIC_128 and operand.bits == 128:
+                return call(f"{name.replace('.', '_')}_u128", *parts[: NUMERIC[name]])
             if operand.bits in (8, 16, 32, 64):
                 if name in NUMERIC and len(parts) == NUMERIC[name] + (name in FLAGGED):
                     piece = f"{name.replace('.', '_')}_u{operand.bits}"
@@ -482,6 +603,11 @@ class Pure:
                 if name in OVERFLOWING:
                     c_type(kind)
                     return call(f"{OVERFLOWING[name]}_u{operand.bits}", *parts)
+        elif operand == DOUBLE and suffix == "f64":
+            if name == "arithmetic.fence":
+                return parts[0]
+            if name == "fabs":
+                return call("abs_f64", *parts)
         raise Unknown(f"the call: {made.line}")
 
 

@@ -23,6 +23,13 @@ class Pointer:
 
 
 @dataclasses.dataclass(frozen=True)
+class Double:
+    """A float of 64 bits. It is held as the number that its bits are."""
+
+    bits = 64
+
+
+@dataclasses.dataclass(frozen=True)
 class Void:
     pass
 
@@ -39,13 +46,22 @@ class Struct:
 
 
 @dataclasses.dataclass(frozen=True)
+class Packed:
+    """A struct without space between its fields, which only constants have."""
+
+    fields: Tuple[Any, ...]
+
+
+@dataclasses.dataclass(frozen=True)
 class Vector:
     count: int
     item: Any
 
 
 I1, I8, I16, I32, I64, I128 = (Integer(bits) for bits in (1, 8, 16, 32, 64, 128))
-POINTER, VOID = Pointer(), Void()
+POINTER, DOUBLE, VOID = Pointer(), Double(), Void()
+# The last parameter of a function that takes more than it declares.
+VARIADIC = "..."
 
 
 def name_of(kind):
@@ -54,13 +70,18 @@ def name_of(kind):
         return f"i{kind.bits}"
     if isinstance(kind, Pointer):
         return "ptr"
+    if isinstance(kind, Double):
+        return "double"
+    if kind == VARIADIC:
+        return kind
     if isinstance(kind, Void):
         return "void"
     if isinstance(kind, Array):
         return f"[{kind.count} x {name_of(kind.item)}]"
     if isinstance(kind, Vector):
         return f"<{kind.count} x {name_of(kind.item)}>"
-    return "{ " + ", ".join(map(name_of, kind.fields)) + " }"
+    fields = ", ".join(map(name_of, kind.fields))
+    return f"<{{ {fields} }}>" if isinstance(kind, Packed) else f"{{ {fields} }}"
 
 
 # ---- Layout in memory: that of the module's data layout, on every processor.
@@ -79,7 +100,7 @@ def stored_bytes(kind):
         if kind.item != I8:
             raise Unknown(f"a vector in memory: {name_of(kind)}")
         return kind.count
-    if isinstance(kind, Pointer):
+    if isinstance(kind, (Pointer, Double)):
         return 8
     raise Unknown(f"a load or a store of {name_of(kind)}")
 
@@ -91,7 +112,7 @@ def alignment_of(kind):
         while power < size:
             power *= 2
         return min(power, 16)
-    if isinstance(kind, Pointer):
+    if isinstance(kind, (Pointer, Double)):
         return 8
     if isinstance(kind, Array):
         return alignment_of(kind.item)
@@ -102,7 +123,7 @@ def alignment_of(kind):
 
 def size_of(kind):
     """Returns how far apart two values of the type are in an array."""
-    if isinstance(kind, (Integer, Pointer)):
+    if isinstance(kind, (Integer, Pointer, Double)):
         step = alignment_of(kind)
         return (stored_bytes(kind) + step - 1) // step * step
     if isinstance(kind, Array):
@@ -111,6 +132,8 @@ def size_of(kind):
         end = offset_of(kind, len(kind.fields))
         step = alignment_of(kind)
         return (end + step - 1) // step * step
+    if isinstance(kind, Packed):
+        return sum(map(size_of, kind.fields))
     if isinstance(kind, Vector) and kind.item == I8 and kind.count & kind.count - 1 == 0:
         return kind.count
     raise Unknown(f"the layout of {name_of(kind)}")
@@ -135,8 +158,8 @@ def offset_of(kind, field):
 class Operand:
     """A value that an instruction takes.
 
-    `sort` is "local" or "global" (`value` is the name), "number" (an int, of an integer type),
-    "null", "zero", "undef" (also poison), "items" (a tuple of operands: a vector, an array or a
+    `sort` is "local" or "global" (`value` is the name), "number" (an int, of an integer type, or
+    the bits of a double), "null", "zero", "undef" (also poison), "items" (a tuple of operands: a vector, an array or a
     struct), or "expression" (a constant Instruction).
     """
 
@@ -180,11 +203,13 @@ class Function:
 
 @dataclasses.dataclass
 class Constant:
-    """A global constant, as bytes."""
+    """A global constant, as bytes. `pointers` are the places in it of pointers into it, each with
+    the place that it leads to."""
 
     name: str
     data: bytes
     alignment: int
+    pointers: List[Tuple[int, int]]
 
 
 @dataclasses.dataclass

@@ -1,42 +1,78 @@
 #!/usr/bin/env python3
-"""Makes kombilad.c and kombilad.h of the crate kombilad_c.
+"""Makes C files of the library and of the programs.
 
-usage: make.py [--unproved] FOLDER
+usage: make.py [--unproved] FOLDER [NAME..]    writes the files into a folder
+       make.py --compare FOLDER [NAME..]       compares those in dist/ with those in a folder
+       make.py --of-dist FOLDER [NAME..]       copies those in dist/ that are of the sources as they
+                                               are, and makes the others without proofs
 
-1. FOLDER/module.ll is the module that `rattle` proved and handed to its compiler (as
-   bindings/wasm/module.py keeps it); with --unproved one of the same sources, without their proofs,
-   by .ci/quick.py.
-2. FOLDER/optimized.ll is what LLVM's optimizer makes of it, by the kit's clang with -O2.
-3. FOLDER/kombilad.c and FOLDER/kombilad.h are what ir2c.py makes of that.
+A NAME is `kombilad`, which is kombilad.c and kombilad.h, `ipld` or `ipld_links`, which are programs,
+with posix.c. Without a NAME all are made.
+
+1. `rattle` proves a crate, and hands its compiler an LLVM module, which modules.py keeps. With
+   --unproved it is a module of the same sources, without their proofs, by .ci/quick.py.
+2. The kit's clang optimizes it, with -O2.
+3. ir2c.py translates it to C.
+
+If FOLDER is dist/ at the top, bindings/go gets copies of kombilad.c and kombilad.h.
+
+The head of each file states a digest of all that it is made of. --compare ends with status 1 if that
+in dist/ is of the sources and the toolchain as they are, and its bytes are not those in FOLDER. If
+the sources changed since, it only prints by how many commits.
 """
 
+import hashlib
 import pathlib
+import re
+import shutil
 import subprocess
 import sys
 
 sys.dont_write_bytecode = True
 HERE = pathlib.Path(__file__).resolve().parent
 TOP = HERE.parent.parent
-# Each is put before what is there, so that a name is looked for here first.
-for place in (TOP / ".ci", HERE.parent / "wasm", HERE):
-    sys.path.insert(0, str(place))
+sys.path.insert(0, str(HERE))
 import ir2c  # noqa: E402
-import module as proved  # noqa: E402
-import quick  # noqa: E402
-import wrappers  # noqa: E402
-from built import NotBuilt, kit, told  # noqa: E402
+import modules  # noqa: E402
+from built import CRATES, NotBuilt, libraries, told  # noqa: E402
 from ir import Unknown  # noqa: E402
 
-CRATE = "kombilad_c"
+LIBRARY = "kombilad"
+PROGRAMS = ("ipld", "ipld_links")
 HEADER = HERE.parent / "c" / "kombilad.h"
-# What the file is made of.
-SOURCES = ["crates", "crates.txt", "VERSION", "bindings/c/kombilad.h", "bindings/portable"]
-# Without vectors, but those that the source has; and without tables of pointers, which aren't
-# constants in C on every processor.
-OPTIMIZE = (
-    "--target=x86_64-unknown-linux-gnu -march=x86-64-v2 -x ir -O2 -fno-vectorize -fno-slp-vectorize"
-    " -mllvm -switch-to-lookup=false -S -emit-llvm"
-).split()
+DIST = TOP / "dist"
+OPTIONS = {"--unproved", "--compare", "--of-dist"}
+# Files that are the same, and who needs them in a place of their own.
+COPIES = {TOP / "bindings" / "go" / it: DIST / it for it in ("kombilad.c", "kombilad.h")}
+# What translates a module. What tests that is no part of it.
+TRANSLATOR = [
+    HERE / f"{it}"
+    for it in "make.py modules.py ir2c.py tokens.py reading.py ir.py values.py instructions.py"
+    " functions.py prelude.py prelude.c wrappers.py features.ll".split()
+]
+
+
+def crate_of(name):
+    return modules.LIBRARY if name == LIBRARY else name
+
+
+def sources(name):
+    """Returns the files that a C file is made of."""
+    crate = crate_of(name)
+    found = [TOP / "VERSION", TOP / "crates.txt", *TRANSLATOR]
+    found += [HEADER if name == LIBRARY else HERE / "posix.c"]
+    for it in (crate, *libraries(crate)):
+        found += sorted((CRATES / it / "src").rglob("*.rt"))
+    return found
+
+
+def digest_of(name):
+    """Returns the digest of the sources of a name."""
+    digest = hashlib.sha256()
+    for path in sources(name):
+        text = path.read_bytes()
+        digest.update(f"{path.relative_to(TOP)} {len(text)}\n".encode() + text)
+    return digest.hexdigest()
 
 
 def git(*words):
@@ -49,57 +85,135 @@ def git(*words):
     return None if done.returncode else done.stdout.strip()
 
 
-def facts():
-    """Returns what the head of the file states of its making."""
-    commit = git("log", "-1", "--format=%H", "--", *SOURCES) or "none, made outside of a repository"
-    changes = git("status", "--porcelain", "--", *SOURCES)
-    version = (TOP / "VERSION").read_text(encoding="utf-8").strip()
+def facts(name):
+    """Returns what the head of a file states of its making."""
+    named = [str(it.relative_to(TOP)) for it in sources(name)]
+    commit = git("log", "-1", "--format=%H", "--", *named) or "none, made outside of a repository"
+    changes = git("status", "--porcelain", "--", *named)
     return [
-        f"Version:   {version}",
+        f"Version:   {(TOP / 'VERSION').read_text(encoding='utf-8').strip()}",
         f"Commit:    {commit}" + (", and changes after it" if changes else ""),
+        f"Sources:   {digest_of(name)}",
         f"Toolchain: {told(['rt', 'version'], TOP, 'rt version').strip()}",
     ]
 
 
-def optimized(folder):
-    """Returns the path of the optimized module."""
-    made = folder / "optimized.ll"
-    clang = kit() / "toolchain" / "bin" / "clang"
-    told([clang, *OPTIMIZE, folder / "module.ll", "-o", made], folder, made.name)
-    return made
-
-
-def make(folder, is_proved):
-    """Writes kombilad.c and kombilad.h into a folder, and what they are made of."""
-    if is_proved:
-        proved.module(folder)
+def make(folder, name, is_proved):
+    """Writes the files of a name into a folder."""
+    module = modules.optimized(crate_of(name), is_proved)
+    if name == LIBRARY:
+        ir2c.write(module, folder, facts(name), is_proved, header=HEADER)
     else:
-        quick.build(CRATE, "library", folder)
-    header = HEADER.read_text(encoding="utf-8")
-    text = optimized(folder).read_text(encoding="utf-8")
-    made = ir2c.translate(text, header, ir2c.about(facts(), is_proved))
-    (folder / "kombilad.c").write_text(made, encoding="utf-8")
-    (folder / "kombilad.h").write_text(
-        wrappers.portable_header(header, ir2c.HEADER_HEAD), encoding="utf-8"
-    )
+        ir2c.write(module, folder, facts(name), is_proved, program=name)
+        shutil.copyfile(HERE / "posix.c", folder / "posix.c")
+    for copy, source in COPIES.items():
+        if name == LIBRARY and source.parent == folder and copy.parent.is_dir():
+            shutil.copyfile(source, copy)
+
+
+def files_of(name):
+    """Returns the names of the files that are made for a name."""
+    return [f"{name}.c", f"{name}.h" if name == LIBRARY else "posix.c"]
+
+
+def copy_or_make(folder, name):
+    """
+    Copies the files of a name from dist/ if they are of the sources as they are. Otherwise makes
+    them without proofs.
+    """
+    made = DIST / f"{name}.c"
+    is_there = made.is_file() and fact(made.read_text(encoding="utf-8"), "Sources")
+    if is_there != digest_of(name):
+        make(folder, name, False)
+        return
+    for file in files_of(name):
+        shutil.copyfile(DIST / file, folder / file)
+
+
+# ---- Comparing
+
+
+def fact(text, name):
+    """Returns what the head of a file states, or None."""
+    found = re.search(rf"^ \* {name}: +(.*)$", text, re.M)
+    return found[1] if found else None
+
+
+def without_commit(text):
+    """Returns a file without its commit, which a clone without history doesn't know."""
+    return re.sub(r"^ \* Commit: .*\n", "", text, count=1, flags=re.M)
+
+
+def commits_since(commit, name):
+    """Returns by how many commits the sources changed since one, in words."""
+    named = [str(it.relative_to(TOP)) for it in sources(name)]
+    count = commit and git("rev-list", "--count", f"{commit}..HEAD", "--", *named)
+    return f"{count} commits" if count else "commits that this clone doesn't have"
+
+
+def compare(folder, name):
+    """Returns what is wrong with the files of a name in dist/, and prints how they are."""
+    file = f"{name}.c"
+    committed, made = DIST / file, (folder / file).read_text(encoding="utf-8")
+    if not committed.is_file():
+        print(f"make.py: dist/{file} is not there yet: nothing is compared")
+        return []
+    text = committed.read_text(encoding="utf-8")
+    if fact(text, "Sources") != fact(made, "Sources"):
+        since = commits_since((fact(text, "Commit") or "").partition(",")[0], name)
+        print(f"make.py: dist/{file} is older than its sources, by {since}")
+        return []
+    if fact(text, "Toolchain") != fact(made, "Toolchain"):
+        print(f"make.py: dist/{file} was made by another toolchain: nothing is compared")
+        return []
+    if without_commit(text) != without_commit(made):
+        return [
+            f"dist/{file} differs from what its sources give: run bindings/portable/make.py dist"
+        ]
+    print(f"make.py: dist/{file} is what its sources give")
+    others = [DIST / "kombilad.h", *COPIES] if name == LIBRARY else [DIST / "posix.c"]
+    wrong = []
+    for other in others:
+        path = other.relative_to(TOP)
+        if not other.is_file():
+            print(f"make.py: {path} is not there yet: it is not compared")
+        elif other in COPIES and other.read_bytes() != COPIES[other].read_bytes():
+            wrong.append(f"{path} is no copy of that in dist/: run bindings/portable/make.py dist")
+        elif other not in COPIES and other.read_bytes() != (folder / other.name).read_bytes():
+            wrong.append(
+                f"{path} differs from what its sources give: run bindings/portable/make.py dist"
+            )
+    return wrong
 
 
 def main():
     words = sys.argv[1:]
-    is_proved = "--unproved" not in words
-    words = [it for it in words if it != "--unproved"]
-    if len(words) != 1 or words[0].startswith("-"):
+    options = [it for it in words if it.startswith("-")]
+    folder, *names = [it for it in words if it not in options] or [None]
+    names = names or [LIBRARY, *PROGRAMS]
+    unknown = set(names) - {LIBRARY, *PROGRAMS}
+    if folder is None or unknown or len(options) > 1 or not OPTIONS.issuperset(options):
         sys.exit(__doc__)
-    folder = pathlib.Path(words[0]).resolve()
-    folder.mkdir(parents=True, exist_ok=True)
+    folder = pathlib.Path(folder).resolve()
+    wrong = []
     try:
-        make(folder, is_proved)
+        for name in names:
+            if options == ["--compare"]:
+                wrong += compare(folder, name)
+                continue
+            if options == ["--of-dist"]:
+                copy_or_make(folder, name)
+            else:
+                make(folder, name, not options)
+            print(folder / f"{name}.c", flush=True)
     except Unknown as what:
-        sys.exit(f"make.py: not known: {what}")
-    except (NotBuilt, OSError) as wrong:
-        sys.exit(f"make.py: {wrong}")
-    print(folder / "kombilad.c")
+        wrong.append(f"not known: {what}")
+    except (NotBuilt, OSError) as what:
+        wrong.append(str(what))
+    for it in wrong:
+        print(f"make.py: {it}", file=sys.stderr)
+    return 1 if wrong else 0
 
 
 if __name__ == "__main__":
-    main()
+    sys.exit(main())

@@ -3,12 +3,13 @@ any other stops the translation."""
 
 import re
 
-from ir import I1, LAYOUT, POINTER, TRIPLE, VOID, Array, Block, Constant, Function, Instruction
-from ir import Module, Struct, Unknown, Vector, name_of, size_of
+from ir import DOUBLE, I1, I8, LAYOUT, POINTER, TRIPLE, VARIADIC, VOID, Array, Block, Constant
+from ir import Function, Instruction, Module, Packed, Struct, Unknown, Vector, name_of, size_of
 from tokens import BINARY, CASTS, FLAGS, LINKAGE, Line, plain
 
 LABEL = re.compile(r'^("(?:[^"\\]|\\.)*"|[-\w.$]+):(?:\s*;.*)?$')
 CONDITIONS = set("eq ne ult ule ugt uge slt sle sgt sge".split())
+FLOAT_CONDITIONS = set("oeq ogt oge olt ole one ord ueq ugt uge ult ule une uno".split())
 # Calls that say something to the optimizer, and do nothing.
 HINTS = (
     "llvm.lifetime.start.p0",
@@ -68,6 +69,36 @@ class InstructionLine(Line):
         self.ends()
         kind = Vector(first.kind.count, I1) if isinstance(first.kind, Vector) else I1
         return Instruction(op, kind, [first, second], words={"condition": condition})
+
+    def read_fcmp(self, op):
+        condition = self.take()
+        if condition not in FLOAT_CONDITIONS:
+            self.fail(f"the condition `{condition}`")
+        first = self.operand(self.double())
+        self.expect(",")
+        second = self.operand(first.kind)
+        self.ends()
+        return Instruction(op, I1, [first, second], words={"condition": condition})
+
+    def read_fadd(self, op):
+        first = self.operand(self.double())
+        self.expect(",")
+        second = self.operand(first.kind)
+        self.ends()
+        return Instruction(op, DOUBLE, [first, second])
+
+    read_fsub = read_fmul = read_fdiv = read_fadd
+
+    def read_fneg(self, op):
+        first = self.operand(self.double())
+        self.ends()
+        return Instruction(op, DOUBLE, [first])
+
+    def double(self):
+        """Reads the type of an operation of floats, which has no words that let it be inexact."""
+        if self.peek() != "double":
+            self.fail(f"`{self.peek()}` in place of `double`")
+        return self.type()
 
     def read_freeze(self, op):
         first = self.operand()
@@ -178,6 +209,9 @@ class InstructionLine(Line):
         self.words(LINKAGE)
         self.attributes()
         kind = self.type()
+        if self.peek() == "(":
+            # The parameters of a function that takes more than it declares.
+            self.skip_parentheses()
         if self.peek()[:1] != "@":
             self.fail("a call that isn't of a named function")
         callee = plain(self.name())
@@ -247,9 +281,26 @@ def bytes_of(operand):
     if sort == "number":
         size = size_of(kind)
         return operand.value.to_bytes(size, "little")
-    if sort == "items" and isinstance(kind, (Array, Vector)):
-        return b"".join(map(bytes_of, operand.value))
+    if sort == "items" and isinstance(kind, (Array, Vector, Packed)):
+        parts = (bytes(8) if it.kind == POINTER else bytes_of(it) for it in operand.value)
+        return b"".join(parts)
     raise Unknown(f"a constant of {name_of(kind)}")
+
+
+def pointers_of(name, value):
+    """Returns the places of the pointers in a constant, which lead into it, and where they lead."""
+    found, at = [], 0
+    for item in value.value if isinstance(value.kind, Packed) else ():
+        if item.kind == POINTER:
+            place = item.value
+            first, *rest = place.operands if item.sort == "expression" else (item,)
+            if first.value != name or [it.sort for it in rest] != ["number"]:
+                raise Unknown(f"a pointer in the constant {name} that doesn't lead into it")
+            if place.op != "getelementptr" or place.words["source"] != I8:
+                raise Unknown(f"a pointer in the constant {name}")
+            found.append((at, rest[0].value))
+        at += size_of(item.kind)
+    return found
 
 
 def read_constant(line):
@@ -263,7 +314,7 @@ def read_constant(line):
         line.expect("align")
         alignment = line.number()
     line.ends()
-    return Constant(name, bytes_of(value), alignment)
+    return Constant(name, bytes_of(value), alignment, pointers_of(name, value))
 
 
 def read_head(line):
@@ -277,6 +328,9 @@ def read_head(line):
     parameters = []
     line.expect("(")
     while not line.has(")"):
+        if line.has("..."):
+            parameters.append((VARIADIC, ""))
+            continue
         kind = line.type()
         line.attributes()
         parameters.append((kind, plain(line.take()) if line.sort() == "name" else ""))

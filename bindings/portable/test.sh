@@ -1,7 +1,8 @@
 #!/bin/sh
-# Makes the C file of the proved library, and compares it with that library: each instruction that the
-# translator knows, and each call. The compilers that CI has are gcc and clang; test_ir2c.py and
-# compare/same.py take more.
+# Makes the C files of the library and of the programs, and tests them: each instruction that the
+# translator knows, each call beside the library for x86-64, and the programs with their files; on
+# other processors too, with fewer inputs. The file of `ipld` is that in dist/ if that is of the sources
+# as they are, otherwise one without proofs. With --unproved it takes all modules without proofs.
 set -eu
 cd "$(dirname "$0")"
 # shellcheck source=../../.ci/start.sh
@@ -9,10 +10,44 @@ cd "$(dirname "$0")"
 install=
 [ "${CI:-}" != true ] || install=--install
 ../../.ci/needs $install bindings || { echo "bindings/portable/test.sh: nothing was tested: install what is listed above"; exit 1; }
-out=../out/portable
+out=$(cd .. && pwd)/out/portable
+crate=../../crates/kombilad_c/out
+library=$crate/libkombilad_c.a
+[ "${1:-}" != --unproved ] || library=$crate/unproved/libkombilad_c.a
 mkdir -p "$out"
 
 ./faults.py --check
-./make.py "$out"
-./test_ir2c.py --inputs 256 "gcc -O0" "gcc -O2" "clang -O2"
-compare/same.py "$out" ../../crates/kombilad_c/out/libkombilad_c.a "gcc -O0" "gcc -O2" "clang -O2" "gcc sanitized"
+./make.py "$@" "$out" kombilad ipld_links
+./make.py --compare "$out" kombilad ipld_links
+# A proof of ipld takes eight minutes, and `rt ci` keeps no module of its own.
+./make.py --of-dist "$out" ipld
+./test_ir2c.py --inputs 64 "gcc -O0" "gcc -O2" "clang -O2" tcc aarch64 riscv64 s390x i386
+compare/same.py "$out" "$library" --cases 50 "gcc -O2" "clang -O2" "gcc sanitized"
+compare/same.py "$out" "$library" --cases 1 musl-gcc aarch64 riscv64 s390x i386
+
+# Builds a program, and runs it: FOLDER NAME RUNS COMPILER..
+program() {
+    made=$out/$1/$2
+    mkdir -p "$out/$1"
+    runs=$3
+    name=$2
+    shift 3
+    "$@" -Wall -Wextra -Werror "$out/$name.c" "$out/posix.c" -o "$made"
+    case $made in
+        */aarch64/*)
+            mv "$made" "$made.aarch64"
+            printf '#!/bin/sh\nexec %s %s "$@"\n' "$(command -v qemu-aarch64)" "$made.aarch64" > "$made"
+            chmod +x "$made"
+            ;;
+    esac
+    # shellcheck disable=SC2086
+    ../../.ci/$runs "$made"
+    echo "bindings/portable/test.sh: $name by $*: ok"
+}
+
+program gcc ipld_links program-runs gcc -O2
+program musl ipld_links program-runs musl-gcc -O1 -static
+program aarch64 ipld_links "program-runs --some" aarch64-linux-gnu-gcc -O1 -static
+program gcc ipld ipld-runs gcc -O1
+program musl ipld "ipld-runs --some" musl-gcc -O0 -static
+program aarch64 ipld "ipld-runs --some" aarch64-linux-gnu-gcc -O0 -static

@@ -22,11 +22,13 @@ sys.path.insert(0, str(HERE))
 sys.path.insert(1, str(HERE.parent.parent / ".ci"))
 from block_cases import blocks, calls, places  # noqa: E402
 from compilers import COMPILERS, command  # noqa: E402
-from instruction_cases import Cases, arithmetic, conversions, copied, division  # noqa: E402
-from instruction_cases import intrinsics, order, truths  # noqa: E402
+from float_cases import floats  # noqa: E402
+from functions import HOST, host_declarations  # noqa: E402
+from instruction_cases import Cases, arithmetic, checks, conversions, copied  # noqa: E402
+from instruction_cases import division, intrinsics, order, truths  # noqa: E402
 from ir import LAYOUT, TRIPLE, Unknown  # noqa: E402
 from ir2c import about, translate  # noqa: E402
-from vector_cases import vectors  # noqa: E402
+from vector_cases import lanes, vectors  # noqa: E402
 
 HEADER = """\
 #ifndef KOMBILAD_H
@@ -39,7 +41,12 @@ void kombilad_run(uint32_t which, uint8_t *in, uint8_t *out);
 """
 # What stops the translation, and a word of the reason.
 STOPS = [
-    ("%r = fadd double %a, %b", "the instruction"),
+    ("%r = fadd float %a, %b", "in place of `double`"),
+    ("%r = fadd fast double 1.0e+00, 2.0e+00", "in place of `double`"),
+    ("%r = frem double 1.0e+00, 2.0e+00", "the instruction"),
+    ("%r = uitofp i128 5 to double\n  store double %r, ptr %out", "a conversion to a float"),
+    ("%r = call i32 @close(i32 %which)", "isn't defined"),
+    ("%r = mul i256 1, 2\n  %t = trunc i256 %r to i8\n  store i8 %t, ptr %out", "256 bits"),
     ("%p = getelementptr i8, ptr @nothing, i64 1\n  store i8 1, ptr %p", "the address of nothing"),
     ("%r = load volatile i8, ptr %in, align 1", "in place of a type"),
     ("%r = load i9, ptr %in, align 2\n  store i9 %r, ptr %out, align 2", "9 bits in memory"),
@@ -48,7 +55,7 @@ STOPS = [
     ("call void @unknown()", "isn't defined"),
     ("fence seq_cst", "the instruction"),
     ('%r = call i8 asm "nop", "=r"()', "a named function"),
-    ("%r = udiv i128 5, 3\n  store i128 %r, ptr %out", "a division of 128 bits"),
+    ("%r = sdiv i128 5, 3\n  store i128 %r, ptr %out", "a division of 128 bits"),
     ("br label %next\nnext:\n  %r = alloca i8\n  store i8 1, ptr %r", "outside of the first block"),
 ]
 KIT_FLAGS = "--target=x86_64-unknown-linux-gnu -march=x86-64-v2 -x ir -O0 -c".split()
@@ -56,9 +63,9 @@ KIT_FLAGS = "--target=x86_64-unknown-linux-gnu -march=x86-64-v2 -x ir -O0 -c".sp
 
 def all_cases():
     cases = Cases()
-    for add in (arithmetic, division, conversions, truths, intrinsics, copied, order):
+    for add in (arithmetic, division, checks, conversions, truths, intrinsics, copied, order):
         add(cases)
-    for add in (places, blocks, calls, vectors):
+    for add in (places, blocks, calls, vectors, lanes, floats):
         add(cases)
     return cases
 
@@ -82,12 +89,39 @@ def check_stops():
             f"  {lines}\n  ret void\n}}\n"
         )
         try:
-            translate(text, HEADER, about([], False))
+            translate(text, about([], False), HEADER)
             failed.append(f"{lines!r}: translated")
         except Unknown as what:
             if reason not in str(what):
                 failed.append(f"{lines!r}: {what}")
     return failed
+
+
+def check_flags(folder):
+    """Checks that floats don't compile if they would be inexact."""
+    for flag in ("-ffast-math", "-ffinite-math-only", "-mfpmath=387"):
+        words = ["gcc", flag, "-fsyntax-only", f"-I{folder}", folder / "kombilad.c"]
+        try:
+            run(words)
+            yield f"gcc {flag}: it compiles"
+        except RuntimeError as what:
+            if "needs exact floats" not in str(what):
+                yield f"gcc {flag}: {what}"
+
+
+def check_host(folder):
+    """Checks that posix.c defines each function as a program declares it."""
+    posix = (HERE / "posix.c").read_text(encoding="utf-8")
+    types = "typedef uint8_t u8; typedef uint32_t u32; typedef uint64_t u64; typedef u8 *P;"
+    declared = list(host_declarations(posix))
+    text = "\n".join([posix, types, *declared, ""])
+    (folder / "host.c").write_text(text, encoding="utf-8")
+    if len(declared) != len(HOST):
+        yield f"posix.c defines {len(declared)} functions of {len(HOST)}"
+    try:
+        run(["gcc", "-std=c99", "-Wall", "-Wextra", "-Werror", "-fsyntax-only", folder / "host.c"])
+    except RuntimeError as what:
+        yield str(what)
 
 
 def printed(folder, kit, text):
@@ -124,8 +158,6 @@ def main():
     from built import kit  # the tests of the script alone need no kit
 
     failed = check_stops()
-    for it in failed:
-        print(f"test_ir2c.py: {it}")
     cases = all_cases()
     names = [name for name, _ in cases.functions]
     with tempfile.TemporaryDirectory() as folder:
@@ -134,10 +166,13 @@ def main():
         text = printed(folder, kit(), text)
         (folder / "kombilad.h").write_text(HEADER, encoding="utf-8")
         try:
-            made = translate(text, HEADER, about([], False))
+            made = translate(text, about([], False), HEADER)
         except Unknown as what:
             sys.exit(f"test_ir2c.py: not known: {what}")
         (folder / "kombilad.c").write_text(made, encoding="utf-8")
+        failed += [*check_flags(folder), *check_host(folder)]
+        for it in failed:
+            print(f"test_ir2c.py: {it}")
         expected = run([native(folder, kit()), len(names), inputs]).splitlines()
         for name in words or COMPILERS:
             compiler, flags, runner = COMPILERS[name]

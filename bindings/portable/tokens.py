@@ -2,9 +2,10 @@
 is known here; any other stops the translation."""
 
 import re
+import struct
 
-from ir import I1, POINTER, VOID, Array, Instruction, Integer, Operand, Pointer, Struct
-from ir import Unknown, Vector
+from ir import DOUBLE, I1, POINTER, VOID, Array, Instruction, Integer, Operand, Packed, Pointer
+from ir import Struct, Unknown, Vector
 
 TOKEN = re.compile(
     r"""\s*(?:
@@ -13,6 +14,7 @@ TOKEN = re.compile(
     | (?P<text>"(?:[^"\\]|\\.)*")
     | (?P<data>!(?:[-\w.$]+|(?=\{))|\#\d+)
     | (?P<number>-?\d+(?![\w.]))
+    | (?P<float>-?\d+\.\d+e[+-]\d+|0x[0-9A-F]{16}(?!\w))
     | (?P<word>[A-Za-z_][\w.]*)
     | (?P<mark>\.\.\.|[][(){}<>,=*:])
     )""",
@@ -20,7 +22,7 @@ TOKEN = re.compile(
 )
 
 BINARY = set("add sub mul udiv sdiv urem srem and or xor shl lshr ashr".split())
-CASTS = set("zext sext trunc ptrtoint ptrtoaddr inttoptr bitcast".split())
+CASTS = set("zext sext trunc ptrtoint ptrtoaddr inttoptr bitcast uitofp".split())
 FLAGS = set("nuw nsw exact disjoint nneg samesign inbounds nusw".split())
 # Attributes of a parameter, an argument or a result, which say of it what holds anyway.
 PLAIN_ATTRIBUTES = set(
@@ -65,6 +67,13 @@ def unescaped(text):
             found.append(int(text[at + 1 : at + 3], 16))
             at += 3
     return bytes(found)
+
+
+def bits_of_float(text):
+    """Returns the bits of a double, which stands as them or as a decimal number of that value."""
+    if text.startswith("0x"):
+        return int(text, 16)
+    return int.from_bytes(struct.pack("<d", float(text)), "little")
 
 
 class Line:
@@ -158,6 +167,8 @@ class Line:
             return Integer(int(text[1:]))
         if text == "ptr":
             return POINTER
+        if text == "double":
+            return DOUBLE
         if text == "void":
             return VOID
         if text in "[<" and self.sort() == "number":
@@ -166,14 +177,22 @@ class Line:
             item = self.type()
             self.expect("]" if text == "[" else ">")
             return Array(count, item) if text == "[" else Vector(count, item)
+        if text == "<" and self.has("{"):
+            kind = Packed(self.fields())
+            self.expect(">")
+            return kind
         if text == "{":
-            fields = []
-            while not self.has("}"):
-                fields.append(self.type())
-                if self.peek() != "}":
-                    self.expect(",")
-            return Struct(tuple(fields))
+            return Struct(self.fields())
         return self.fail(f"`{text}` in place of a type")
+
+    def fields(self):
+        """Reads the types of a struct, up to its end."""
+        fields = []
+        while not self.has("}"):
+            fields.append(self.type())
+            if self.peek() != "}":
+                self.expect(",")
+        return tuple(fields)
 
     def operand(self, kind=None):
         """Reads a type, where it isn't given, and a value."""
@@ -183,6 +202,8 @@ class Line:
             return Operand(kind, "local" if text[0] == "%" else "global", plain(text))
         if sort == "number" and isinstance(kind, Integer):
             return Operand(kind, "number", int(text) % (1 << kind.bits))
+        if sort == "float" and kind == DOUBLE:
+            return Operand(kind, "number", bits_of_float(text))
         if text in ("true", "false") and kind == I1:
             return Operand(kind, "number", int(text == "true"))
         if text == "null" and isinstance(kind, Pointer):
@@ -198,17 +219,26 @@ class Line:
             item = self.operand()
             self.expect(")")
             return Operand(kind, "items", (item,) * kind.count)
+        if text == "<" and isinstance(kind, Packed):
+            self.expect("{")
+            whole = self.items(kind, "}")
+            self.expect(">")
+            return whole
         closing = {"<": ">", "[": "]", "{": "}"}.get(text)
         if closing and isinstance(kind, (Array, Struct, Vector)):
-            items = []
-            while not self.has(closing):
-                items.append(self.operand())
-                if self.peek() != closing:
-                    self.expect(",")
-            return Operand(kind, "items", tuple(items))
+            return self.items(kind, closing)
         if text in BINARY or text in CASTS or text == "getelementptr":
             return Operand(kind, "expression", self.constant_expression(kind, text))
         return self.fail(f"the constant `{text}`")
+
+    def items(self, kind, closing):
+        """Reads the parts of a constant, up to its end."""
+        items = []
+        while not self.has(closing):
+            items.append(self.operand())
+            if self.peek() != closing:
+                self.expect(",")
+        return Operand(kind, "items", tuple(items))
 
     def constant_expression(self, kind, op):
         self.words(FLAGS)

@@ -3,7 +3,21 @@
 import dataclasses
 from typing import Optional, Tuple
 
-from ir import I1, I8, Integer, Pointer, Struct, Unknown, Vector, Void, name_of
+from ir import (
+    I1,
+    I8,
+    I16,
+    I32,
+    I64,
+    Double,
+    Integer,
+    Pointer,
+    Struct,
+    Unknown,
+    Vector,
+    Void,
+    name_of,
+)
 
 # How deep an expression may nest: C99 promises 63 levels of parentheses.
 DEEPEST = 12
@@ -72,8 +86,8 @@ def held_bits(bits):
     for width in (8, 16, 32, 64):
         if bits <= width:
             return width
-    if bits == 128:
-        return 128
+    if bits in (128, 256):
+        return bits
     raise Unknown(f"a number of {bits} bits")
 
 
@@ -83,10 +97,21 @@ def held(kind):
 
 
 def vector_type(kind):
-    """Returns the C type of a vector of bytes, or of truths, each of which is a byte 0 or 255."""
-    if kind.item not in (I1, I8) or kind.count not in (16, 32, 64):
+    """Returns the C type of a vector of bytes, or of truths, each of which is a byte 0 or 255. One
+    of less than 16 is the beginning of one of 16, whose other bytes may be any."""
+    if kind.item not in (I1, I8) or kind.count not in (2, 4, 8, 16, 32, 64):
         raise Unknown(f"a vector {name_of(kind)}")
-    return f"V{kind.count}"
+    return f"V{max(kind.count, 16)}"
+
+
+def has_lanes(kind):
+    """Returns whether it is a vector of 16 bytes of wider numbers, which are held one by one."""
+    return isinstance(kind, Vector) and kind in (Vector(8, I16), Vector(4, I32), Vector(2, I64))
+
+
+def lanes_of(kind):
+    """Returns the struct that holds the numbers of a vector."""
+    return Struct((kind.item,) * kind.count)
 
 
 def c_type(kind):
@@ -94,8 +119,12 @@ def c_type(kind):
         return held(kind)
     if isinstance(kind, Pointer):
         return "P"
+    if isinstance(kind, Double):
+        return "u64"
     if isinstance(kind, Void):
         return "void"
+    if has_lanes(kind):
+        return c_type(lanes_of(kind))
     if isinstance(kind, Vector):
         return vector_type(kind)
     if isinstance(kind, Struct):
@@ -120,21 +149,33 @@ def number(bits, value):
     if bits == 128:
         low = value & (1 << 64) - 1
         return literal(f"make_u128({value >> 64:#x}ull, {low:#x}ull)")
+    if bits == 256:
+        halves = (number(128, it).text for it in (value >> 128, value))
+        return literal(f"make_u256({', '.join(halves)})")
     digits = str(value) if value < 1 << 16 else f"{value:#x}"
     return literal(digits + {8: "", 16: "", 32: "u", 64: "ull"}[held_bits(bits)])
 
 
 def zero(kind):
     """Returns the value of which every bit is zero."""
-    if isinstance(kind, Integer):
+    if isinstance(kind, (Integer, Double)):
         return number(kind.bits, 0)
     if isinstance(kind, Pointer):
         return literal("(P)0")
+    if has_lanes(kind):
+        return zero(lanes_of(kind))
     if isinstance(kind, Vector):
         return literal(f"splat_{vector_type(kind)}(0)")
     if isinstance(kind, Struct):
         return structure(kind, tuple(zero(it) for it in kind.fields))
     raise Unknown(f"a zero of {name_of(kind)}")
+
+
+def parts_of(whole, count):
+    """Returns the parts of a struct."""
+    return whole.fields or tuple(
+        Expression(f"{whole.operand}.f{at}", whole.reads, whole.loads) for at in range(count)
+    )
 
 
 def structure(kind, fields):
@@ -153,6 +194,7 @@ def vector_of(kind, items):
         numbers.append((item.value or 0) * scale)
     if len(set(numbers)) == 1:
         return literal(f"splat_{vector_type(kind)}({numbers[0]})")
+    numbers += [0] * (16 - len(numbers))
     chunks = [
         f"bytes_V16({', '.join(map(str, numbers[at:at + 16]))})"
         for at in range(0, len(numbers), 16)

@@ -5,6 +5,7 @@ from instruction_cases import put
 
 def vectors(cases):
     """Adds vectors of bytes and of truths."""
+    short(cases)
     for count in (16, 32, 64):
         kind, truths, name = f"<{count} x i8>", f"<{count} x i1>", f"v{count}"
         head = ["%p = getelementptr i8, ptr %in, i64 49", "%q = getelementptr i8, ptr %in, i64 113"]
@@ -137,3 +138,61 @@ def vectors(cases):
             "ret void",
         ],
     )
+
+
+def short(cases):
+    """Adds vectors of less than sixteen bytes."""
+    for count in (2, 4, 8):
+        kind, truths, name = f"<{count} x i8>", f"<{count} x i1>", f"v{count}"
+        head = ["%p = getelementptr i8, ptr %in, i64 49", "%q = getelementptr i8, ptr %in, i64 113"]
+        head += [f"%v = load {kind}, ptr %p, align 1", f"%w = load {kind}, ptr %q, align 1"]
+        for op in "and or xor add sub".split():
+            last = [f"%r = {op} {kind} %v, %w", f"store {kind} %r, ptr %out, align 1", "ret void"]
+            cases.add(f"{name} {op}", [*head, *last])
+        for condition in "eq ne ult slt".split():
+            for other in ("%w", "splat (i8 92)", "zeroinitializer"):
+                found = [
+                    f"%t1 = icmp {condition} {kind} %v, {other}",
+                    f"%t2 = icmp ult {kind} %w, splat (i8 32)",
+                    f"%t = or {truths} %t1, %t2",
+                    f"%r = bitcast {truths} %t to i{count}",
+                ]
+                cases.add(f"{name} {condition} {other}", [*head, *found, *put(count), "ret void"])
+        items = ", ".join(f"i8 {it * 37 - 100}" for it in range(count))
+        last = [f"%r = xor {kind} %v, <{items}>", f"store {kind} %r, ptr %out, align 1", "ret void"]
+        cases.add(f"{name} constant", [*head, *last])
+
+
+def lanes(cases):
+    """Adds vectors of wider numbers, of sixteen bytes in all."""
+    pair = ["%a = load i64, ptr %in, align 1", "%b.p = getelementptr i8, ptr %in, i64 16"]
+    pair += ["%b = load i64, ptr %b.p, align 1"]
+    pair += ["%x = insertelement <2 x i64> <i64 poison, i64 7>, i64 %a, i64 0"]
+    pair += ["%y = insertelement <2 x i64> %x, i64 %b, i64 1"]
+    end = ["store <16 x i8> %r, ptr %out, align 1", "ret void"]
+    for count, bits in ((8, 16), (4, 32), (2, 64)):
+        kind = f"<{count} x i{bits}>"
+        head = [
+            *pair,
+            f"%v = bitcast <2 x i64> %x to {kind}",
+            f"%w = bitcast <2 x i64> %y to {kind}",
+        ]
+        tail = [f"%r = bitcast {kind} %z to <16 x i8>", *end]
+        items = ", ".join(f"i{bits} {it * 99 + 1}" for it in range(count))
+        for op, other in (
+            ("add", "%w"),
+            ("sub", "%w"),
+            ("mul", "%w"),
+            ("mul", f"<{items}>"),
+            ("udiv", f"splat (i{bits} 100)"),
+            ("urem", f"<{items}>"),
+            ("shl", f"splat (i{bits} {bits // 2})"),
+            ("lshr", "splat (i{} 3)".format(bits)),
+            ("xor", "zeroinitializer"),
+        ):
+            cases.add(f"{kind} {op} {other}", [*head, f"%z = {op} {kind} %v, {other}", *tail])
+        places = ", ".join(f"i32 {it // 2 + count * (it % 2)}" for it in range(count))
+        mixed = f"%z = shufflevector {kind} %v, {kind} %w, <{count} x i32> <{places}>"
+        cases.add(f"{kind} shufflevector", [*head, mixed, *tail])
+        last = f"%n = extractelement {kind} %w, i64 {count - 1}"
+        cases.add(f"{kind} extractelement", [*head, last, *put(bits, "%n"), "ret void"])

@@ -1,53 +1,69 @@
-"""
-What pyproject.toml can't say: the wheel holds the shared library, and an extension module over it
-for any CPython from 3.9 on.
+"""Builds `kombilad._native`: the extension module, with libkombilad in it.
+
+libkombilad is one C file, which the repository has in `dist`. It is copied to `c` here, and the
+licences into this folder, so that an sdist contains them. An sdist has a file PKG-INFO, and needs
+nothing outside of its folder.
 """
 
 import pathlib
-import re
+import shutil
+import sys
 
-from setuptools import Extension, setup
-from wheel.bdist_wheel import bdist_wheel
+from setuptools import Extension, errors, setup
+from setuptools.command.build_ext import build_ext
 
-SOURCES = sorted(str(path) for path in pathlib.Path("native").glob("*.c"))
-
-
-# Wheels for Linux name the oldest C library that they run on; tools know this one and those after
-# it.
-OLDEST_GLIBC = (2, 17)
-
-
-class StableWheel(bdist_wheel):
-    def get_tag(self):
-        built = pathlib.Path(self.get_finalized_command("build").build_lib).rglob("*.so*")
-        needed = [
-            tuple(map(int, it))
-            for path in built
-            for it in re.findall(rb"\0GLIBC_(\d+)\.(\d+)", path.read_bytes())
-        ]
-        newest = "%d_%d" % max([OLDEST_GLIBC, *needed])
-        return ("cp39", "abi3", super().get_tag()[2].replace("linux_", f"manylinux_{newest}_"))
+HERE = pathlib.Path(__file__).resolve().parent
+TOP = HERE.parent.parent
+COPIES = {
+    "dist/kombilad.c": "c/kombilad.c",
+    "dist/kombilad.h": "c/kombilad.h",
+    "LICENSE-APACHE": "LICENSE-APACHE",
+    "LICENSE-MIT": "LICENSE-MIT",
+}
+NATIVE = sorted(it.relative_to(HERE).as_posix() for it in HERE.glob("native/*.c"))
 
 
-native = Extension(
-    "kombilad._native",
-    SOURCES,
-    depends=["native/native.h"],
-    include_dirs=["native", "include"],
-    extra_compile_args=[
-        "-std=c11",
-        "-O2",
-        "-g0",
-        "-fvisibility=hidden",
-        "-Wall",
-        "-Wextra",
-        "-Werror",
+def copy_from_repository():
+    """Copies the C file of libkombilad, its header and the licences into this folder."""
+    for source, copy in COPIES.items():
+        if not (TOP / source).is_file():
+            sys.exit(
+                f"kombilad: {TOP / source} is missing: build in a whole clone of the repository,"
+                " by pip 21.3 or later, or from the sdist"
+            )
+        (HERE / copy).parent.mkdir(exist_ok=True)
+        shutil.copyfile(TOP / source, HERE / copy)
+
+
+class BuildNative(build_ext):
+    """Names what is needed if a C file can't be compiled."""
+
+    def build_extensions(self):
+        try:
+            super().build_extensions()
+        except (errors.CCompilerError, errors.BaseError) as wrong:
+            sys.exit(
+                f"kombilad: the extension module was not built: {wrong}. It needs a C compiler and"
+                " Python's headers (on Debian: apt-get install gcc libc6-dev python3-dev)"
+            )
+
+
+if not (HERE / "PKG-INFO").is_file():
+    copy_from_repository()
+
+setup(
+    cmdclass={"build_ext": BuildNative},
+    ext_modules=[
+        Extension(
+            "kombilad._native",
+            [*NATIVE, "c/kombilad.c"],
+            depends=["native/native.h", "c/kombilad.h"],
+            include_dirs=["native", "c"],
+            # Without optimization libkombilad is many times slower and takes more stack.
+            extra_compile_args=["-std=c11", "-O2", "-g0"],
+            py_limited_api=True,
+        )
     ],
-    # The library beside the module, as the wheel has it.
-    library_dirs=["src/kombilad"],
-    libraries=[":libkombilad.so.0"],
-    runtime_library_dirs=["$ORIGIN"],
-    py_limited_api=True,
+    # CPython's stable ABI: one wheel for every version from 3.9 on.
+    options={"bdist_wheel": {"py_limited_api": "cp39"}},
 )
-
-setup(cmdclass={"bdist_wheel": StableWheel}, ext_modules=[native])

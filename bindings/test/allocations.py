@@ -1,16 +1,17 @@
 """Each allocation of making values and blocks refused in turn: CPython's by `_testcapi`, and those
 of libkombilad.
 
-usage: KOMBILAD_LIBRARY=the library that failing.c is linked into, python allocations.py
+usage: python allocations.py
+
+The package is one whose extension module contains failing.c.
 """
 
 import ctypes
 import gc
-import os
 import sys
 
 import kombilad
-from kombilad import Cid
+from kombilad import Cid, _native
 
 LINK = Cid("bafkqaaa")
 NESTED = [
@@ -67,7 +68,7 @@ def refused(what, begin, end, most=2000):
 
 
 def main():
-    library = ctypes.CDLL(os.environ["KOMBILAD_LIBRARY"])
+    library = ctypes.CDLL(_native.__file__)
     fail_after = library.kombilad_test_fail_after
     fail_after.argtypes, fail_after.restype = [ctypes.c_long], None
     refused("libkombilad's allocations", fail_after, lambda: fail_after(-1))

@@ -1,5 +1,5 @@
-/* malloc and realloc of libkombilad that fail where a test says so: linked into a library beside
- * the archive, by the linker's --wrap. */
+/* malloc and realloc of libkombilad, which fail if a test asks for it. The extension module contains
+ * them, by the linker's --wrap. */
 #include <stdlib.h>
 
 void *__real_malloc(size_t size);

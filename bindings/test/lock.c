@@ -1,6 +1,6 @@
 /* Calls of libkombilad that look whether their thread holds the interpreter's lock, and that wait
- * for one another where a test says so: linked beside the library, whose own calls have the prefix
- * `real_` then. */
+ * for one another if a test asks for it. The extension module contains them, and in it the library's
+ * own calls have the prefix `real_`. */
 #include <pthread.h>
 #include <stdbool.h>
 #include <time.h>

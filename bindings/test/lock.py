@@ -1,21 +1,20 @@
 """That the interpreter's lock is released where the package says so, and held else; and that two
 threads are in the library at once.
 
-usage: KOMBILAD_LIBRARY=the library that lock.c is linked into, python lock.py
+usage: python lock.py
 
-The library asks CPython at each call on a block whether its thread holds the lock; no time is
+The package is one whose extension module contains lock.c. The library in it asks CPython at each call on a block whether its thread holds the lock; no time is
 measured.
 """
 
 import ctypes
-import os
 import threading
 import unittest
 
 import kombilad
-from kombilad import Cid
+from kombilad import Cid, _native
 
-library = ctypes.PyDLL(os.environ["KOMBILAD_LIBRARY"])
+library = ctypes.PyDLL(_native.__file__)
 library.kombilad_test_watch.argtypes, library.kombilad_test_watch.restype = [
     ctypes.c_void_p,
     ctypes.c_size_t,

@@ -1,10 +1,12 @@
 #!/bin/sh
-# Tests release.sh: that it gives the same bytes twice, from two checkouts of one commit, under another umask, time zone and language; that
-# it refuses what isn't committed; and that a C compiler and cargo take what it makes, without the checkout.
+# Tests release.sh: that it makes the same bytes twice, from two checkouts of one commit, under another umask, time zone and language; that it
+# refuses what isn't committed, and a dist/ that isn't what the commit makes; and that CMake, cargo and go take what it makes, without the
+# checkout.
 #
-# bindings/test.sh calls it, over the library and the package for npm that stand in bindings/out. Its tools are in .ci/needs.txt.
-# Without a repository of git there is no release to test: it prints that this is skipped, and fails where the variable CI is `true`.
+# bindings/test.sh calls it, over the C file in DIST, or else in dist/, and the packages for Python and npm that are in bindings/out. Its tools are in .ci/needs.txt.
+# Without a repository of git there is no release to test: it prints that this is skipped, and fails if the variable CI is `true`.
 set -eu
+[ -z "${DIST:-}" ] || DIST=$(realpath "$DIST")
 cd "$(dirname "$0")/.."
 out=$PWD/out
 tests=$out/tests/release
@@ -14,7 +16,7 @@ mkdir -p "$tests"
 
 said() { echo "bindings/test/release.sh: $*"; }
 failed() { said "$*"; exit 1; }
-../.ci/needs --tools git cc header:stdlib.h pkg-config cargo rustc || failed "nothing was tested: install what is listed above"
+../.ci/needs --tools git cc header:stdlib.h cargo rustc || failed "nothing was tested: install what is listed above"
 quietly() { "$@" > "$tests/log" 2>&1 || { cat "$tests/log"; exit 1; }; }
 export BUILT=yes
 
@@ -39,7 +41,7 @@ git -C .. diff --binary HEAD > "$tests/changes"
 [ ! -s "$tests/changes" ] || git -C "$elsewhere" apply "$tests/changes"
 (cd .. && git ls-files -z --others --exclude-standard | tar --null -T - -cf -) | tar -C "$elsewhere" -xf -
 mkdir "$elsewhere/bindings/out"
-cp -P "$out"/libkombilad.* "$out/kombilad.h" "$out/kombilad-$version.tgz" "$elsewhere/bindings/out/"
+cp "$out/kombilad-$version.tgz" "$elsewhere/bindings/out/"
 ln -s "$out/wheels" "$elsewhere/bindings/out/wheels"
 # Where all is committed, without the option: then it says nothing either way.
 option=
@@ -48,7 +50,7 @@ option=
 (umask 077 && TZ=Asia/Kolkata LC_ALL=C.UTF-8 quietly "$elsewhere/bindings/release.sh" $option "$tests/two")
 diff -r "$tests/one" "$tests/two" || failed "two releases of one commit differ"
 (cd "$tests/one" && sha256sum --quiet -c SHA256SUMS)
-[ "$(wc -l < "$tests/one/SHA256SUMS")" = 7 ] || failed "SHA256SUMS has another number of files"
+[ "$(wc -l < "$tests/one/SHA256SUMS")" = 9 ] || failed "SHA256SUMS has another number of files"
 said "the same bytes twice: ok"
 
 # ---- What isn't committed: a script that makes no wheel, so that the one that stands there is taken
@@ -62,36 +64,53 @@ quietly "$elsewhere/bindings/release.sh" --uncommitted "$tests/three"
 grep -q '^commit: [0-9a-f]*, and changes' "$tests/three/BUILT-FROM" || failed "BUILT-FROM doesn't say that there were changes"
 said "what isn't committed: ok"
 
-# ---- C, where it was unpacked
+# ---- A dist/ that the commit doesn't make
 
-tar -C "$tests" -xzf "$tests/one/kombilad-$version-x86_64-linux.tar.gz"
-mv "$tests/kombilad-$version-x86_64-linux" "$tests/unpacked"
-# shellcheck disable=SC2046
-cc -std=c11 c/examples/links.c $(PKG_CONFIG_PATH=$tests/unpacked/lib/pkgconfig pkg-config --cflags --libs kombilad) -o "$tests/links"
+printf '#!/bin/sh\necho make.py: dist/kombilad.c is older than its sources\n' > "$elsewhere/bindings/portable/make.py"
+! BUILT='' "$elsewhere/bindings/release.sh" --uncommitted "$tests/four" > "$tests/log" 2>&1 || failed "it took another dist/ than the commit makes"
+grep -q 'dist/ is not what this commit makes' "$tests/log" || failed "it didn't name dist/"
+[ ! -e "$tests/four" ] || failed "it left something of the release that it refused"
+said "another dist/: ok"
+
+# ---- C: a program that finds the shared library by CMake
+
+tar -C "$tests" -xzf "$tests/one/libkombilad-$version.tar.gz"
+mkdir "$tests/user"
+cp c/examples/links.c "$tests/user"
+cat > "$tests/user/CMakeLists.txt" << 'END'
+cmake_minimum_required(VERSION 3.14)
+project(user LANGUAGES C)
+find_package(kombilad 0.1 REQUIRED)
+add_executable(links links.c)
+target_link_libraries(links PRIVATE kombilad::kombilad)
+END
+quietly cmake -S "$tests/libkombilad-$version" -B "$tests/c" -DBUILD_SHARED_LIBS=ON -DCMAKE_C_FLAGS_RELEASE=-O0 -DCMAKE_INSTALL_PREFIX="$tests/prefix"
+quietly cmake --build "$tests/c" --target install
+quietly cmake -S "$tests/user" -B "$tests/user/build" -DCMAKE_PREFIX_PATH="$tests/prefix"
+quietly cmake --build "$tests/user/build"
 printf '\330\052\105\000\001\125\000\000' > "$tests/block"
-[ "$(LD_LIBRARY_PATH=$tests/unpacked/lib "$tests/links" "$tests/block")" = bafkqaaa ] || failed "a program over the unpacked library doesn't work"
-cc -std=c11 -I"$tests/unpacked/include" c/examples/links.c "$tests/unpacked/lib/libkombilad.a" -o "$tests/links"
-[ "$("$tests/links" "$tests/block")" = bafkqaaa ] || failed "a program over the unpacked static library doesn't work"
+[ "$("$tests/user/build/links" "$tests/block")" = bafkqaaa ] || failed "a program over the library that CMake built doesn't work"
+[ -e "$tests/prefix/lib/libkombilad.so.0" ] || failed "CMake installed no shared library"
 said "the library for C: ok"
 
-# ---- Rust: what cargo would pack, and what it makes of a registry with these crates and no other
+# ---- Rust: what cargo would pack, and a program over these crates and Debian's crate cc
 
-export CARGO_NET_OFFLINE=true CARGO_TARGET_DIR="$out/rust" KOMBILAD_LIB_DIR="$tests/unpacked/lib"
+export CARGO_NET_OFFLINE=true CARGO_TARGET_DIR="$out/rust"
+registry=/usr/share/cargo/registry
+crates=$tests/crates
+mkdir "$crates"
 for crate in kombilad-sys kombilad kombilad-cid; do
-    # cargo adds a Cargo.lock to some, by its version, and the state of the repository where nothing is uncommitted; we add the licences.
-    (cd "rust/$crate" && cargo package -q --list --allow-dirty 2> "$tests/log" || { cat "$tests/log" >&2; exit 1; }) | grep -vx 'Cargo.lock\|.cargo_vcs_info.json' > "$tests/theirs"
-    tar -tzf "$tests/one/$crate-$version.crate" | sed "s|^$crate-$version/||" | grep -vx 'LICENSE-.*\|.cargo_vcs_info.json' > "$tests/ours"
+    # cargo adds a Cargo.lock to some, by its version, and the state of the repository if nothing is uncommitted; we add the licences and
+    # the C file.
+    (cd "rust/$crate" && cargo package -q --list --allow-dirty --config 'source.crates-io.replace-with="debian"' \
+        --config "source.debian.directory=\"$registry\"" 2> "$tests/log" || { cat "$tests/log" >&2; exit 1; }) | grep -vx 'Cargo.lock\|.cargo_vcs_info.json' > "$tests/theirs"
+    tar -tzf "$tests/one/$crate-$version.crate" | sed "s|^$crate-$version/||" | grep -vx 'LICENSE-.*\|.cargo_vcs_info.json\|c/kombilad\.[ch]' > "$tests/ours"
     LC_ALL=C sort "$tests/theirs" | diff - "$tests/ours" || failed "$crate has other files than cargo would pack"
+    tar -C "$crates" -xzf "$tests/one/$crate-$version.crate"
+    echo '{"files":{}}' > "$crates/$crate-$version/.cargo-checksum.json"
 done
-index=$tests/registry/index/ko/mb
-mkdir -p "$index" "$tests/program/src"
-cp "$tests/one"/*.crate "$tests/registry"
-entry() {
-    sum=$(sha256sum < "$tests/one/$1-$version.crate" | cut -d ' ' -f 1)
-    echo "{\"name\":\"$1\",\"vers\":\"$version\",\"deps\":[$2],\"cksum\":\"$sum\",\"features\":{},\"yanked\":false}" > "$index/$1"
-}
-entry kombilad-sys ""
-entry kombilad "{\"name\":\"kombilad-sys\",\"req\":\"^$version\",\"features\":[],\"optional\":false,\"default_features\":true,\"target\":null,\"kind\":\"normal\"}"
+ln -s "$(echo "$registry"/cc-[0-9]*)" "$crates/cc"
+mkdir -p "$tests/program/src"
 cat > "$tests/program/Cargo.toml" << END
 [package]
 name = "program"
@@ -104,7 +123,22 @@ kombilad = { version = "=$version", default-features = false }
 [workspace]
 END
 cp rust/kombilad/examples/links.rs "$tests/program/src/main.rs"
-quietly cargo run -q --manifest-path "$tests/program/Cargo.toml" --config 'source.crates-io.replace-with="these"' \
-    --config "source.these.local-registry=\"$tests/registry\"" -- "$tests/block"
+CFLAGS=-O0 quietly cargo run -q --manifest-path "$tests/program/Cargo.toml" --config 'source.crates-io.replace-with="these"' \
+    --config "source.these.directory=\"$crates\"" -- "$tests/block"
 [ "$(cat "$tests/log")" = bafkqaaa ] || failed "a program over the crates doesn't work"
 said "the crates: ok"
+
+# ---- Go: go takes the zip, which has the files of the repository, except the benchmark, and the licences
+
+module=$(sed -n 's/^module //p' go/go.mod)
+proxy=$tests/proxy/$module/@v
+mkdir -p "$proxy"
+cp "$tests/one/kombilad-go-$version.zip" "$proxy/v$version.zip"
+cp go/go.mod "$proxy/v$version.mod"
+echo "{\"Version\":\"v$version\"}" > "$proxy/v$version.info"
+(cd "$tests" && GOPROXY=file://$tests/proxy GONOSUMDB='*' GOFLAGS=-modcacherw GOMODCACHE=$tests/go go mod download -json "$module@v$version") > "$tests/log" || { cat "$tests/log"; failed "go doesn't take the zip"; }
+taken=$(sed -n 's/.*"Dir": "\(.*\)".*/\1/p' "$tests/log")
+(cd "$taken" && find . -type f ! -name 'LICENSE-*' | sed 's|^\./||' | LC_ALL=C sort) > "$tests/ours"
+(cd go && git ls-files --cached --others --exclude-standard | grep -v '^bench/') | LC_ALL=C sort | diff - "$tests/ours" || failed "the module for go has other files than the repository"
+cmp "$taken/kombilad.c" "${DIST:-../dist}/kombilad.c"
+said "the module for go: ok"

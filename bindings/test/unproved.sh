@@ -4,6 +4,7 @@
 #
 # It makes them first, which takes about 60 core seconds after the module is made. It needs no cargo and no browser.
 set -eu
+[ -z "${DIST:-}" ] || DIST=$(realpath "$DIST")
 cd "$(dirname "$0")/.."
 out=$PWD/out
 made=$out/unproved
@@ -13,7 +14,7 @@ version=$(cat ../VERSION)
 
 said() { echo "bindings/test/unproved.sh: $*"; }
 failed() { said "$*"; exit 1; }
-../.ci/needs --tools rt git cc header:stdlib.h ar ld objcopy readelf $python header:Python.h python:ensurepip python:setuptools python:wheel wasm-opt node npm ||
+../.ci/needs --tools rt git cc header:stdlib.h ar ld objcopy readelf $python header:Python.h python:ensurepip python:setuptools python:wheel clang wasm-ld node npm ||
     failed "nothing was tested: install what is listed above"
 
 # The name, the size and the time of each file that is there beside the unproved ones.
@@ -22,7 +23,7 @@ before=$(others)
 rm -rf "$made"
 ./build.sh --unproved > /dev/null
 ./wheel.sh --unproved > /dev/null
-MODULE=$made/module/module.ll ./wasm.sh --unproved > /dev/null
+DIST=$made/module ./wasm.sh --unproved > /dev/null
 mkdir -p "$tests"
 [ "$before" = "$(others)" ] || failed "a build with --unproved changed files outside of $made"
 
@@ -42,7 +43,7 @@ cat > "$tests/version.c" << 'END'
 #include "kombilad.h"
 int main(void) { return kombilad_version() == 0; }
 END
-cc -I"$made" "$tests/version.c" "$made/libkombilad-unproved.a" -o "$tests/version"
+cc -Ic "$tests/version.c" "$made/libkombilad-unproved.a" -o "$tests/version"
 "$tests/version"
 said "the libraries for C: ok"
 
@@ -83,23 +84,28 @@ if git -C .. rev-parse -q --verify HEAD > /dev/null 2>&1; then
     another=$(mktemp -d)
     trap 'rm -rf "$another"' EXIT
     git clone -q --shared .. "$another/checkout"
-    for name in release.sh build.sh wheel.sh wasm.sh; do cp "$name" "$another/checkout/bindings/$name"; done
-    for name in needs needs.py needs.txt; do cp "../.ci/$name" "$another/checkout/.ci/$name"; done
+    cp release.sh "$another/checkout/bindings/"
+    dist=$another/checkout/dist
     into=$another/checkout/bindings/out
-    mkdir "$into"
-    cp "$made/libkombilad-unproved.a" "$into/libkombilad.a"
+    mkdir -p "$into" "$dist"
     refused() {
-        ! BUILT=yes "$another/checkout/bindings/release.sh" --uncommitted "$another/release" > "$tests/log" 2>&1 || failed "release.sh took an unproved $1"
-        grep -q "$1 is not of the proved library" "$tests/log" || { cat "$tests/log"; failed "release.sh didn't name the unproved $1"; }
+        ! DIST="" BUILT=yes "$another/checkout/bindings/release.sh" --uncommitted "$another/release" > "$tests/log" 2>&1 || failed "release.sh took an unproved $1"
+        grep -q "$1.* is not of the proved library" "$tests/log" || { cat "$tests/log"; failed "release.sh didn't name the unproved $1"; }
         [ ! -e "$another/release" ] || failed "release.sh left something of what it refused"
     }
-    refused libkombilad.a
-    cp "$made/kombilad-unproved.o" "$another/kombilad.o"
-    rm "$into/libkombilad.a"
-    ar rcsD "$into/libkombilad.a" "$another/kombilad.o"
-    cp "$made/libkombilad-unproved.so.0" "$into/libkombilad.so.0"
-    refused libkombilad.so.0
-    cc -shared -o "$into/libkombilad.so.0" "$another/kombilad.o" -Wl,-soname,libkombilad.so.0
+    cp "$made/module/kombilad.c" "$dist"
+    refused dist/kombilad.c
+    cp "${DIST:-../dist}/kombilad.c" "$dist"
+    cp "$made/kombilad-$version+unproved.tar.gz" "$into/kombilad-$version.tar.gz"
+    refused "kombilad-$version.tar.gz"
+    # A proved one is known by its name and its version.
+    mkdir "$another/kombilad-$version" "$another/kombilad-$version.dist-info"
+    echo "Version: $version" > "$another/kombilad-$version/PKG-INFO"
+    tar -C "$another" -czf "$into/kombilad-$version.tar.gz" "kombilad-$version"
+    wheel=$into/kombilad-$version-cp39-abi3-any.whl
+    cp "$made/kombilad-$version+unproved"-*.whl "$wheel"
+    refused "the wheel"
+    "$python" -m zipfile -c "$wheel" "$another/kombilad-$version.dist-info"
     cp "$made/kombilad-$version-unproved.tgz" "$into/kombilad-$version.tgz"
     refused "kombilad-$version.tgz"
     said "release.sh refuses them: ok"

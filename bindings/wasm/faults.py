@@ -1,13 +1,13 @@
 #!/usr/bin/env python3
-"""Plants faults in what is believed and not proved, one at a time, and says which test sees each:
-the script for the target, the heap, the C calls, and the JavaScript over them.
+"""Plants faults in what is believed and not proved, one at a time, and prints which test sees each:
+the heap, and the JavaScript over the calls.
 
 usage: faults.py [WORD]      (those whose file or text has the word)
-       faults.py --check     only looks whether each fault can be planted: its text stands in its file once
+       faults.py --check     only looks whether each fault can be planted: its file has its text once
 
-It works on a copy of bindings/ in a temporary folder, over the module that bindings/wasm.sh left
-and the native library. It takes some minutes, and CI only does the check. A fault that no test sees
-ends it with status 1.
+It works on a copy of bindings/ in a temporary folder, over the C file of the folder DIST, or of dist
+without it, and the native library. It takes some minutes, and CI only does the check. A fault that
+no test sees ends it with status 1.
 """
 
 import os
@@ -19,130 +19,58 @@ import tempfile
 
 TOP = pathlib.Path(__file__).resolve().parent.parent.parent
 OUT = TOP / "bindings" / "out"
+DIST = pathlib.Path(os.environ.get("DIST", TOP / "dist")).resolve()
 
-RETARGET, LANES, HEAP, CALLS = "wasm/retarget.py", "wasm/lanes.py", "wasm/heap.c", "wasm/calls.c"
+HEAP = "wasm/heap.c"
 CORE, BLOCK, CID, TEXT, WRITER, CAR, CAR_FILE, PB = (
     f"js/src/{name}.js"
     for name in ("core", "block", "cid", "text", "writer", "car", "car-file", "pb")
 )
 
 FAULTS = [
-    # The script for the target.
-    (
-        RETARGET,
-        '-i64:64-i128:128-n32:64-S128-ni:1:10:20"',
-        '-i64:64-i128:64-n32:64-S128-ni:1:10:20"',
-    ),
-    (RETARGET, 'WASM_LAYOUT = "e-m:e-p:64:64-', 'WASM_LAYOUT = "e-m:e-p:32:32-'),
-    (RETARGET, "icmp slt i64 %wasm.address", "icmp sgt i64 %wasm.address"),
-    (RETARGET, "    if FUNCTION.search(head)[1] in checked:", "    if False:"),
-    (RETARGET, "return left\n", "return set()\n"),
-    (RETARGET, "    return body[:after] + check + body[after:]", "    return body"),
-    (
-        RETARGET,
-        'if " = phi " in line\n            else line',
-        'if " = phj " in line\n            else line',
-    ),
-    (
-        RETARGET,
-        "if not name or not (name[1] in EXTERNALS or INTRINSICS.fullmatch(name[1])):",
-        "if not name:",
-    ),
-    (RETARGET, 'if name[1] == "call" and (not called or called[1] != "@"):', "if False:"),
-    (
-        RETARGET,
-        'WASM_VALUES = \'"no-builtin-bcmp" "no-builtin-memcmp" ',
-        'WASM_VALUES = \'"no-builtin-bcmp" ',
-    ),
-    (RETARGET, "not values <= OWN_VALUES\n            or not words", "not words"),
-    (RETARGET, "if any(ENTRY_ALLOCA.match(line) for line in lines[entry_ends:]):", "if False:"),
-    (RETARGET, "splat (i8 -113)", "splat (i8 -1)"),
-    (RETARGET, "splat (i8 -113)", "splat (i8 15)"),
-    (RETARGET, "(<16 x i8> {table}, <16 x i8> {near})", "(<16 x i8> {near}, <16 x i8> {table})"),
-    # The loads of a byte of a vector.
-    (LANES, "(i8x16.replace_lane{match['lane']}", "(i8x16.replace_lane 3"),
-    (LANES, "(i32.load8_u{match['offset'] or ''}", "(i32.load8_u"),
     # The heap.
     (HEAP, "ALIGNMENT = 16", "ALIGNMENT = 8"),
-    (
-        HEAP,
-        "    if (!reaches(top, taken)) return none();\n    last = top;\n    top += taken;",
-        "    if (!reaches(top, taken)) return none();\n    last = top;\n    top += taken - ALIGNMENT;",
-    ),
-    (HEAP, "kept < size ? kept : size);", "kept / 2);"),
-    (HEAP, "        live--;\n    }\n    return moved;", "    }\n    return moved;"),
-    (HEAP, "if (block == last && size <= bound) {", "if (size <= bound) {"),
-    (
-        HEAP,
-        "    if (block == last) top = last;\n    if (--live == 0)",
-        "    top = block;\n    if (--live == 0)",
-    ),
+    (HEAP, "    top += taken;", "    top += taken - ALIGNMENT;"),
+    (HEAP, "between < size ? between : size", "between < size ? between / 2 : size / 2"),
+    (HEAP, "    live--;\n    return moved;", "    return moved;"),
+    (HEAP, "if (from == last) {", "if (1) {"),
+    (HEAP, "if ((uintptr_t)block == last) top = last;", "top = (uintptr_t)block;"),
     (HEAP, "    if (--live == 0) top = last = heap;", "    if (--live == 0) top = last = base();"),
     (HEAP, "    if (--live == 0) top = last = heap;", "    --live;"),
-    (HEAP, "    return end <= memory_size();\n}", "    return 1;\n}"),
-    (HEAP, "if (size > bound || from > bound - size) return 0;", ""),
-    (
-        HEAP,
-        "static struct tried none(void) { return (struct tried){0, ALIGNMENT}; }",
-        "static struct tried none(void) { return (struct tried){1, ALIGNMENT}; }",
-    ),
+    (HEAP, "(PAGE - 1)) / PAGE) != SIZE_MAX", "(PAGE - 1)) / PAGE) != 0"),
+    (HEAP, "    if (end > bound) return 0;\n", ""),
+    (HEAP, "    if (!reaches(top, taken)) return NULL;\n", "    reaches(top, taken);\n"),
     (
         HEAP,
         "    heap = top = last = base() + aligned(size);",
         "    heap = top = last = base() + aligned(size) / 2;",
     ),
-    (HEAP, "if (live != 0 || size > bound", "if (size > bound"),
-    # The calls.
-    (CALLS, "(uint64_t)high << 32 | low", "(uint64_t)low << 32 | high"),
+    (HEAP, "if (live != 0 || !reaches(", "if (!reaches("),
+    # The stack.
+    ("wasm.sh", " --stack-first", ""),
+    # What JavaScript passes.
+    (CORE, "const RECORD = 96", "const RECORD = 80"),
+    (CORE, "this.offsetAt = begins + 4", "this.offsetAt = begins"),
+    (CORE, "this.cidAt = begins + 8", "this.cidAt = begins + 4"),
+    (CORE, "this.room = begins + RECORD", "this.room = begins"),
+    (BLOCK, "out, size, core.neededAt, core.offsetAt)", "out, size, core.offsetAt, core.neededAt)"),
+    (BLOCK, "spans, most, core.neededAt,", "spans, most, core.offsetAt,"),
     (
-        CALLS,
-        "kombilad_block_check(at(block), len, levels, values,",
-        "kombilad_block_check(at(block), len, values, levels,",
+        BLOCK,
+        "tape, most, core.neededAt, core.offsetAt)",
+        "tape, most, core.offsetAt, core.neededAt)",
     ),
     (
-        CALLS,
-        "at(out), out_len,\n                                       &record.needed, &record.offset",
-        "at(out), out_len,\n                                       &record.offset, &record.needed",
+        BLOCK,
+        "kombilad_block_check(core.room, size, levels, values,",
+        "kombilad_block_check(core.room, size, values, levels,",
     ),
-    (
-        CALLS,
-        "    size_t needed; /* or a count, or the place in a text */\n    size_t offset;",
-        "    size_t offset;\n    size_t needed;",
-    ),
-    (
-        CALLS,
-        "    size_t offset;\n    kombilad_cid cid;",
-        "    kombilad_cid cid;\n    size_t offset;",
-    ),
-    (CALLS, "kombilad_cid_check(at(bytes), len)", "kombilad_cid_check(at(bytes), len - 1)"),
-    (
-        CALLS,
-        "base, at(text), text_len, &record.needed",
-        "base, at(text), text_len + 1, &record.needed",
-    ),
-    (
-        CALLS,
-        "kombilad_cid_from_text(at(text), len, &record.cid, &record.needed)",
-        "kombilad_cid_from_text(at(text), len, &record.cid, &record.offset)",
-    ),
-    (CALLS, "at(block), len, &record.cid);", "at(block), len + 1, &record.cid);"),
-    (
-        CALLS,
-        "kombilad_block_check_canonical(at(block), len, levels, values,",
-        "kombilad_block_check_canonical(at(block), len, levels, values + 1,",
-    ),
-    (CALLS, "values, &record.needed, &record.offset", "values, &record.offset, &record.needed"),
-    (CALLS, "spans_len, &record.needed", "spans_len + 1, &record.needed"),
-    (
-        CALLS,
-        "values, (kombilad_entry *)at(entries), entries_len,",
-        "values, (kombilad_entry *)at(entries), 2 * entries_len,",
-    ),
-    (
-        CALLS,
-        "len, (kombilad_entry *)at(entries), entries_len,\n                            &record.needed, &record.offset",
-        "len, (kombilad_entry *)at(entries), entries_len,\n                            &record.offset, &record.needed",
-    ),
+    (BLOCK, "kombilad_links_count(core.room, size,", "kombilad_links_count(core.room, size - 1,"),
+    (PB, "tape, most, core.neededAt, core.offsetAt)", "tape, most, core.offsetAt, core.neededAt)"),
+    (CID, "length, core.cidAt, core.neededAt)", "length, core.cidAt, core.offsetAt)"),
+    (CID, "(code, core.room, size, core.cidAt)", "(code, core.room, size + 1, core.cidAt)"),
+    (CID, "code < 1n << 64n", "code <= 1n << 64n"),
+    (CID, "number > 127n; number >>= 7n", "number > 128n; number >>= 7n"),
     # The JavaScript.
     (CORE, "if (this.bytes.length === 0) this.view()", ""),
     (
@@ -156,11 +84,6 @@ FAULTS = [
         CORE,
         "error instanceof WebAssembly.RuntimeError || error instanceof RangeError",
         "error instanceof RangeError",
-    ),
-    (
-        CORE,
-        "return this.words[(this.record >>> 2) + 2] >>> 0",
-        "return this.words[(this.record >>> 2) + 1]",
     ),
     (CORE, "    this.calls.kombilad_wasm_bound(bound)\n", ""),
     (CORE, "const has = status === 6 || status === 7 || status >= 48", "const has = status >= 48"),
@@ -316,15 +239,13 @@ def seen(copy, file, cases):
     package = bindings / "out" / "js" / "package"
     env = {
         **os.environ,
-        "MODULE": str(OUT / "wasm" / "module.ll"),
+        "DIST": str(DIST),
         "PACKAGE": str(package),
         "CASES": str(cases),
         "HEADER": str(bindings / "c" / "kombilad.h"),
     }
     env["HEAP"] = str(bindings / "out" / "wasm" / "heap.wasm")
     steps = []
-    if file.startswith("wasm/"):
-        steps.append(("wasm/test_retarget.py", ["python3", "wasm/test_retarget.py"]))
     tests = ["heap.test.mjs", "native.test.mjs", "api.test.mjs", "car.test.mjs"]
     if file.startswith("js/"):
         shutil.copy(bindings / file, package / "src")
@@ -383,11 +304,6 @@ def main():
         )
         for name in ("VERSION", "LICENSE-APACHE", "LICENSE-MIT", ".ci"):
             (copy / name).symlink_to(TOP / name)
-        # What the compiler made of the module, which is what it makes again where the script for
-        # the target is as it was.
-        (copy / "bindings" / "out" / "wasm").mkdir(parents=True)
-        for name in ("retargeted.ll", "proved.o", "proved.su"):
-            shutil.copy2(OUT / "wasm" / name, copy / "bindings" / "out" / "wasm")
         without = seen(copy, "wasm/", cases)
         if without:
             sys.exit(f"faults.py: without a fault {without} fails")

@@ -8,7 +8,7 @@ import { Texts } from './text.js'
 function checkIn (core, bytes, levels, values) {
   const size = sizeOf(bytes)
   place(core, bytes, size, 0)
-  const status = core.calls.kombilad_wasm_check(core.room, size, levels, values)
+  const status = core.calls.kombilad_block_check(core.room, size, levels, values, core.offsetAt)
   if (status !== 0) throw failed(core, status)
 }
 
@@ -20,7 +20,7 @@ export function check (bytes, options) {
 function isCanonicalIn (core, bytes, levels, values) {
   const size = sizeOf(bytes)
   place(core, bytes, size, 0)
-  const status = core.calls.kombilad_wasm_check_canonical(core.room, size, levels, values)
+  const status = core.calls.kombilad_block_check_canonical(core.room, size, levels, values, core.offsetAt)
   if (status === 0 || status === 3) return status === 0
   throw failed(core, status)
 }
@@ -34,7 +34,7 @@ function canonicalizeIn (core, bytes, levels, values) {
   const size = sizeOf(bytes)
   // A canonical block has the length of any other of its values.
   const out = place(core, bytes, size, size)
-  const status = core.calls.kombilad_wasm_canonicalize(core.room, size, levels, values, out, size)
+  const status = core.calls.kombilad_block_canonicalize(core.room, size, levels, values, out, size, core.neededAt, core.offsetAt)
   if (status !== 0) throw failed(core, status)
   const end = out + core.needed()
   return core.bytes.slice(out, end)
@@ -56,7 +56,7 @@ function positionsIn (core, bytes, levels, values) {
   const size = sizeOf(bytes)
   const most = Math.floor(size / SHORTEST_LINK)
   const spans = place(core, bytes, size, most * SPAN)
-  const status = core.calls.kombilad_wasm_link_positions(core.room, size, levels, values, spans, most)
+  const status = core.calls.kombilad_link_positions(core.room, size, levels, values, spans, most, core.neededAt, core.offsetAt)
   if (status !== 0) throw failed(core, status)
   return spans >>> 2
 }
@@ -96,7 +96,7 @@ export function linkPositions (bytes, options) {
 function countIn (core, bytes, levels, values) {
   const size = sizeOf(bytes)
   place(core, bytes, size, 0)
-  const status = core.calls.kombilad_wasm_links_count(core.room, size, levels, values)
+  const status = core.calls.kombilad_links_count(core.room, size, levels, values, core.neededAt, core.offsetAt)
   if (status !== 0) throw failed(core, status)
   return core.needed()
 }
@@ -115,13 +115,13 @@ const ENTRY = 16
  * begins in words, how many entries it has, and the block's length.
  */
 function withTape (core, bytes, levels, values, work) {
-  if (core.calls.kombilad_wasm_tape === undefined) throw ofName('NO_TAPE')
+  if (core.calls.kombilad_tape === undefined) throw ofName('NO_TAPE')
   const length = sizeOf(bytes)
   // Each entry takes a byte of the block at least; most take many.
   let most = length <= 4096 ? length : length >>> 2
   for (;;) {
     const tape = place(core, bytes, length, most * ENTRY)
-    const status = core.calls.kombilad_wasm_tape(core.room, length, levels, values, tape, most)
+    const status = core.calls.kombilad_tape(core.room, length, levels, values, tape, most, core.neededAt, core.offsetAt)
     const count = core.needed()
     if (status === 0) return work(core, tape >>> 2, count, length)
     if (status !== 2 || count <= most) throw failed(core, status)

@@ -3,7 +3,6 @@ import { bytesOf, inputOf, place, run, sizeOf } from './core.js'
 
 const PREFIXES = { base16: 'f', base32: 'b', base32upper: 'B', base36: 'k', base58btc: 'z', base64url: 'u' }
 const LONGEST_TEXT = 176
-const TWO_32 = 4294967296
 /** The code of the codec DAG-PB, which all CIDs of version 0 have. */
 const DAG_PB = 0x70
 /** What the class that was before `multiformats/cid` had, with a multihash of bytes. */
@@ -35,23 +34,17 @@ function equal (a, b) {
   return true
 }
 
-/** The code of a codec, which is an integer below 2^64, as its high and its low word. */
-function wordsOf (code) {
-  if (typeof code === 'bigint' ? code >= 0n && code < 1n << 64n : Number.isSafeInteger(code) && code >= 0) {
-    return typeof code === 'bigint' ? [Number(code >> 32n), Number(code & 0xffffffffn)] : [Math.floor(code / TWO_32), code >>> 0]
-  }
+/** Returns the code of a codec, which is an integer below 2^64, as a BigInt. */
+function codeOf (code) {
+  if (typeof code === 'bigint' ? code >= 0n && code < 1n << 64n : Number.isSafeInteger(code) && code >= 0) return BigInt(code)
   throw ofName('INPUT', undefined, ': the code of a codec')
 }
 
-/** The bytes of a varint. */
-function varintBytes (high, low) {
+/** Returns the bytes of a BigInt as a varint. */
+function varintBytes (number) {
   const bytes = []
-  while (high > 0 || low > 127) {
-    bytes.push(low & 127 | 128)
-    low = (low >>> 7 | high << 25) >>> 0
-    high >>>= 7
-  }
-  bytes.push(low)
+  for (; number > 127n; number >>= 7n) bytes.push(Number(number & 127n) | 128)
+  bytes.push(Number(number))
   return bytes
 }
 
@@ -59,16 +52,13 @@ function varintBytes (high, low) {
 export function isCid (core, bytes) {
   const size = sizeOf(bytes)
   place(core, bytes, size, 0)
-  const status = core.calls.kombilad_wasm_cid_check(core.room, size)
+  const status = core.calls.kombilad_cid_check(core.room, size)
   if (status !== 0) throw ofStatus(status)
 }
 
-/**
- * The bytes of the CID that a call has written to the record, behind two numbers of 64 bits: how
- * many, and these.
- */
+/** Returns the bytes of the CID that a call has written to the record, after their number. */
 function madeCid (core) {
-  const cid = core.record + 16
+  const cid = core.cidAt
   return core.bytes.slice(cid + 1, cid + 1 + core.bytes[cid])
 }
 
@@ -85,7 +75,7 @@ function readText (core, text) {
     length = utf8.length
     place(core, utf8, length, 0)
   }
-  const status = core.calls.kombilad_wasm_cid_from_text(core.room, length)
+  const status = core.calls.kombilad_cid_from_text(core.room, length, core.cidAt, core.neededAt)
   if (status !== 0) throw status === 34 ? ofStatus(status, core.needed()) : ofStatus(status)
   return madeCid(core)
 }
@@ -93,16 +83,16 @@ function readText (core, text) {
 function writeText (core, bytes, base) {
   const size = sizeOf(bytes)
   const text = place(core, bytes, size, LONGEST_TEXT)
-  const status = core.calls.kombilad_wasm_cid_to_text(core.room, size, base, text, LONGEST_TEXT)
+  const status = core.calls.kombilad_cid_to_text(core.room, size, base, text, LONGEST_TEXT, core.neededAt)
   if (status !== 0) throw ofStatus(status)
   const end = text + core.needed()
   return String.fromCharCode.apply(null, core.bytes.subarray(text, end))
 }
 
-function hash (core, bytes, high, low) {
+function hash (core, bytes, code) {
   const size = sizeOf(bytes)
   place(core, bytes, size, 0)
-  core.calls.kombilad_wasm_cid_of_block(high, low, core.room, size)
+  core.calls.kombilad_cid_of_block(code, core.room, size, core.cidAt)
   return madeCid(core)
 }
 
@@ -226,7 +216,7 @@ export class CID {
   }
 
   static createV1 (code, digest) {
-    return CID.decode(Uint8Array.from([1, ...varintBytes(...wordsOf(code)), ...bytesOf(digest.bytes)]))
+    return CID.decode(Uint8Array.from([1, ...varintBytes(codeOf(code)), ...bytesOf(digest.bytes)]))
   }
 
   /** The CID that the bytes are, all of them. They are copied. */
@@ -254,7 +244,7 @@ export class CID {
 
   /** The CID of a block: version 1, by its SHA2-256 digest. */
   static ofBlock (code, bytes) {
-    return new CID(CHECKED, run(hash, inputOf(bytes), ...wordsOf(code)))
+    return new CID(CHECKED, run(hash, inputOf(bytes), codeOf(code)))
   }
 }
 

@@ -1,5 +1,5 @@
-// The instance of the core and its memory: [room][heap], where the room has what a call reads and
-// writes.
+// The instance of the core and its memory: [stack, constants][record][room][heap]. A call writes
+// numbers and a CID to the record, and reads and writes the rest in the room.
 import { ofName, ofStatus } from './errors.js'
 
 let module
@@ -35,6 +35,9 @@ export const starts = () => started
  */
 const LARGEST = 0x7f000000
 
+/** The size of the record: a number of bytes or items, an offset, and a CID. */
+const RECORD = 96
+
 class Core {
   constructor () {
     const made = new WebAssembly.Instance(module, {})
@@ -43,9 +46,7 @@ class Core {
     this.memory = made.exports.memory
     this.bound = bound
     this.calls.kombilad_wasm_bound(bound)
-    this.record = this.calls.kombilad_wasm_record()
-    this.room = this.calls.kombilad_wasm_room(0)
-    this.size = 0
+    this.size = -1
     this.view()
   }
 
@@ -64,34 +65,38 @@ class Core {
    */
   refresh () { if (this.bytes.length === 0) this.view() }
 
-  /** Makes room for so many bytes. */
+  /** Makes room for so many bytes after the record. */
   reserve (size) {
     this.refresh()
     if (size > this.size) {
       if (size > LARGEST) throw ofStatus(1)
       // The next power of two, so that the room grows rarely; or just what is asked for.
       let taken = Math.min(2 ** Math.ceil(Math.log2(Math.max(size, 4096))), LARGEST)
-      if (this.calls.kombilad_wasm_room(taken) === 0) {
+      let begins = this.calls.kombilad_wasm_room(RECORD + taken)
+      if (begins === 0) {
         taken = size
-        if (this.calls.kombilad_wasm_room(taken) === 0) throw ofStatus(1)
+        begins = this.calls.kombilad_wasm_room(RECORD + taken)
+        if (begins === 0) throw ofStatus(1)
       }
       this.size = taken
+      this.neededAt = begins
+      this.offsetAt = begins + 4
+      this.cidAt = begins + 8
+      this.room = begins + RECORD
       this.refresh()
     }
   }
 
-  /**
-   * The low word of the record's first number: how much a call wants to write, a count, or a place.
-   */
+  /** Returns the record's first number: how much a call wants to write, a count, or a place. */
   needed () {
     this.refresh()
-    return this.words[this.record >>> 2] >>> 0
+    return this.words[this.neededAt >>> 2] >>> 0
   }
 
-  /** The record's second number. */
+  /** Returns the record's second number. */
   offset () {
     this.refresh()
-    return this.words[(this.record >>> 2) + 2] >>> 0
+    return this.words[this.offsetAt >>> 2] >>> 0
   }
 }
 

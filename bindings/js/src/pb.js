@@ -15,7 +15,7 @@ function withEntries (core, bytes, work) {
   let most = Math.min(64, length)
   for (;;) {
     const tape = place(core, bytes, length, most * ENTRY)
-    const status = core.calls.kombilad_wasm_pb_tape(core.room, length, tape, most)
+    const status = core.calls.kombilad_pb_tape(core.room, length, tape, most, core.neededAt, core.offsetAt)
     const count = core.needed()
     if (status === 0) return work(core, tape >>> 2, count, length)
     if (status !== 2 || count <= most) throw failed(core, status)

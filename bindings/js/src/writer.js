@@ -279,7 +279,7 @@ function byUtf8 (keys) {
 
 function isCanonicalIn (core, block) {
   place(core, block, block.length, 0)
-  const status = core.calls.kombilad_wasm_check_canonical(core.room, block.length, LEVELS, 0xffffffff)
+  const status = core.calls.kombilad_block_check_canonical(core.room, block.length, LEVELS, 0xffffffff, core.offsetAt)
   if (status === 0 || status === 3) return status === 0
   throw failed(core, status)
 }

@@ -366,7 +366,7 @@ describe('the instance', () => {
     fails(() => core.run((instance) => {
       old = instance
       // An address behind the memory: what the core never makes.
-      instance.calls.kombilad_wasm_check(0xfffffff0, 100, 1, 1)
+      instance.calls.kombilad_block_check(0xfffffff0, 100, 1, 1, instance.offsetAt)
     }), 'TRAP')
     assert.equal(core.starts(), before)
     assert.ok(core.run((instance) => instance !== old))

@@ -19,6 +19,10 @@ describe('the heap', { skip: process.env.HEAP === undefined && 'HEAP names no mo
     return { ...calls, bytes: () => new Uint8Array(memory.buffer), size: () => memory.buffer.byteLength }
   }
 
+  test('lies above the stack, so that what overflows the stack leaves the memory', () => {
+    assert.equal(start().__global_base.value, 65536)
+  })
+
   test('keeps blocks apart, aligned, and as they were written', () => {
     const heap = start()
     const choose = random(1)
@@ -37,7 +41,7 @@ describe('the heap', { skip: process.env.HEAP === undefined && 'HEAP names no mo
       const way = choose(10)
       if (at === undefined || (way < 4 && blocks.size < 40)) {
         const size = choose(choose(10) === 0 ? 20000 : 100)
-        const made = heap.test_alloc(size)
+        const made = heap.malloc(size)
         assert.ok(made !== 0 && made % 16 === 0 && !blocks.has(made) && made >= room + 1000)
         for (const [other, { size: length }] of blocks) assert.ok(made + size <= other || other + length <= made)
         blocks.set(made, write(made, 0, size))
@@ -45,7 +49,7 @@ describe('the heap', { skip: process.env.HEAP === undefined && 'HEAP names no mo
         const size = choose(2) ? block.size * 2 + 1 : choose(block.size + 1)
         if (size > 1e6) continue
         const kept = Math.min(size, block.size)
-        const made = heap.test_realloc(at, kept, size)
+        const made = heap.realloc(at, size)
         assert.ok(made !== 0 && made % 16 === 0)
         intact(made, { ...block, size: kept })
         blocks.delete(at)
@@ -53,12 +57,12 @@ describe('the heap', { skip: process.env.HEAP === undefined && 'HEAP names no mo
         blocks.set(made, write(made, 0, size))
       } else {
         intact(at, block)
-        heap.test_dealloc(at)
+        heap.free(at)
         blocks.delete(at)
       }
       assert.equal(heap.kombilad_wasm_live(), blocks.size)
       if (step % 100 === 0) for (const [at, block] of blocks) intact(at, block)
-      if (step % 500 === 0) for (const at of [...blocks.keys()]) { heap.test_dealloc(at); blocks.delete(at) }
+      if (step % 500 === 0) for (const at of [...blocks.keys()]) { heap.free(at); blocks.delete(at) }
     }
     assert.ok(heap.bytes().subarray(room, room + 1000).every((byte) => byte === 0xee))
     assert.ok(heap.size() < 64 * MEBIBYTE, 'what was freed is used again')
@@ -66,21 +70,21 @@ describe('the heap', { skip: process.env.HEAP === undefined && 'HEAP names no mo
 
   test('uses again what was freed last, and all of it when none is left', () => {
     const heap = start()
-    const first = heap.test_alloc(100)
-    const second = heap.test_alloc(100)
-    heap.test_dealloc(second)
-    assert.equal(heap.test_alloc(50), second)
-    assert.equal(heap.test_realloc(second, 50, 5000), second)
-    heap.test_dealloc(first)
-    heap.test_dealloc(second)
-    assert.equal(heap.test_alloc(1), first)
-    heap.test_dealloc(first)
+    const first = heap.malloc(100)
+    const second = heap.malloc(100)
+    heap.free(second)
+    assert.equal(heap.malloc(50), second)
+    assert.equal(heap.realloc(second, 5000), second)
+    heap.free(first)
+    heap.free(second)
+    assert.equal(heap.malloc(1), first)
+    heap.free(first)
     const { bytes, size } = heap
     const before = size()
     for (let round = 0; round < 1000; round++) {
-      const [a, b] = [heap.test_alloc(MEBIBYTE), heap.test_alloc(MEBIBYTE)]
-      heap.test_dealloc(a)
-      heap.test_dealloc(b)
+      const [a, b] = [heap.malloc(MEBIBYTE), heap.malloc(MEBIBYTE)]
+      heap.free(a)
+      heap.free(b)
     }
     assert.ok(size() <= before + 4 * MEBIBYTE)
     assert.ok(bytes().length > 0)
@@ -90,28 +94,27 @@ describe('the heap', { skip: process.env.HEAP === undefined && 'HEAP names no mo
     const heap = start()
     heap.kombilad_wasm_bound(8 * MEBIBYTE)
     const held = []
-    for (let made; (made = heap.test_alloc(MEBIBYTE)) !== 0;) held.push(made)
+    for (let made; (made = heap.malloc(MEBIBYTE)) !== 0;) held.push(made)
     assert.ok(held.length >= 5 && held.length <= 7)
     assert.ok(heap.size() <= 8 * MEBIBYTE)
     heap.bytes().fill(7, held[0], held[0] + MEBIBYTE)
-    assert.equal(heap.test_realloc(held[0], MEBIBYTE, 3 * MEBIBYTE), 0)
-    assert.equal(heap.test_realloc(held.at(-1), MEBIBYTE, 4 * MEBIBYTE), 0)
+    assert.equal(heap.realloc(held[0], 3 * MEBIBYTE), 0)
+    assert.equal(heap.realloc(held.at(-1), 4 * MEBIBYTE), 0)
     assert.ok(heap.bytes().subarray(held[0], held[0] + MEBIBYTE).every((byte) => byte === 7), 'a block that could not grow is as it was')
     assert.equal(heap.kombilad_wasm_live(), held.length)
     assert.equal(heap.kombilad_wasm_room(10), 0, 'no room while there are blocks')
-    for (const block of held) heap.test_dealloc(block)
+    for (const block of held) heap.free(block)
     assert.equal(heap.kombilad_wasm_room(16 * MEBIBYTE), 0)
     assert.notEqual(heap.kombilad_wasm_room(7 * MEBIBYTE), 0)
-    assert.notEqual(heap.test_alloc(16), 0)
-    for (const high of [1, 0x7fffffff, 0xffffffff]) assert.equal(heap.test_alloc_large(high), 0)
-    assert.equal(heap.test_alloc(0xffffffff), 0)
+    assert.notEqual(heap.malloc(16), 0)
+    for (const size of [0xffffffff, 0xfffffff0, 0x80000000]) assert.equal(heap.malloc(size), 0)
   })
 
   test('is told by the host that there is no more memory', () => {
     // The module's own memory ends at 16 MiB, below the bound.
     const heap = start()
     let held = 0
-    while (heap.test_alloc(MEBIBYTE) !== 0) assert.ok(++held < 16)
+    while (heap.malloc(MEBIBYTE) !== 0) assert.ok(++held < 16)
     assert.ok(held >= 13)
     assert.equal(heap.kombilad_wasm_live(), held)
   })

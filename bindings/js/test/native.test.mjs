@@ -10,36 +10,34 @@ const { run } = core
 const FILL = 0xa5
 const UNWRITTEN = 0x5a5a5a5a
 const WIDTHS = { link_positions: 16, pb_tape: 16, tape: 16, cid_from_text: 88, cid_of_block: 88 }
-// Where the record has what a call of no other buffer writes.
-const IN_RECORD = { cid_from_text: 16, cid_of_block: 16 }
-const NAMES = { block_check: 'check', block_check_canonical: 'check_canonical', block_canonicalize: 'canonicalize' }
+// The calls whose only buffer is the CID of the record.
+const IN_RECORD = ['cid_from_text', 'cid_of_block']
 
 function outcome (instance, name, data, numbers, length) {
   const width = WIDTHS[name] ?? 1
   const size = length * width
-  const call = instance.calls[`kombilad_wasm_${NAMES[name] ?? name}`]
-  const inRecord = IN_RECORD[name]
-  const buffer = inRecord === undefined ? core.place(instance, data, data.length, size + 16) : instance.record + inRecord
-  if (inRecord !== undefined) core.place(instance, data, data.length, 0)
-  instance.bytes.fill(FILL, buffer, buffer + size + (inRecord === undefined ? 16 : 0))
-  const record = instance.record >>> 2
-  instance.words[record] = instance.words[record + 2] = UNWRITTEN
-  instance.words[record + 1] = instance.words[record + 3] = 0
-  const given = [instance.room, data.length]
+  const call = instance.calls[`kombilad_${name}`]
+  const inRecord = IN_RECORD.includes(name)
+  const after = core.place(instance, data, data.length, size + 16)
+  const { room, neededAt, offsetAt, cidAt } = instance
+  const buffer = inRecord ? cidAt : after
+  instance.bytes.fill(FILL, buffer, buffer + size + (inRecord ? 0 : 16))
+  instance.words[neededAt >>> 2] = instance.words[offsetAt >>> 2] = UNWRITTEN
+  const given = [room, data.length]
   let status
-  if (name === 'cid_of_block') status = call(numbers[0], numbers[1], ...given) ?? 0
-  else if (name === 'cid_to_text') status = call(...given, numbers[0], buffer, length)
-  else if (inRecord !== undefined || name === 'cid_check') status = call(...given)
-  else if (['block_check', 'block_check_canonical', 'links_count'].includes(name)) status = call(...given, ...numbers)
-  else status = call(...given, ...numbers, buffer, length)
+  if (name === 'cid_of_block') status = call(BigInt(numbers[0]) << 32n | BigInt(numbers[1]), ...given, cidAt) ?? 0
+  else if (name === 'cid_to_text') status = call(...given, numbers[0], buffer, length, neededAt)
+  else if (name === 'cid_from_text') status = call(...given, cidAt, neededAt)
+  else if (name === 'cid_check') status = call(...given)
+  else if (name === 'links_count') status = call(...given, ...numbers, neededAt, offsetAt)
+  else if (name.startsWith('block_check')) status = call(...given, ...numbers, offsetAt)
+  else status = call(...given, ...numbers, buffer, length, neededAt, offsetAt)
   instance.refresh()
-  const { words, bytes } = instance
-  assert.equal(words[record + 1], 0)
-  assert.equal(words[record + 3], 0)
+  const { bytes } = instance
   assert.equal(instance.calls.kombilad_wasm_live(), 0, 'what a call took it has freed')
-  if (inRecord === undefined) assert.ok(bytes.subarray(buffer + size, buffer + size + 16).every((byte) => byte === FILL), 'nothing is written behind a buffer')
-  assert.ok(Buffer.from(bytes.buffer, instance.room, data.length).equals(data), 'the input stays as it is')
-  return [status >>> 0, words[record] >>> 0, status === 1 ? UNWRITTEN : words[record + 2] >>> 0, Buffer.from(bytes.buffer, buffer, size).toString('hex')]
+  if (!inRecord) assert.ok(bytes.subarray(buffer + size, buffer + size + 16).every((byte) => byte === FILL), 'nothing is written behind a buffer')
+  assert.ok(Buffer.from(bytes.buffer, room, data.length).equals(data), 'the input stays as it is')
+  return [status >>> 0, instance.needed(), status === 1 ? UNWRITTEN : instance.offset(), Buffer.from(bytes.buffer, buffer, size).toString('hex')]
 }
 
 test('the module does what the native library does', { skip: process.env.CASES === undefined && 'CASES names no file' }, async () => {

@@ -13,4 +13,4 @@ export const errors = await load('errors.js')
  * What skips a test where the library has no tapes yet, of which values and headers of CAR files
  * are made.
  */
-export const needsTape = { skip: core.run((instance) => instance.calls.kombilad_wasm_tape === undefined) && 'the library has no tapes' }
+export const needsTape = { skip: core.run((instance) => instance.calls.kombilad_tape === undefined) && 'the library has no tapes' }

@@ -147,11 +147,13 @@ static PyObject *value_of_section(struct state *state, const struct wanted *want
 /* Puts the block of each section into a dict. -1 with an exception. */
 static int all_sections(struct state *state, const struct wanted *wanted,
                         const kombilad_car *opened, PyObject *blocks) {
-    size_t at = opened->sections, offset = 0;
+    /* On 32 bits the end may be past what a size_t counts. */
+    size_t at = opened->sections, offset = 0,
+           end = opened->end < SIZE_MAX ? (size_t)opened->end : SIZE_MAX;
     kombilad_span cid, data;
     for (;;) {
-        uint32_t status = kombilad_car_next(wanted->car.bytes, wanted->car.len, at, opened->end,
-                                            &cid, &data, &at, &offset);
+        uint32_t status = kombilad_car_next(wanted->car.bytes, wanted->car.len, at, end, &cid,
+                                            &data, &at, &offset);
         if (status == KOMBILAD_CAR_DONE) return 0;
         if (status != KOMBILAD_OK) {
             set_failed(state, status, offset);

@@ -36,6 +36,11 @@ PyAPI_FUNC(void) PyBuffer_Release(struct view *view);
 /* In the stable ABI since 3.10. The bytes belong to the text. */
 PyAPI_FUNC(const char *) PyUnicode_AsUTF8AndSize(PyObject *text, Py_ssize_t *len);
 
+/* From outside of the module only its init function and the calls of libkombilad are seen. */
+#ifdef __GNUC__
+#pragma GCC visibility push(hidden)
+#endif
+
 /* ---- The module's state */
 
 /* Keys that were made before, by a hash of their bytes: blocks of a kind have the same keys. */
@@ -125,5 +130,9 @@ PyObject *decode_car(PyObject *module, PyObject *arguments);
 
 /* The canonical block of a value. NULL with an exception. */
 PyObject *encode(PyObject *module, PyObject *arguments);
+
+#ifdef __GNUC__
+#pragma GCC visibility pop
+#endif
 
 #endif

@@ -1,38 +1,72 @@
-//! Links libkombilad.
+//! Compiles libkombilad from its one C file, or links an installed library.
 //!
-//! It is looked for in the folder that `KOMBILAD_LIB_DIR` names, else where `pkg-config` says, else
-//! in `bindings/out` of the repository that this crate is a part of. `libkombilad.a` is taken where
-//! it is there, unless `KOMBILAD_DYNAMIC` is set.
+//! The published crate has the C file and its header in `c/`; the repository has them in `dist/`.
+//! If `KOMBILAD_LIB_DIR` is set, nothing is compiled, and the library in that folder is linked.
 
 use std::env;
 use std::path::{Path, PathBuf};
-use std::process::Command;
+use std::process;
 
 fn main() {
     println!("cargo:rerun-if-env-changed=KOMBILAD_LIB_DIR");
-    println!("cargo:rerun-if-env-changed=KOMBILAD_DYNAMIC");
-    println!("cargo:rerun-if-env-changed=PKG_CONFIG_PATH");
-    let folder = env::var_os("KOMBILAD_LIB_DIR")
-        .map(PathBuf::from)
-        .or_else(folder_of_pkg_config)
-        .or_else(folder_of_repository)
-        .expect("libkombilad is not found: set KOMBILAD_LIB_DIR to its folder, as bindings/out after bindings/build.sh");
-    let archive = folder.join("libkombilad.a");
-    let statically = env::var_os("KOMBILAD_DYNAMIC").is_none() && archive.is_file();
-    println!("cargo:rustc-link-search=native={}", folder.display());
-    println!("cargo:rustc-link-lib={}=kombilad", if statically { "static" } else { "dylib" });
-    if statically {
-        println!("cargo:rerun-if-changed={}", archive.display());
+    let done = match env::var_os("KOMBILAD_LIB_DIR") {
+        Some(folder) => link_installed(Path::new(&folder)),
+        None => compile(),
+    };
+    if let Err(sentence) = done {
+        eprintln!("kombilad-sys: {sentence}");
+        process::exit(1);
     }
 }
 
-fn folder_of_pkg_config() -> Option<PathBuf> {
-    let told = Command::new("pkg-config").args(["--variable=libdir", "kombilad"]).output().ok()?;
-    let folder = String::from_utf8(told.stdout).ok()?;
-    (told.status.success() && !folder.trim().is_empty()).then(|| PathBuf::from(folder.trim()))
+/// Links the shared library in the folder, or the static one if there is only that.
+fn link_installed(folder: &Path) -> Result<(), String> {
+    if !folder.is_dir() {
+        return Err(format!(
+            "KOMBILAD_LIB_DIR is \"{}\", which is not a folder: set it to the folder of \
+             libkombilad, or unset it to compile the library",
+            folder.display()
+        ));
+    }
+    println!("cargo:rustc-link-search=native={}", folder.display());
+    println!("cargo:rustc-link-lib=kombilad");
+    Ok(())
 }
 
-fn folder_of_repository() -> Option<PathBuf> {
-    let folder = Path::new(&env::var_os("CARGO_MANIFEST_DIR")?).join("../../out");
-    folder.join("libkombilad.a").is_file().then(|| folder.canonicalize().ok()).flatten()
+/// Compiles the C file and links it. Crates that depend on this one find the header's folder in
+/// `DEP_KOMBILAD_INCLUDE`.
+fn compile() -> Result<(), String> {
+    let folder = sources()?;
+    let file = folder.join("kombilad.c");
+    for name in ["kombilad.c", "kombilad.h"] {
+        println!("cargo:rerun-if-changed={}", folder.join(name).display());
+    }
+    println!("cargo:include={}", folder.display());
+    // Without optimization the code is many times slower and takes more stack. It was made by a
+    // script, so it has nothing to debug.
+    cc::Build::new()
+        .file(&file)
+        .opt_level(2)
+        .debug(false)
+        .warnings(false)
+        .try_compile("kombilad")
+        .map_err(|error| {
+            format!(
+                "{} was not compiled: {error}. Install a C compiler (on Debian: apt-get install \
+                 gcc libc6-dev), or set CC to one",
+                file.display()
+            )
+        })
+}
+
+/// Returns the folder of the C file.
+fn sources() -> Result<PathBuf, String> {
+    let here = PathBuf::from(env::var_os("CARGO_MANIFEST_DIR").unwrap_or_default());
+    let folders = [here.join("c"), here.join("../../../dist")];
+    folders.into_iter().find(|it| it.join("kombilad.c").is_file()).ok_or_else(|| {
+        "kombilad.c is neither in c/ of this crate nor in dist/ of the repository: take the \
+         published crate or a whole clone, or set KOMBILAD_LIB_DIR to the folder of an installed \
+         libkombilad"
+            .to_owned()
+    })
 }

@@ -134,7 +134,7 @@ def link_positions(
     """
     spans = (
         memoryview(_filled(block, levels, values, library.kombilad_link_positions, _SPAN))
-        .cast("N")
+        .cast("Q")
         .tolist()
     )
     return list(zip(spans[::2], spans[1::2]))

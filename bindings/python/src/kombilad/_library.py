@@ -1,9 +1,7 @@
-"""The calls of libkombilad, by ctypes."""
+"""The calls of libkombilad, by ctypes. The extension module contains the library."""
 
 import ctypes
 import enum
-import os
-import pathlib
 from ctypes import (
     POINTER,
     Structure,
@@ -18,6 +16,8 @@ from ctypes import (
     c_void_p,
 )
 from typing import Any, Tuple, Union
+
+from . import _native
 
 __all__ = ["Status", "CidBytes", "CidParts", "library", "lent", "take_back"]
 
@@ -105,7 +105,7 @@ class CidParts(Structure):
         ("version", c_uint64),
         ("codec", c_uint64),
         ("hash", c_uint64),
-        ("digest_len", c_size_t),
+        ("digest_len", c_uint64),
     ]
 
 
@@ -158,18 +158,13 @@ def take_back(view: Any) -> None:
         _release_buffer(byref(view))
 
 
-def _path() -> str:
-    named = os.environ.get("KOMBILAD_LIBRARY")
-    return named or str(pathlib.Path(__file__).with_name("libkombilad.so.0"))
-
-
 def _declared(name: str, result: Any, *arguments: Any) -> None:
     function = getattr(library, name)
     function.argtypes = arguments
     function.restype = result
 
 
-library = ctypes.CDLL(_path())
+library = ctypes.CDLL(_native.__file__)
 _SIZE = POINTER(c_size_t)
 _BYTES: Tuple[Any, ...] = (c_void_p, c_size_t)
 _declared("kombilad_cid_check", c_uint32, *_BYTES)

@@ -32,7 +32,7 @@ pub struct kombilad_cid_parts {
     /// The code of the hash function, as in that table.
     pub hash: u64,
     /// How many bytes the digest has.
-    pub digest_len: usize,
+    pub digest_len: u64,
 }
 
 /// Where the bytes of a CID stand in a block.
@@ -40,9 +40,9 @@ pub struct kombilad_cid_parts {
 #[derive(Clone, Copy, Debug, PartialEq, Eq)]
 pub struct kombilad_span {
     /// The byte at which they begin.
-    pub offset: usize,
+    pub offset: u64,
     /// How many they are.
-    pub len: usize,
+    pub len: u64,
 }
 
 /// A value or a key of a block, by its kind. `kombilad.h` says what the two numbers are of each.
@@ -64,9 +64,9 @@ pub struct kombilad_car {
     /// The version, 1 or 2.
     pub version: u64,
     /// The byte at which the first section begins.
-    pub sections: usize,
+    pub sections: u64,
     /// The byte at which the last one ends.
-    pub end: usize,
+    pub end: u64,
 }
 
 /// The call has done what it is for.

@@ -108,8 +108,7 @@ impl Limits {
     ///
     /// Those of [`Limits`].
     pub fn link_positions(&self, block: &[u8]) -> Result<Vec<Range<usize>>, Error> {
-        let found = self.of(block).link_positions(capacity_for(block)).map_err(Error::of_block)?;
-        Ok(found.into_iter().map(|span| span.offset..span.offset + span.len).collect())
+        self.of(block).link_positions(capacity_for(block)).map_err(Error::of_block)
     }
 
     /// Whether a block is in canonical form: whether the keys of each map come by their length, and

@@ -2,6 +2,7 @@
 
 use std::io::{self, ErrorKind, Read};
 use std::iter::FusedIterator;
+use std::ops::Range;
 use std::{error, fmt};
 
 use crate::cid::Cid;
@@ -140,9 +141,11 @@ impl<R: Read> CarReader<R> {
                 Err(error) => return Err(error.into()),
             }
         };
-        car.begin = opened.sections;
-        car.at = opened.sections;
-        car.end = (opened.version == 2).then_some(opened.end);
+        // The header is in memory, but the end of a CAR may be past what a `usize` counts.
+        car.begin = opened.sections as usize;
+        car.at = car.begin;
+        let end = usize::try_from(opened.end).unwrap_or(usize::MAX);
+        car.end = (opened.version == 2).then_some(end);
         car.version = opened.version;
         car.roots = roots;
         Ok(car)
@@ -180,19 +183,15 @@ impl<R: Read> CarReader<R> {
             None => return Ok(None),
         };
         self.done = false;
-        let window = &self.window[self.begin..];
-        let section = Section {
-            cid: Cid::of_valid(&window[cid.offset..cid.offset + cid.len]),
-            data: &window[data.offset..data.offset + data.len],
-        };
-        let length = data.offset + data.len;
+        let (window, length) = (&self.window[self.begin..], data.end);
+        let section = Section { cid: Cid::of_valid(&window[cid]), data: &window[data] };
         self.begin += length;
         self.at += length;
         Ok(Some(section))
     }
 
     /// The spans of the next section, from the beginning of the window's rest on.
-    fn read_section(&mut self) -> Result<Option<(ffi::Span, ffi::Span)>, CarReadError> {
+    fn read_section(&mut self) -> Result<Option<(Range<usize>, Range<usize>)>, CarReadError> {
         let left = self.end.map(|end| end.saturating_sub(self.at));
         if left == Some(0) {
             return Ok(None);

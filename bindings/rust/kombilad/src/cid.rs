@@ -119,7 +119,7 @@ impl Cid {
     /// The digest.
     pub fn digest(&self) -> &[u8] {
         let bytes = self.as_bytes();
-        &bytes[bytes.len() - self.parts().digest_len..]
+        &bytes[bytes.len() - self.parts().digest_len as usize..]
     }
 
     /// The text in a base: of version 1 with the multibase prefix, of version 0 without one.

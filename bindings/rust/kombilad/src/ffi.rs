@@ -9,14 +9,14 @@ use std::cell::Cell;
 use std::ops::Range;
 use std::str;
 
-use kombilad_sys as sys;
+use kombilad_sys::{self as sys, kombilad_span as Span};
 
 use crate::cid::Cid;
 use crate::room::Entries;
 
 pub(crate) use kombilad_sys::{
     kombilad_car as Opened, kombilad_cid as CidBytes, kombilad_cid_parts as CidParts,
-    kombilad_entry as Entry, kombilad_span as Span,
+    kombilad_entry as Entry,
 };
 
 pub(crate) const NO_CID: CidBytes = CidBytes { len: 0, bytes: [0; 87] };
@@ -75,6 +75,12 @@ pub(crate) fn cid_of_block(codec: u64, block: &[u8]) -> CidBytes {
     let mut cid = NO_CID;
     unsafe { sys::kombilad_cid_of_block(codec, block.as_ptr(), block.len(), &mut cid) };
     cid
+}
+
+/// Returns where the bytes of a span are. They are in memory, so the numbers fit.
+fn range(span: Span) -> Range<usize> {
+    let begin = span.offset as usize;
+    begin..begin + span.len as usize
 }
 
 /// What a call on a block returns that isn't what it is for: the status, and the byte at which
@@ -154,8 +160,8 @@ impl Block<'_> {
         })
     }
 
-    pub(crate) fn link_positions(self, capacity: usize) -> Result<Vec<Span>, Stopped> {
-        filled(capacity, |spans, capacity, needed, offset| unsafe {
+    pub(crate) fn link_positions(self, capacity: usize) -> Result<Vec<Range<usize>>, Stopped> {
+        let spans = filled(capacity, |spans, capacity, needed, offset| unsafe {
             sys::kombilad_link_positions(
                 self.bytes.as_ptr(),
                 self.bytes.len(),
@@ -166,7 +172,8 @@ impl Block<'_> {
                 needed,
                 offset,
             )
-        })
+        })?;
+        Ok(spans.into_iter().map(range).collect())
     }
 
     fn tape(self) -> Result<Entries, Stopped> {
@@ -243,9 +250,13 @@ pub(crate) fn car_open(car: &[u8], limit: usize) -> Result<(Opened, Vec<Cid>), S
     Ok((opened.get(), roots))
 }
 
-/// The spans of the CID and the data of the section that begins at a byte, of those that go on to
-/// `end`; nothing where there is none.
-pub(crate) fn car_next(car: &[u8], at: usize, end: usize) -> Result<Option<(Span, Span)>, Stopped> {
+/// Returns where the CID and the data of the section that begins at a byte are. The sections go on
+/// to `end`. If there is no other section, returns `None`.
+pub(crate) fn car_next(
+    car: &[u8],
+    at: usize,
+    end: usize,
+) -> Result<Option<(Range<usize>, Range<usize>)>, Stopped> {
     let (mut cid, mut data, mut next, mut offset) =
         (Span { offset: 0, len: 0 }, Span { offset: 0, len: 0 }, 0, 0);
     let status = unsafe {
@@ -261,7 +272,7 @@ pub(crate) fn car_next(car: &[u8], at: usize, end: usize) -> Result<Option<(Span
         )
     };
     match status {
-        sys::KOMBILAD_OK => Ok(Some((cid, data))),
+        sys::KOMBILAD_OK => Ok(Some((range(cid), range(data)))),
         sys::KOMBILAD_CAR_DONE => Ok(None),
         status => Err((status, offset)),
     }

@@ -1,0 +1,186 @@
+package kombilad
+
+// Options are limits for untrusted blocks, and options for Go types. The zero value has the defaults.
+// The functions of the package use it.
+type Options struct {
+	// MaxLevels is the number of levels to which lists and maps may nest. 0 is the default of
+	// 1,024. A negative number allows neither lists nor maps. Unmarshal and Marshal recurse, so
+	// they allow 10,000 levels at most.
+	MaxLevels int
+	// MaxValues is the number of values that a block may have: its own, each item of a list, and
+	// each value of a map. 0 is the default: the number isn't limited. A negative number allows no
+	// value.
+	MaxValues int
+	// DisallowUnknownFields makes Unmarshal fail with ErrUnknownField if a Go struct has no field
+	// for a key of a map.
+	DisallowUnknownFields bool
+}
+
+const (
+	defaultLevels   = 1024
+	recursiveLevels = 10_000
+)
+
+func (o Options) levels() int {
+	if o.MaxLevels == 0 {
+		return defaultLevels
+	}
+	return max(o.MaxLevels, 0)
+}
+
+func (o Options) limits() limits {
+	within := limits{levels: cSize(o.levels()), values: cSize(max(o.MaxValues, 0))}
+	if o.MaxValues == 0 {
+		within.values = maxSize
+	}
+	return within
+}
+
+// Check checks that the bytes are one block of DAG-CBOR.
+//
+// It fails with an ErrBlock or an ErrLink status for the first error from the left, with ErrTooDeep
+// or ErrTooMany if the block exceeds a limit, and with ErrNoMemory. The error has the offset.
+func Check(block []byte) error {
+	return Options{}.Check(block)
+}
+
+// Check is like the function Check, within these limits.
+func (o Options) Check(block []byte) error {
+	if made := callCheck(block, o.limits()); made.status != 0 {
+		return failed(made)
+	}
+	return nil
+}
+
+// CheckCanonical checks that the bytes are one block of DAG-CBOR, and that the keys of each map are
+// in canonical order: shorter keys first, and keys of one length by their bytes.
+//
+// It fails with ErrNotCanonical if keys are out of order, and with the errors of Check.
+func CheckCanonical(block []byte) error {
+	return Options{}.CheckCanonical(block)
+}
+
+// CheckCanonical is like the function CheckCanonical, within these limits.
+func (o Options) CheckCanonical(block []byte) error {
+	if made := callCheckCanonical(block, o.limits()); made.status != 0 {
+		return failed(made)
+	}
+	return nil
+}
+
+// Canonicalize returns the block with the keys of each map in canonical order. Everything else stays
+// as it is.
+//
+// It fails with the errors of Check, and with ErrTooLong if a value has 2^32 bytes or parts, or more.
+func Canonicalize(block []byte) ([]byte, error) {
+	return Options{}.Canonicalize(block)
+}
+
+// Canonicalize is like the function Canonicalize, within these limits.
+func (o Options) Canonicalize(block []byte) ([]byte, error) {
+	out, made := filled(make([]byte, len(block)), func(out []byte) outcome {
+		return callCanonicalize(block, o.limits(), out)
+	})
+	if made.status != 0 {
+		return nil, failed(made)
+	}
+	return out, nil
+}
+
+// Position is a part of a block: the CID of a link is block[Offset:Offset+Len].
+type Position struct {
+	Offset, Len int
+}
+
+// Links returns the CIDs of all links of a block of DAG-CBOR, in the order of its bytes. A link that
+// is there twice is returned twice.
+//
+// It fails with the errors of Check.
+func Links(block []byte) ([]Cid, error) {
+	return Options{}.Links(block)
+}
+
+// Links is like the function Links, within these limits.
+func (o Options) Links(block []byte) ([]Cid, error) {
+	return mapped(o, block, func(at span) Cid {
+		return Cid{string(block[at.offset : at.offset+at.len])}
+	})
+}
+
+// LinkPositions returns the places of all links of a block of DAG-CBOR. It copies nothing of the
+// block.
+//
+// It fails with the errors of Check.
+func LinkPositions(block []byte) ([]Position, error) {
+	return Options{}.LinkPositions(block)
+}
+
+// LinkPositions is like the function LinkPositions, within these limits.
+func (o Options) LinkPositions(block []byte) ([]Position, error) {
+	return mapped(o, block, func(at span) Position {
+		return Position{int(at.offset), int(at.len)}
+	})
+}
+
+// CountLinks returns the number of links of a block of DAG-CBOR.
+//
+// It fails with the errors of Check.
+func CountLinks(block []byte) (int, error) {
+	return Options{}.CountLinks(block)
+}
+
+// CountLinks is like the function CountLinks, within these limits.
+func (o Options) CountLinks(block []byte) (int, error) {
+	made := callCountLinks(block, o.limits())
+	if made.status != 0 {
+		return 0, failed(made)
+	}
+	return made.needed, nil
+}
+
+// usualLink is the number of bytes of a link with a SHA2-256 digest.
+const usualLink = 41
+
+func mapped[T any](o Options, block []byte, of func(span) T) ([]T, error) {
+	buffer := spanBuffers.get(min(len(block)/usualLink, 4096))
+	defer spanBuffers.put(buffer)
+	spans, made := filled(*buffer, func(spans []span) outcome {
+		return callPositions(block, o.limits(), spans)
+	})
+	*buffer = spans[:cap(spans)]
+	if made.status != 0 {
+		return nil, failed(made)
+	}
+	list := make([]T, len(spans))
+	for at := range list {
+		list[at] = of(spans[at])
+	}
+	return list, nil
+}
+
+// BlockLinks returns the links of a block, by the codec of its CID: DAG-CBOR, DAG-PB or raw. A raw
+// block has no links. It doesn't compare the block with the CID: [Cid.Verify] does.
+//
+// It fails with ErrUnknownCodec for another codec, and with the errors of Links and DecodePb.
+func BlockLinks(cid Cid, block []byte) ([]Cid, error) {
+	return Options{}.BlockLinks(cid, block)
+}
+
+// BlockLinks is like the function BlockLinks, within these limits.
+func (o Options) BlockLinks(cid Cid, block []byte) ([]Cid, error) {
+	switch cid.Codec() {
+	case DagCbor:
+		return o.Links(block)
+	case DagPb:
+		return pbLinks(block)
+	case Raw:
+		return nil, nil
+	}
+	return nil, &Error{Status: ErrUnknownCodec, Offset: -1}
+}
+
+// Version returns the version of the C library, for example 0, 1 and 0.
+func Version() (major, minor, patch int) {
+	number := int(callVersion())
+	return number >> 16, number >> 8 & 255, number & 255
+}

@@ -1,0 +1,3 @@
+module example.org/kombilad
+
+go 1.19

@@ -1,0 +1,296 @@
+package kombilad
+
+/*
+#include "kombilad.h"
+
+// The results of a call. They are returned by value, so C writes only to those parts of Go's memory
+// that are buffers.
+typedef struct {
+	uint32_t status;
+	size_t needed;
+	size_t offset;
+} outcome;
+
+typedef struct {
+	uint32_t status;
+	kombilad_cid_parts parts;
+} parts_outcome;
+
+typedef struct {
+	uint32_t status;
+	size_t len;
+	uint8_t text[173];
+} text_outcome;
+
+typedef struct {
+	uint32_t status;
+	size_t place;
+	kombilad_cid cid;
+} cid_outcome;
+
+#define BLOCK const uint8_t *block, size_t len, size_t levels, size_t values
+
+static outcome check(BLOCK) {
+	outcome made = {0};
+	made.status = kombilad_block_check(block, len, levels, values, &made.offset);
+	return made;
+}
+
+static outcome check_canonical(BLOCK) {
+	outcome made = {0};
+	made.status = kombilad_block_check_canonical(block, len, levels, values, &made.offset);
+	return made;
+}
+
+static outcome count_links(BLOCK) {
+	outcome made = {0};
+	made.status = kombilad_links_count(block, len, levels, values, &made.needed, &made.offset);
+	return made;
+}
+
+static outcome canonicalize(BLOCK, uint8_t *out, size_t out_len) {
+	outcome made = {0};
+	made.status = kombilad_block_canonicalize(block, len, levels, values, out, out_len,
+	                                          &made.needed, &made.offset);
+	return made;
+}
+
+static outcome positions(BLOCK, kombilad_span *spans, size_t spans_len) {
+	outcome made = {0};
+	made.status = kombilad_link_positions(block, len, levels, values, spans, spans_len,
+	                                      &made.needed, &made.offset);
+	return made;
+}
+
+static outcome tape(BLOCK, kombilad_entry *entries, size_t entries_len) {
+	outcome made = {0};
+	made.status = kombilad_tape(block, len, levels, values, entries, entries_len, &made.needed,
+	                            &made.offset);
+	return made;
+}
+
+static outcome pb_tape(const uint8_t *block, size_t len, kombilad_entry *entries,
+                       size_t entries_len) {
+	outcome made = {0};
+	made.status = kombilad_pb_tape(block, len, entries, entries_len, &made.needed, &made.offset);
+	return made;
+}
+
+static outcome encode(const kombilad_entry *entries, size_t entries_len, const uint8_t *data,
+                      size_t data_len, uint8_t *out, size_t out_len) {
+	outcome made = {0};
+	made.status = kombilad_encode(entries, entries_len, data, data_len, out, out_len,
+	                              &made.needed, &made.offset);
+	return made;
+}
+
+#define STRING(text) (const uint8_t *)_GoStringPtr(text), _GoStringLen(text)
+
+static parts_outcome cid_parts(_GoString_ cid) {
+	parts_outcome made = {0};
+	made.status = kombilad_cid_parts_of(STRING(cid), &made.parts);
+	return made;
+}
+
+static text_outcome cid_to_text(_GoString_ cid, uint32_t base) {
+	text_outcome made = {0};
+	made.status = kombilad_cid_to_text(STRING(cid), base, made.text, sizeof made.text, &made.len);
+	return made;
+}
+
+static cid_outcome cid_from_text(_GoString_ text) {
+	cid_outcome made = {0};
+	made.status = kombilad_cid_from_text(STRING(text), &made.cid, &made.place);
+	return made;
+}
+
+static kombilad_cid cid_of_block(uint64_t codec, const uint8_t *block, size_t len) {
+	kombilad_cid made;
+	kombilad_cid_of_block(codec, block, len, &made);
+	return made;
+}
+
+static uint32_t verify(_GoString_ cid, const uint8_t *block, size_t len) {
+	return kombilad_verify(STRING(cid), block, len);
+}
+*/
+import "C"
+
+import "unsafe"
+
+// C is called only here and in car_window.go. A call takes a whole block, so decoding doesn't call C
+// for each value. The memory that is passed to C has no pointers in it.
+
+// entry is a value or a key of a block: its layout is that of kombilad_entry.
+type entry struct {
+	kind  uint32
+	len   uint32
+	value uint64
+}
+
+// span is a part of a block: its layout is that of kombilad_span.
+type span struct {
+	offset uint64
+	len    uint64
+}
+
+// These don't compile if the layouts differ in size.
+const (
+	_ = uint(unsafe.Sizeof(entry{}) - C.sizeof_kombilad_entry)
+	_ = uint(C.sizeof_kombilad_entry - unsafe.Sizeof(entry{}))
+	_ = uint(unsafe.Sizeof(span{}) - C.sizeof_kombilad_span)
+	_ = uint(C.sizeof_kombilad_span - unsafe.Sizeof(span{}))
+)
+
+// The kinds of entries.
+const (
+	kindNull     = C.KOMBILAD_KIND_NULL
+	kindFalse    = C.KOMBILAD_KIND_FALSE
+	kindTrue     = C.KOMBILAD_KIND_TRUE
+	kindUnsigned = C.KOMBILAD_KIND_UNSIGNED
+	kindNegative = C.KOMBILAD_KIND_NEGATIVE
+	kindFloat    = C.KOMBILAD_KIND_FLOAT
+	kindString   = C.KOMBILAD_KIND_STRING
+	kindBytes    = C.KOMBILAD_KIND_BYTES
+	kindLink     = C.KOMBILAD_KIND_LINK
+	kindList     = C.KOMBILAD_KIND_LIST
+	kindMap      = C.KOMBILAD_KIND_MAP
+	kindKey      = C.KOMBILAD_KIND_KEY
+)
+
+// outcome is the status of a call, the number of records that it needs, and where it stopped.
+type outcome struct {
+	status Status
+	needed int
+	offset int64
+}
+
+func outcomeOf(made C.outcome) outcome {
+	return outcome{Status(made.status), int(made.needed), int64(made.offset)}
+}
+
+// limits are those of a call: levels of lists and maps, and a number of values.
+type limits struct {
+	levels, values C.size_t
+}
+
+// maxSize means that there is no limit.
+const maxSize = ^C.size_t(0)
+
+// statusTooShort is the status of a call that needs a longer buffer.
+const statusTooShort Status = C.KOMBILAD_TOO_SHORT
+
+func cSize(size int) C.size_t {
+	return C.size_t(size)
+}
+
+func bytesOf(bytes []byte) (*C.uint8_t, C.size_t) {
+	if len(bytes) == 0 {
+		return nil, 0
+	}
+	return (*C.uint8_t)(unsafe.Pointer(&bytes[0])), C.size_t(len(bytes))
+}
+
+func entriesOf(entries []entry) (*C.kombilad_entry, C.size_t) {
+	if len(entries) == 0 {
+		return nil, 0
+	}
+	return (*C.kombilad_entry)(unsafe.Pointer(&entries[0])), C.size_t(len(entries))
+}
+
+func callCheck(block []byte, within limits) outcome {
+	bytes, length := bytesOf(block)
+	return outcomeOf(C.check(bytes, length, within.levels, within.values))
+}
+
+func callCheckCanonical(block []byte, within limits) outcome {
+	bytes, length := bytesOf(block)
+	return outcomeOf(C.check_canonical(bytes, length, within.levels, within.values))
+}
+
+func callCountLinks(block []byte, within limits) outcome {
+	bytes, length := bytesOf(block)
+	return outcomeOf(C.count_links(bytes, length, within.levels, within.values))
+}
+
+func callCanonicalize(block []byte, within limits, out []byte) outcome {
+	bytes, length := bytesOf(block)
+	to, room := bytesOf(out)
+	return outcomeOf(C.canonicalize(bytes, length, within.levels, within.values, to, room))
+}
+
+func callPositions(block []byte, within limits, spans []span) outcome {
+	bytes, length := bytesOf(block)
+	var to *C.kombilad_span
+	if len(spans) > 0 {
+		to = (*C.kombilad_span)(unsafe.Pointer(&spans[0]))
+	}
+	room := C.size_t(len(spans))
+	return outcomeOf(C.positions(bytes, length, within.levels, within.values, to, room))
+}
+
+func callTape(block []byte, within limits, entries []entry) outcome {
+	bytes, length := bytesOf(block)
+	to, room := entriesOf(entries)
+	return outcomeOf(C.tape(bytes, length, within.levels, within.values, to, room))
+}
+
+func callPbTape(block []byte, entries []entry) outcome {
+	bytes, length := bytesOf(block)
+	to, room := entriesOf(entries)
+	return outcomeOf(C.pb_tape(bytes, length, to, room))
+}
+
+func callEncode(entries []entry, data, out []byte) outcome {
+	from, count := entriesOf(entries)
+	bytes, length := bytesOf(data)
+	to, room := bytesOf(out)
+	return outcomeOf(C.encode(from, count, bytes, length, to, room))
+}
+
+// cidParts are those of a CID, or zeros if the bytes aren't one.
+type cidParts struct {
+	version, codec, hash uint64
+	digest               int
+}
+
+func callCidParts(cid string) (cidParts, Status) {
+	made := C.cid_parts(cid)
+	if made.status != C.KOMBILAD_OK {
+		return cidParts{}, Status(made.status)
+	}
+	of := made.parts
+	return cidParts{uint64(of.version), uint64(of.codec), uint64(of.hash), int(of.digest_len)}, 0
+}
+
+func callCidToText(cid string, base Base) (string, Status) {
+	made := C.cid_to_text(cid, C.uint32_t(base))
+	if made.status != C.KOMBILAD_OK {
+		return "", Status(made.status)
+	}
+	return string((*[len(made.text)]byte)(unsafe.Pointer(&made.text))[:made.len]), 0
+}
+
+func callCidFromText(text string) (string, outcome) {
+	made := C.cid_from_text(text)
+	return cidOf(&made.cid), outcome{status: Status(made.status), offset: int64(made.place)}
+}
+
+func callCidOfBlock(codec uint64, block []byte) string {
+	bytes, length := bytesOf(block)
+	made := C.cid_of_block(C.uint64_t(codec), bytes, length)
+	return cidOf(&made)
+}
+
+func cidOf(record *C.kombilad_cid) string {
+	return string((*[len(record.bytes)]byte)(unsafe.Pointer(&record.bytes))[:record.len])
+}
+
+func callVerify(cid string, block []byte) Status {
+	bytes, length := bytesOf(block)
+	return Status(C.verify(cid, bytes, length))
+}
+
+func callVersion() uint32 {
+	return uint32(C.kombilad_version())
+}

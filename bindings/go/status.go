@@ -1,0 +1,188 @@
+package kombilad
+
+// #include "kombilad.h"
+import "C"
+
+import "strconv"
+
+// Status is the reason of an [Error]. It is an error too, so errors.Is(err, kombilad.ErrTooDeep)
+// reports whether an error has this reason.
+type Status uint32
+
+// The reasons that concern more than one kind of input.
+const (
+	ErrNoMemory     Status = C.KOMBILAD_NO_MEMORY     // an allocation in C failed
+	ErrNotCanonical Status = C.KOMBILAD_NOT_CANONICAL // the keys of a map are out of order
+	ErrUnknownBase  Status = C.KOMBILAD_UNKNOWN_BASE  // a Base is not one of the constants
+	ErrV0Base       Status = C.KOMBILAD_V0_BASE       // a CIDv0 has no text in this base
+	ErrTooDeep      Status = C.KOMBILAD_TOO_DEEP      // lists and maps nest too deeply
+	ErrTooMany      Status = C.KOMBILAD_TOO_MANY      // there are too many values
+	ErrTooLong      Status = C.KOMBILAD_TOO_LONG      // a value has 2^32 bytes or parts, or more
+	ErrUnknownHash  Status = C.KOMBILAD_UNKNOWN_HASH  // Verify doesn't know the hash function
+	ErrWrongDigest  Status = C.KOMBILAD_WRONG_DIGEST  // the block has another digest
+)
+
+// The bytes, or those in a section of a CAR, are not a CID.
+const (
+	ErrCidEnd              Status = C.KOMBILAD_CID_END                // the bytes end too early
+	ErrCidNotShortest      Status = C.KOMBILAD_CID_NOT_SHORTEST       // a varint is too long
+	ErrCidVarintTooLarge   Status = C.KOMBILAD_CID_VARINT_TOO_LARGE   // a varint is 2^64 or more
+	ErrCidExplicitVersion0 Status = C.KOMBILAD_CID_EXPLICIT_VERSION_0 // the first byte is 0
+	ErrCidUnknownVersion   Status = C.KOMBILAD_CID_UNKNOWN_VERSION    // the version isn't 0 or 1
+	ErrCidDigestTooLong    Status = C.KOMBILAD_CID_DIGEST_TOO_LONG    // more than 64 bytes
+	ErrCidTrailingBytes    Status = C.KOMBILAD_CID_TRAILING_BYTES     // bytes follow the CID
+)
+
+// The text is not a CID. Its error may also be one of the bytes that it encodes.
+const (
+	ErrTextUnknownBase   Status = C.KOMBILAD_TEXT_UNKNOWN_BASE   // the first letter names no base
+	ErrTextInvalidLength Status = C.KOMBILAD_TEXT_INVALID_LENGTH // no CID has this length
+	ErrTextInvalidLetter Status = C.KOMBILAD_TEXT_INVALID_LETTER // a letter isn't in the base
+	ErrTextUnusedBits    Status = C.KOMBILAD_TEXT_UNUSED_BITS    // bits after the last byte are 1
+	ErrTextWrongVersion  Status = C.KOMBILAD_TEXT_WRONG_VERSION  // a CIDv0 has a prefix
+	ErrTextUTF8          Status = C.KOMBILAD_TEXT_UTF8           // the text is not UTF-8
+)
+
+// The bytes are not a block of DAG-CBOR.
+const (
+	ErrBlockEnd           Status = C.KOMBILAD_BLOCK_END            // the bytes end too early
+	ErrBlockNotShortest   Status = C.KOMBILAD_BLOCK_NOT_SHORTEST   // a number isn't in its shortest form
+	ErrBlockFloat         Status = C.KOMBILAD_BLOCK_FLOAT          // not 64 bits, NaN or an infinity
+	ErrBlockUnsupported   Status = C.KOMBILAD_BLOCK_UNSUPPORTED    // not allowed in DAG-CBOR
+	ErrBlockUTF8          Status = C.KOMBILAD_BLOCK_UTF8           // a string is not UTF-8
+	ErrBlockKeyNotText    Status = C.KOMBILAD_BLOCK_KEY_NOT_TEXT   // a key is not a string
+	ErrBlockDuplicateKey  Status = C.KOMBILAD_BLOCK_DUPLICATE_KEY  // a map has a key twice
+	ErrBlockLinkBytes     Status = C.KOMBILAD_BLOCK_LINK_BYTES     // tag 42 without bytes after 0x00
+	ErrBlockTrailingBytes Status = C.KOMBILAD_BLOCK_TRAILING_BYTES // bytes follow the value
+)
+
+// The bytes of a link in a block are not a CID.
+const (
+	ErrLinkEnd              Status = C.KOMBILAD_LINK_END                // as ErrCidEnd
+	ErrLinkNotShortest      Status = C.KOMBILAD_LINK_NOT_SHORTEST       // as ErrCidNotShortest
+	ErrLinkVarintTooLarge   Status = C.KOMBILAD_LINK_VARINT_TOO_LARGE   // as ErrCidVarintTooLarge
+	ErrLinkExplicitVersion0 Status = C.KOMBILAD_LINK_EXPLICIT_VERSION_0 // as ErrCidExplicitVersion0
+	ErrLinkUnknownVersion   Status = C.KOMBILAD_LINK_UNKNOWN_VERSION    // as ErrCidUnknownVersion
+	ErrLinkDigestTooLong    Status = C.KOMBILAD_LINK_DIGEST_TOO_LONG    // as ErrCidDigestTooLong
+	ErrLinkTrailingBytes    Status = C.KOMBILAD_LINK_TRAILING_BYTES     // as ErrCidTrailingBytes
+)
+
+// The bytes are not a CAR. The error of a header may also be one of a block.
+const (
+	ErrCarUnexpectedEnd     Status = C.KOMBILAD_CAR_UNEXPECTED_END      // the bytes end too early
+	ErrCarLengthNotShortest Status = C.KOMBILAD_CAR_LENGTH_NOT_SHORTEST // a length is too long
+	ErrCarLengthTooLarge    Status = C.KOMBILAD_CAR_LENGTH_TOO_LARGE    // a length is 2^64 or more
+	ErrCarEmpty             Status = C.KOMBILAD_CAR_EMPTY               // a section has no bytes
+	ErrCarTooLong           Status = C.KOMBILAD_CAR_TOO_LONG            // a section exceeds its limit
+	ErrCarNotAHeader        Status = C.KOMBILAD_CAR_NOT_A_HEADER        // not roots and version 1
+	ErrCarPayload           Status = C.KOMBILAD_CAR_PAYLOAD             // a payload that can't be there
+	ErrCarShortPayload      Status = C.KOMBILAD_CAR_SHORT_PAYLOAD       // the bytes end in the payload
+)
+
+// The bytes are not a node of DAG-PB.
+const (
+	ErrPbEnd            Status = C.KOMBILAD_PB_END              // the bytes end too early
+	ErrPbVarintTooLarge Status = C.KOMBILAD_PB_VARINT_TOO_LARGE // a varint is 2^64 or more
+	ErrPbUnknownField   Status = C.KOMBILAD_PB_UNKNOWN_FIELD    // DAG-PB has no such field there
+	ErrPbFieldOrder     Status = C.KOMBILAD_PB_FIELD_ORDER      // a field is repeated or misplaced
+	ErrPbNoHash         Status = C.KOMBILAD_PB_NO_HASH          // a link doesn't begin with its hash
+	ErrPbUTF8           Status = C.KOMBILAD_PB_UTF8             // a name is not UTF-8
+)
+
+// The value can't be encoded.
+const (
+	ErrValueUTF8    Status = C.KOMBILAD_TAPE_UTF8          // a string is not UTF-8
+	ErrValueFloat   Status = C.KOMBILAD_TAPE_FLOAT         // a float is NaN or an infinity
+	ErrDuplicateKey Status = C.KOMBILAD_TAPE_DUPLICATE_KEY // a map has a key twice
+)
+
+// A Go type and a block don't fit. Only this package has these reasons, and not the C library.
+const (
+	ErrType            Status = 1<<16 + iota // the value has another type
+	ErrRange                                 // a number is out of range
+	ErrLength                                // a Go array has another length
+	ErrUnknownField                          // a Go struct has no field for a key
+	ErrUnsupportedType                       // a Go type has no form in DAG-CBOR
+	ErrUndefinedCid                          // the CID is the zero value
+	ErrNotPointer                            // Unmarshal needs a pointer that isn't nil
+	ErrUnknownCodec                          // BlockLinks doesn't know the codec
+	ErrCustom                                // a Marshaler or an Unmarshaler failed
+)
+
+var sentences = map[Status]string{
+	ErrNoMemory:     "out of memory",
+	ErrNotCanonical: "the keys of a map are not in canonical order",
+	ErrUnknownBase:  "unknown base for the text of a CID",
+	ErrV0Base:       "the text of a CIDv0 is only in base58btc",
+	ErrTooDeep:      "lists and maps nest deeper than the limit",
+	ErrTooMany:      "there are more values than the limit",
+	ErrTooLong:      "a string, a byte string, a list or a map is too long",
+	ErrUnknownHash:  "unsupported hash function: only SHA2-256, SHA2-512 and identity are verified",
+	ErrWrongDigest:  "the block does not match the digest of the CID",
+
+	ErrCidEnd:              "the CID is incomplete",
+	ErrCidNotShortest:      "a varint of the CID is not in its shortest form",
+	ErrCidVarintTooLarge:   "a varint of the CID is 2^64 or more",
+	ErrCidExplicitVersion0: "the CID begins with the version 0, which must not be written",
+	ErrCidUnknownVersion:   "unknown CID version: only 0 and 1 exist",
+	ErrCidDigestTooLong:    "the digest of the CID is longer than 64 bytes",
+	ErrCidTrailingBytes:    "bytes follow the CID",
+
+	ErrTextUnknownBase:   "not a CID: unknown multibase prefix",
+	ErrTextInvalidLength: "not a CID: no CID has a text of this length in its base",
+	ErrTextInvalidLetter: "not a CID: invalid character for its base",
+	ErrTextUnusedBits:    "not a CID: the last character has bits set that are not used",
+	ErrTextWrongVersion:  "not a CID: a CIDv0 must not have a multibase prefix",
+	ErrTextUTF8:          "not a CID: the text is not UTF-8",
+
+	ErrBlockEnd:           "the block is incomplete",
+	ErrBlockNotShortest:   "a number or a length is not in its shortest form",
+	ErrBlockFloat:         "a float must have 64 bits and must not be NaN or an infinity",
+	ErrBlockUnsupported:   "a simple value, a tag or an indefinite length is not allowed in DAG-CBOR",
+	ErrBlockUTF8:          "a string is not UTF-8",
+	ErrBlockKeyNotText:    "the key of a map is not a string",
+	ErrBlockDuplicateKey:  "duplicate key in a map",
+	ErrBlockLinkBytes:     "tag 42 must be followed by a byte string that begins with 0x00",
+	ErrBlockTrailingBytes: "bytes follow the value",
+
+	ErrCarUnexpectedEnd:     "the CAR ends within a header or a section",
+	ErrCarLengthNotShortest: "the length of a header or a section is not in its shortest form",
+	ErrCarLengthTooLarge:    "the length of a header or a section is 2^64 or more",
+	ErrCarEmpty:             "a header or a section is empty",
+	ErrCarTooLong:           "a header or a section is longer than the limit",
+	ErrCarNotAHeader:        "not the header of a CAR: it must be a map with roots and version 1",
+	ErrCarPayload:           "the header of a CARv2 has an impossible payload offset or size",
+	ErrCarShortPayload:      "the CAR ends within the payload of version 2",
+
+	ErrPbEnd:            "the field is incomplete",
+	ErrPbVarintTooLarge: "a varint is 2^64 or more, or has more than ten bytes",
+	ErrPbUnknownField:   "DAG-PB does not have this field here",
+	ErrPbFieldOrder:     "a field is repeated or out of order",
+	ErrPbNoHash:         "a link does not begin with its hash",
+	ErrPbUTF8:           "the name of a link is not UTF-8",
+
+	ErrValueUTF8:    "a string is not UTF-8",
+	ErrValueFloat:   "NaN and infinities cannot be encoded",
+	ErrDuplicateKey: "duplicate key in a map",
+
+	ErrType:            "the value has another type",
+	ErrRange:           "the number is out of range",
+	ErrLength:          "the length differs from that of the array",
+	ErrUnknownField:    "the struct has no field for a key",
+	ErrUnsupportedType: "the type has no form in DAG-CBOR",
+	ErrUndefinedCid:    "an undefined CID cannot be encoded",
+	ErrNotPointer:      "Unmarshal needs a pointer that is not nil",
+	ErrUnknownCodec:    "unknown codec: only DAG-CBOR, DAG-PB and raw are known",
+	ErrCustom:          "the type reports an error",
+}
+
+// Error returns the reason as a sentence without a place.
+func (s Status) Error() string {
+	if s >= ErrLinkEnd && s <= ErrLinkTrailingBytes {
+		return "invalid link: " + sentences[s-ErrLinkEnd+ErrCidEnd]
+	}
+	if sentence, known := sentences[s]; known {
+		return sentence
+	}
+	return "libkombilad returned the unknown status " + strconv.FormatUint(uint64(s), 10)
+}
