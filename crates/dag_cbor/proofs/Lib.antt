@@ -10,3 +10,4 @@ pub mod BlockTrees
 pub mod Collected
 pub mod FrontReads
 pub mod EncodedParts
+pub mod TokenReads

@@ -1,12 +1,14 @@
 -- Which errors of a codec are no error of a value or of bytes.
-use Rattle.std.specs.Prelude.{◌≡◌, ◌⊎◌, ℕ, false, List, Option, Some, None, IfSome}
+use Rattle.std.specs.Prelude.{◌≡◌, ◌⊎◌, ℕ, false, List, Option, Some, None, Result, Ok, Err, IfSome}
 use Rattle.ipld_codec.specs.Codec.{Failure, memory, reading, writing}
 use Rattle.ipld_tree.specs.declared.limits.Limits.{Limits}
 use Rattle.dag_cbor_blocks.specs.Within.{StopsAt}
 use Rattle.dag_cbor_blocks.specs.declared.block_error.BlockError.{BlockError}
 use Rattle.dag_cbor_blocks.specs.declared.block_error.BlockErrorKind.TheVariants.{Cbor}
 use Rattle.dag_cbor_format.specs.declared.error.CborError.{CborError}
-use Rattle.dag_cbor_format.specs.declared.error.CborError.TheVariants.{Memory, Read, Write}
+use Rattle.dag_cbor_format.specs.declared.error.CborError.TheVariants.{Memory, Read, Write, End}
+use Rattle.ipld_tokens.specs.declared.error.TokenError.{TokenError}
+use Rattle.ipld_tokens.specs.declared.error.TokenError.TheVariants as read
 
 -- which error reports which error; the others lie in the value or in the bytes
 abbrev pub cbor_failure : CborError → Option Failure
@@ -18,3 +20,16 @@ cbor_failure _ = None
 -- the reader failed or did not end, which is said of byte 0; or this is where reading the block that it gave stops, and why
 abbrev pub StopsAtOrFails : Limits → Option (List ℕ) → BlockError → Type 0
 StopsAtOrFails limits block error = ((error.kind ≡ Cbor Read) × (error.offset ≡ 0)) ⊎ IfSome block (λ bytes. StopsAt false limits bytes error.kind error.offset)
+
+-- the error of a codec over a source of tokens: the source's own, or that an allocation failed; a source over a block leaves no other
+abbrev pub error_of : TokenError CborError → CborError
+error_of read.Memory = Memory
+error_of (read.Source fault) = fault
+error_of _ = End
+
+-- What two readers of one block return: the same contents or the same error, unless an allocation failed in one of them.
+abbrev pub AnswersAlike : {A B : Type 0} → (A → B) → Result A CborError → Result A CborError → Type 0
+AnswersAlike contents (Ok value) (Ok other) = contents value ≡ contents other
+AnswersAlike contents (Ok value) (Err error) = error ≡ Memory
+AnswersAlike contents (Err error) (Ok value) = error ≡ Memory
+AnswersAlike contents (Err error) (Err other) = (error ≡ Memory) ⊎ ((other ≡ Memory) ⊎ (error ≡ other))

@@ -66,7 +66,7 @@ impl Links for DagCborCodec {
 }
 
 // All that the reader still has.
-fn read_block<R: BufRead>(alloc: Global, reader: &mut R) -> Result<Vec<u8>, CborError>
+pub(crate) fn read_block<R: BufRead>(alloc: Global, reader: &mut R) -> Result<Vec<u8>, CborError>
     ensures ok { IfOk result (λ bytes. IfSome (R.remaining reader.old) (λ block. block ≡ bytes.items)) }
     ensures read_out { OnOk result (IsReadOut (R.remaining reader.old) (R.remaining reader.new)) }
     ensures err { IfErr result (λ error. (error ≡ CborError.Memory) ⊎ (error ≡ CborError.Read)) }

@@ -3,7 +3,10 @@
 ghost use Rattle.std.specs.Prelude.{◌≡◌, ◌↔◌, Some, None, Bool, true, false, List, ℕ, map};
 ghost use Rattle.ipld_cid.specs.Cid.{Link};
 ghost use Rattle.ipld_tree.specs.Tree.{Tree};
+ghost use Rattle.ipld_tree.specs.TreeOf.{tree_of};
 ghost use Rattle.ipld_codec.specs.CodecLaws.{EncodedOnce, DecodesEncoded};
+ghost use Rattle.ipld_codec.specs.LinkIter.{links_left};
+ghost use Rattle.dag_cbor.specs.CodecErrors.{AnswersAlike};
 ghost use Rattle.ipld_tokens.specs.Item.{Item, links_in};
 ghost use Rattle.ipld_tokens.specs.ItemTree.{tree_of_item};
 ghost use Rattle.dag_cbor_format.specs.Encoding.{EncodesItem, EncodesTree};
@@ -22,6 +25,13 @@ ghost use Rattle.dag_cbor_blocks.specs.Counting.{limit_passed};
 ghost use Rattle.ipld_tokens.specs.LinkBytes.{read_link};
 ghost use Rattle.ipld_tree.specs.Limits.{Within};
 ghost use Rattle.ipld_tree.specs.declared.limits.Limits.{Limits};
+
+use crate::codec::DagCborCodec;
+use crate::token_codec::TokenCodec;
+use dag_cbor_format::CborError;
+use ipld_codec::{Codec, LinkIter, Links};
+use ipld_tree::Ipld;
+use std::alloc::Global;
 
 /// What holds of blocks of DAG-CBOR. A call does nothing.
 ///
@@ -76,3 +86,34 @@ pub fn float_law()
     ensures first_error { (block : List ℕ) → first_error block ≡ error_in false block }
     ensures links_found { (block : List ℕ) → links_read false block ≡ links_found block }
 {}
+
+/// Decodes a block by both codecs of DAG-CBOR, by [`DagCborCodec`] and then by [`TokenCodec`]: it shows that they answer alike.
+///
+/// Both return the same tree or the same error, unless an allocation fails in one of them.
+pub fn both_decode(
+    alloc: Global,
+    block: &[u8],
+) -> (Result<Ipld, CborError>, Result<Ipld, CborError>)
+    ensures { AnswersAlike tree_of result.0 result.1 }
+{
+    (
+        DagCborCodec::decode_from_slice(alloc, block),
+        TokenCodec::decode_from_slice(alloc, block),
+    )
+}
+
+/// Finds the links of a block by both codecs of DAG-CBOR, by [`DagCborCodec`] and then by [`TokenCodec`]: it shows that they answer
+/// alike.
+///
+/// Both return the same links or the same error, unless an allocation fails in one of them.
+pub fn both_find_links(
+    alloc: Global,
+    block: &[u8],
+) -> (Result<LinkIter, CborError>, Result<LinkIter, CborError>)
+    ensures { AnswersAlike links_left result.0 result.1 }
+{
+    (
+        DagCborCodec::links(alloc, block),
+        TokenCodec::links(alloc, block),
+    )
+}

@@ -46,6 +46,8 @@
 //! }
 //! ```
 //!
+//! [`TokenCodec`] returns the same by the calls that read any source of tokens. It is slower, and shows how a codec is written.
+//!
 //! [`item`] reads what an item begins with, for what goes through a block by itself.
 //! [`write`] has the calls that write an item after another, for blocks that are made without a tree.
 //!
@@ -62,6 +64,7 @@ mod encode;
 mod key_order;
 pub mod laws;
 pub mod shallow;
+mod token_codec;
 mod tree;
 
 pub use codec::DagCborCodec;
@@ -71,3 +74,4 @@ pub use dag_cbor_blocks::{
 };
 pub use dag_cbor_format::{CborError, item, write};
 pub use decode::{decode_slice, decode_slice_within};
+pub use token_codec::TokenCodec;

@@ -1,9 +1,6 @@
 -- What a source of a block's tokens has left, and what it may return.
-use Rattle.std.specs.Prelude.{◌≡◌, ◌⊎◌, ◌++◌, ℕ, true, List, Option, Some, None, if◌then◌else◌}
+use Rattle.std.specs.Prelude.{◌≡◌, ◌⊎◌, ℕ, true, List, Option, Some, None, if◌then◌else◌}
 use Rattle.ipld_tree.specs.Tree.{Tree}
-use Rattle.ipld_tokens.specs.Token.{TokenModel}
-use Rattle.ipld_tokens.specs.Item.{Item, tokens_of}
-use Rattle.ipld_tokens.specs.ItemTree.{tree_of_item}
 use Rattle.dag_cbor_format.specs.declared.error.CborError.{CborError}
 use Rattle.dag_cbor_format.specs.declared.error.CborError.TheVariants.{Memory}
 use Rattle.dag_cbor_blocks.specs.declared.reader.Reader.{Reader}
@@ -20,10 +17,6 @@ MayEnd bytes = (t : Tree) × EncodesTree t bytes
 -- an allocation failed, or it is the first error of the bytes
 abbrev pub MayFail : List ℕ → CborError → Type 0
 MayFail bytes error = (error ≡ Memory) ⊎ ((lies_in_bytes error ≡ true) × (first_error bytes ≡ Some error))
-
--- an item that is a tree begins with these tokens
-abbrev pub BeginsTree : List TokenModel → Type 0
-BeginsTree taken = (i : Item 64) × (t : Tree) × (more : List TokenModel) × (tokens_of i ≡ taken ++ more) × (tree_of_item i ≡ Some t)
 
 -- what a reader still yields, unless it was rejected
 abbrev pub ran_of : Option CborError → Reader → Ran

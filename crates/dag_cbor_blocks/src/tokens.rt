@@ -4,13 +4,14 @@ ghost use Rattle.std.specs.Prelude.{◌≡◌, ◌++◌, false, List, Some};
 ghost use Rattle.std.specs.Option.{ForSome};
 ghost use Rattle.ipld_tree.specs.Tree.{Tree};
 ghost use Rattle.ipld_tokens.specs.Token.{TokenModel};
+ghost use Rattle.ipld_tokens.specs.CutTrees.{BeginsTree};
 ghost use Rattle.ipld_tokens.specs.Item.{Item, tokens_of};
 ghost use Rattle.ipld_tokens.specs.ItemTree.{tree_of_item};
 ghost use Rattle.dag_cbor_format.specs.Encoding.{EncodesItem};
 ghost use Rattle.dag_cbor_format.specs.declared.error.CborError.TheVariants.{Memory};
 ghost use Rattle.dag_cbor_format.specs.ErrorKinds.{lies_in_bytes};
 ghost use Rattle.dag_cbor_format.specs.Reading.{of_block};
-ghost use Rattle.dag_cbor_blocks.specs.Tokens.{BeginsTree, MayEnd, MayFail, ran_of};
+ghost use Rattle.dag_cbor_blocks.specs.Tokens.{MayEnd, MayFail, ran_of};
 
 use crate::reader::Reader;
 use dag_cbor_format::CborError;

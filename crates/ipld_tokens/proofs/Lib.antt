@@ -22,6 +22,7 @@ pub mod LinkOrder
 pub mod HintLemmas
 pub mod RoundTrip
 pub mod ItemFronts
+pub mod TreeBeginnings
 pub mod Excesses
 pub mod LimitReading
 pub mod LimitRuns

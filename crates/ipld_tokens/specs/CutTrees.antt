@@ -2,7 +2,7 @@
 use Rattle.std.specs.Prelude.{◌≡◌, ◌⊎◌, true, List, [], ◌∷◌, ◌++◌, ℕ, Some, IsSome, Err}
 use Rattle.ipld_cid.specs.declared.error.CidError.{CidError}
 use Rattle.ipld_cid.specs.Bytes.{read_cid}
-use Rattle.ipld_tree.specs.Tree.{Members}
+use Rattle.ipld_tree.specs.Tree.{Tree, Members}
 use Rattle.ipld_tokens.specs.Token.{TokenModel, character, text, atom, bytes, some, link, seq, map}
 use Rattle.ipld_tokens.specs.Item.{Item, tokens_of, Parts, parts_tokens, Pairs, pairs_tokens}
 use Rattle.ipld_tokens.specs.ItemTree.{key_text, has_key, tree_of_item, items_of_parts, members_of_pairs}
@@ -47,6 +47,10 @@ IsUnfinished taken = (c : CutTree) × IsRead c × (taken ≡ tokens_before c)
 -- they are an item that has a tree
 abbrev pub IsTreeItem : List TokenModel → Type 0
 IsTreeItem taken = (i : Item 64) × IsSome (tree_of_item i) × (taken ≡ tokens_of i)
+
+-- True if an item that has a tree begins with the taken tokens, and perhaps goes on.
+abbrev pub BeginsTree : List TokenModel → Type 0
+BeginsTree taken = (i : Item 64) × (t : Tree) × (more : List TokenModel) × (tokens_of i ≡ taken ++ more) × (tree_of_item i ≡ Some t)
 
 -- they end with bytes after a link mark, of which this is true
 abbrev pub EndsInLink : (List ℕ → Type 0) → List TokenModel → Type 0

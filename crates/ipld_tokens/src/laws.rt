@@ -1,6 +1,7 @@
 //! What holds of items, of their trees, and of the tokens of trees.
 
 ghost use Rattle.std.specs.Prelude.{◌≡◌, List, ◌∷◌, ◌++◌, Some};
+ghost use Rattle.ipld_cid.specs.declared.error.CidError.{CidError};
 ghost use Rattle.ipld_tree.specs.Tree.{Tree};
 ghost use Rattle.ipld_tree.specs.TreeOf.{tree_of};
 ghost use Rattle.ipld_tree.specs.Walk.{links_of};
@@ -12,6 +13,7 @@ ghost use Rattle.ipld_tokens.specs.ItemTree.{tree_of_item};
 ghost use Rattle.ipld_tokens.specs.ItemOrder.{KeysAscend};
 ghost use Rattle.ipld_tokens.specs.TreeTokens.{tokens_of_tree};
 ghost use Rattle.ipld_tokens.specs.LinkTimes.{SameLinks};
+ghost use Rattle.ipld_tokens.specs.CutTrees.{BeginsTree, EndsWrong, EndsInBadCid, EndsWithRepeatedKey};
 ghost use Rattle.ipld_tokens.specs.Outcome.{FindsUnless};
 
 use crate::error::TokenError;
@@ -62,6 +64,18 @@ pub fn item_links_law()
 pub fn tree_tokens_law()
     ensures { (t : Tree) → IsTree t → IsWhole t
         → (i : Item 64) × (tokens_of i ≡ tokens_of_tree t) × (tree_of_item i ≡ Some t) × (links_in i ≡ links_of t) }
+{
+    cid_bytes_law::<64>();
+}
+
+/// What holds of tokens that a tree begins with, and perhaps goes on. A call does nothing.
+///
+/// - They end in no error of [`read_ipld`]: with no token that can't stand where it came, with no bytes of a link that are no CID, and
+///   with no value of a key that its map has already. So a source that yields the beginning of a tree, and no more, is never rejected.
+pub fn tree_beginnings_law()
+    ensures not_wrong { (taken : List TokenModel) → BeginsTree taken → EndsWrong taken → ⊥ }
+    ensures no_bad_cid { (taken : List TokenModel) (cid_error : CidError) → BeginsTree taken → EndsInBadCid cid_error taken → ⊥ }
+    ensures no_repeated_key { (taken : List TokenModel) → BeginsTree taken → EndsWithRepeatedKey taken → ⊥ }
 {
     cid_bytes_law::<64>();
 }

@@ -52,14 +52,15 @@ pub struct IpldTokens<'a> {
 impl<'a> IpldTokens<'a> {
     ghost use Rattle.ipld_tokens.specs.IpldSource.{tokens_left, has_stopped};
 
-    /// A source of the tokens of the tree.
+    /// Returns a source of the tokens of the tree.
     ///
-    /// It doesn't recurse: where lists or maps nest it allocates to measure how deep ([`Ipld::try_nesting`]), and gives that back. Then
-    /// it allocates once, as much as the tree nests deep.
+    /// It measures the nesting first, as [`Ipld::try_nesting`] does, and then allocates at once a slot for the value itself and one for
+    /// each level of nesting. So it allocates once if lists and maps nest at most 1,024 levels deep, down to which it recurses; of a
+    /// deeper tree measuring allocates too, and gives that back.
     ///
     /// # Errors
     ///
-    /// `AllocError` where an allocation fails, or where the tree nests deeper than a `usize` counts, as no tree that fits in memory does.
+    /// `AllocError` if an allocation fails, or if the tree nests deeper than a `usize` counts, as no tree that fits in memory does.
     pub fn new(alloc: Global, tree: &'a Ipld) -> Result<Self, AllocError>
         ensures tokens { IfOk result (λ source. tokens_left source ≡ tokens_of_tree (tree_of tree.now)) }
         ensures not_failed { IfOk result (λ source. has_stopped source ≡ false) }

@@ -3,12 +3,10 @@
 use crate::bytes::bytes;
 use crate::parts::ALL;
 use dag_cbor::{
-    BlockErrorKind, CborError, CborTokens, DagCborCodec, ReadOptions, decode_slice, links_of_block,
+    BlockErrorKind, CborError, DagCborCodec, ReadOptions, TokenCodec, decode_slice, links_of_block,
 };
 use ipld_cid::Cid;
-use ipld_codec::Codec;
-use ipld_tokens::{ExtractLinks, TokenError, TokenSource, read_ipld};
-use ipld_tree::Ipld;
+use ipld_codec::{Codec, Links};
 use std::alloc::{AllocError, Global};
 
 /// What the block is decoded as, its links, and the bytes that the tree is encoded as; or the errors.
@@ -18,7 +16,9 @@ pub fn block(alloc: Global, digits: &str) -> Result<String, AllocError> {
     };
     let tree = decoded(alloc, bytes.as_slice())?;
     let links = links_of_row(alloc, bytes.as_slice())?;
-    if decode_slice(alloc, bytes.as_slice()) != tree_of_tokens(alloc, bytes.as_slice()) {
+    if decode_slice(alloc, bytes.as_slice())
+        != TokenCodec::decode_from_slice(alloc, bytes.as_slice())
+    {
         return format!(in alloc; "{tree}; {links}; its tokens are another tree");
     }
     if links_found(alloc, bytes.as_slice()) != links_of_tokens(alloc, bytes.as_slice()) {
@@ -27,38 +27,13 @@ pub fn block(alloc: Global, digits: &str) -> Result<String, AllocError> {
     format!(in alloc; "{tree}; {links}")
 }
 
-// The error of a block, as reading its tokens reports it.
-fn error_of(error: TokenError<CborError>) -> CborError {
-    match error {
-        TokenError::Source(error) => error,
-        _ => CborError::Memory,
-    }
-}
-
-// What is read, where no token follows it.
-fn at_the_end<T: Drop>(source: &mut CborTokens<'_>, found: T) -> Result<T, CborError> {
-    match source.next_token()? {
-        None => Ok(found),
-        Some(_) => Err(CborError::Memory),
-    }
-}
-
-// The tree by the block's tokens, which decoding has to return too.
-fn tree_of_tokens(alloc: Global, block: &[u8]) -> Result<Ipld, CborError> {
-    let mut source = CborTokens::new(alloc, block);
-    match read_ipld(alloc, &mut source) {
-        Ok(tree) => at_the_end(&mut source, tree),
-        Err(error) => Err(error_of(error)),
-    }
-}
-
 // The links by the block's tokens, which finding links has to return too.
 fn links_of_tokens(alloc: Global, block: &[u8]) -> Result<Vec<Cid>, CborError> {
-    let mut source = CborTokens::new(alloc, block);
-    match ExtractLinks::<64>::deserialize(alloc, &mut source) {
-        Ok(links) => at_the_end(&mut source, links.into_vec()),
-        Err(error) => Err(error_of(error)),
+    let mut links = Vec::new(alloc);
+    for link in TokenCodec::links(alloc, block)? {
+        links.push(link)?;
     }
+    Ok(links)
 }
 
 fn decoded(alloc: Global, block: &[u8]) -> Result<String, AllocError> {

@@ -1,6 +1,7 @@
 //! Trees that may nest as deep as they like, by the calls that do without recursion.
 
 use crate::tree_words;
+use ipld_tokens::IpldTokens;
 use ipld_tree::Ipld;
 use std::alloc::{AllocError, Global};
 
@@ -10,6 +11,24 @@ pub fn walk_row(alloc: Global, words: &str) -> Result<String, AllocError> {
         Some(tree) => describe_by_loop(alloc, tree),
         None => String::from_str(alloc, "no tree"),
     }
+}
+
+/// The number of values of a tree, after so many walks to its end, each with a source of its tokens. The number of allocations of one walk
+/// and one source is the difference between two rows.
+pub fn walks(alloc: Global, words: &str) -> Result<String, AllocError> {
+    let Some((times, words)) = words.split_once(' ') else {
+        return String::from_str(alloc, "no number");
+    };
+    let Some(tree) = tree_words::tree(alloc, words)? else {
+        return String::from_str(alloc, "no tree");
+    };
+    let mut values = 0;
+    for _ in 0..times.parse::<u8>().unwrap_or(0) {
+        values = length(alloc, &tree)?;
+        drop(IpldTokens::new(alloc, &tree)?);
+    }
+    tree.discard();
+    format!(in alloc; "{values} values")
 }
 
 fn length(alloc: Global, tree: &Ipld) -> Result<usize, AllocError> {

@@ -2,7 +2,7 @@
 
 use crate::parts::limited;
 use crate::tree_words;
-use dag_json::{from_canonical, from_slice, from_str, to_string, to_vec};
+use dag_json::{floats, from_canonical, from_slice, from_str, tape_from_slice, to_string, to_vec};
 use ipld_tree::{Ipld, Limits};
 use std::alloc::{AllocError, Global};
 use std::str;
@@ -63,6 +63,31 @@ fn read_within(alloc: Global, text: &[u8], limits: &Limits) -> Result<String, Al
             }
         }
         Err(_) if of_str => String::from_str(alloc, "another outcome as a string"),
+        Err(error) => format!(in alloc; "{error}"),
+    }
+}
+
+/// Whether a text that may have floats is read within limits, as a tree and as a tape: `ok`, or why not.
+pub fn read_floats(alloc: Global, row: &str) -> Result<String, AllocError> {
+    let Some((limits, text)) = limited(alloc, row)? else {
+        return String::from_str(alloc, "no limits and bytes");
+    };
+    let tree = match floats::from_slice(alloc, text.as_slice(), &limits) {
+        Ok(tree) => {
+            tree.discard();
+            Ok(())
+        }
+        Err(error) => Err(error),
+    };
+    let tape = match tape_from_slice(alloc, text.as_slice(), &limits) {
+        Ok(_) => Ok(()),
+        Err(error) => Err(error),
+    };
+    if tree != tape {
+        return String::from_str(alloc, "another outcome as a tape");
+    }
+    match tree {
+        Ok(()) => String::from_str(alloc, "ok"),
         Err(error) => format!(in alloc; "{error}"),
     }
 }

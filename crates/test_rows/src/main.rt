@@ -8,9 +8,11 @@
 //! - `hash 000107`: reads a multihash. `names 85 00`: the CID of a block. `verify 01550000 00`: whether a block is a CID's. `codes`: the
 //!   constants.
 //! - `get 1|[ true null ]`: looks into a tree, by a string; `at 1|[ true null ]`: by a number; `path a/1|{ a: [ true null ] }`: by a path.
-//! - `debug [ 1 link ]`: the debug strings of a tree. `deep link lists*1000`: walks and copies a tree that may nest deep.
+//! - `debug [ 1 link ]`: the debug strings of a tree. `deep link lists*1000`: walks and copies a tree that may nest deep. `walks 2 link
+//!   lists*1000`: walks it to its end so many times.
 //! - `json [ 1 link ]`: the tree as DAG-JSON, or the error as its name and as a sentence. `fromjson 2 9 5b315d`: what a text is read as within
 //!   limits on its levels and values: the text that is written of its tree, behind `=` where it is this one, or the error.
+//!   `floatjson 2 9 5b315d`: whether a text that may have floats is read within limits, or the error.
 //! - `as u8|255`: converts a tree. `call seq|[ 1 ]`: calls a deserializer. `value tuple.2|[ 1 true ]`: reads a typed value from a tree, and
 //!   writes it again.
 //! - `links 64 seq link A seqend`: extracts the links of tokens; `tree seq int:1 seqend`: reads them as a tree. Both end with the number
@@ -88,8 +90,10 @@ fn of_trees(alloc: Global, word: &str, rest: &str) -> Result<String, AllocError>
         "path" => indexes::by_path(alloc, rest),
         "debug" => debug::tree(alloc, rest),
         "deep" => deep::walk_row(alloc, rest),
+        "walks" => deep::walks(alloc, rest),
         "json" => json::tree(alloc, rest),
         "fromjson" => json::read(alloc, rest),
+        "floatjson" => json::read_floats(alloc, rest),
         "as" => convert::tree(alloc, rest),
         "call" => calls::call(alloc, rest),
         "value" => values::value(alloc, rest),

@@ -10,14 +10,14 @@ const A: [u8; 4] = [0x01, 0x55, 0x00, 0x00];
 const B: [u8; 5] = [0x01, 0x55, 0x00, 0x01, 0x07];
 
 /// The tokens of the words between blanks: the tokens' names, some of them with what they hold behind a colon, as `str:a`, `int:1` and
-/// `seq:0`; `A` and `B` for the bytes of the two CIDs, `cut` for the first two of A, and `nothing` for no bytes. Behind a word, or some that
-/// are joined by `&`, `*9` says how often they stand. None for any other words.
+/// `seq:0`; `bytes:` before hexadecimal digits, `A` and `B` for the bytes of the two CIDs, `cut` for the first two of A, and `nothing` for no
+/// bytes. Behind a word, or some that are joined by `&`, `*9` says how often they stand. None for any other words.
 pub fn tokens<'a>(alloc: Global, words: &'a str) -> Result<Option<Vec<Token<'a>>>, AllocError> {
     let mut tokens = Vec::new(alloc);
     for word in words.split_ascii_whitespace() {
         let (some, times) = repeated(word);
         for _ in 0..times {
-            if !push_each(&mut tokens, some)? {
+            if !push_each(alloc, &mut tokens, some)? {
                 return Ok(None);
             }
         }
@@ -33,9 +33,13 @@ fn repeated(word: &str) -> (&str, u32) {
 }
 
 // Whether each word is a token's.
-fn push_each<'a>(tokens: &mut Vec<Token<'a>>, words: &'a str) -> Result<bool, AllocError> {
+fn push_each<'a>(
+    alloc: Global,
+    tokens: &mut Vec<Token<'a>>,
+    words: &'a str,
+) -> Result<bool, AllocError> {
     for word in words.split('&') {
-        match token(word) {
+        match token(alloc, word) {
             Some(token) => tokens.push(token)?,
             None => return Ok(false),
         }
@@ -43,9 +47,9 @@ fn push_each<'a>(tokens: &mut Vec<Token<'a>>, words: &'a str) -> Result<bool, Al
     Ok(true)
 }
 
-fn token<'a>(word: &'a str) -> Option<Token<'a>> {
+fn token<'a>(alloc: Global, word: &'a str) -> Option<Token<'a>> {
     match word.split_once(':') {
-        Some((name, content)) => holding(name, content),
+        Some((name, content)) => holding(alloc, name, content),
         None => named(word),
     }
 }
@@ -75,8 +79,12 @@ fn named(name: &str) -> Option<Token<'static>> {
     }
 }
 
-fn holding<'a>(name: &str, content: &'a str) -> Option<Token<'a>> {
+fn holding<'a>(alloc: Global, name: &str, content: &'a str) -> Option<Token<'a>> {
     match name {
+        "bytes" => {
+            let bytes = hex::decode(alloc, content).ok()?;
+            Some(Token::Bytes(TokenBytes::Owned(bytes)))
+        }
         "str" => Some(Token::Str(content)),
         "char" => Some(Token::Char(content.chars().next()?)),
         "int" => Some(Token::Int(content.parse().ok()?)),

@@ -40,6 +40,8 @@ pub fn links(alloc: Global, line: &str) -> Result<String, AllocError> {
     match capacity {
         "0" => extracted::<0>(alloc, tokens.as_slice()),
         "1" => extracted::<1>(alloc, tokens.as_slice()),
+        "16" => extracted::<16>(alloc, tokens.as_slice()),
+        "32" => extracted::<32>(alloc, tokens.as_slice()),
         "64" => extracted::<64>(alloc, tokens.as_slice()),
         _ => String::from_str(alloc, "no such capacity"),
     }

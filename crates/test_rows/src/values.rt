@@ -73,7 +73,7 @@ fn scalar(alloc: Global, name: &str, tree: Ipld) -> Result<String, AllocError> {
         "String" => read::<String>(alloc, tree),
         "ByteBuf" => read::<ByteBuf>(alloc, tree),
         "Cid" => read::<Cid>(alloc, tree),
-        "Option" => read::<Option<bool>>(alloc, tree),
+        "Option" => read::<Option<u8>>(alloc, tree),
         "[u8; 2]" => read::<[u8; 2]>(alloc, tree),
         _ => no_such_type(alloc),
     }
@@ -130,7 +130,7 @@ type Ten = (u8, u8, u8, u8, u8, u8, u8, u8, u8, bool);
 fn tuple(alloc: Global, name: &str, tree: Ipld) -> Result<String, AllocError> {
     match name {
         "1" => read::<(i64,)>(alloc, tree),
-        "2" => read::<(i64, bool)>(alloc, tree),
+        "2" => read::<(bool, String)>(alloc, tree),
         "3" => read::<(u8, Option<bool>, String)>(alloc, tree),
         "4" => read::<(u64, char, bool, Option<u8>)>(alloc, tree),
         "5" => read::<(u8, u8, u8, Option<u8>, bool)>(alloc, tree),
