@@ -16,11 +16,11 @@ that is done without the word. Then it runs
 
     pages      as above
     format     how the sources are laid out, and what the linters of their languages say of them
-    proofs     rt ci: each proof, test, row and stored run, by both compilers. What an earlier run
-               proved on this machine is kept beside the kit
+    proofs     rt ci: each proof, test, row and stored run, by both compilers, and each edit in
+               crates/*/must-fail. What an earlier run proved on this machine is kept beside the kit
     mutants    the prover has to reject each wrong body in crates/*/mutants
     programs   the programs `ipld` and `ipld_links` by all their words, each allocation failing in
-               turn, and a repository made by ./use-in
+               turn, calls of `ipld!` that must not compile, and a repository made by ./use-in
     bindings   the packages for C, Rust, Python and JavaScript
     bench      each row of the benchmark once
     readme     the commands of README.md in a bare root
@@ -65,6 +65,8 @@ PAGES = (
 SECONDS_FOR_A_TEST, SECONDS_FOR_A_PROGRAM = 60, 120
 # How much of a failed `rt ci` is shown, in lines.
 LINES_SHOWN = 300
+# What `rt ci` says of an edit of must-fail/ that shows nothing of a contract. It lets both pass.
+SHOWS_NOTHING = re.compile(r": BAD EDIT: |: refused, .* \(only because a proof file names ")
 # What a build or a crate's proof may need, in bytes.
 MEMORY_OF_A_BUILD, MEMORY_OF_A_PROOF = 2_500_000_000, 5_000_000_000
 
@@ -270,27 +272,29 @@ def pages():
 
 def proofs():
     """
-    Runs `rt ci`, one job a crate: more jobs for one crate take half as many core seconds again.
+    Runs `rt ci`, one job a crate: more jobs for one crate take half as many core seconds again. An
+    edit of must-fail/ that can't be applied or compiled fails here, and so does one that is
+    rejected only for a name in a proof file.
     """
     say("-- rt ci")
     environment = {**os.environ, "RT_JOBS": str(processors_for(MEMORY_OF_A_PROOF))}
-    said = collections.deque(maxlen=LINES_SHOWN)
+    said, failed = collections.deque(maxlen=LINES_SHOWN), []
     with subprocess.Popen(
         ["rt", "ci"], cwd=TOP, env=environment, stdout=subprocess.PIPE, text=True, errors="replace"
     ) as running:
         for line in running.stdout:
             said.append(line)
+            if SHOWS_NOTHING.search(line):
+                failed.append(line.strip())
             # There are many thousands of lines, of single goals and modules.
             if line.startswith("rt: ") and "warning: " not in line:
                 print(line, end="", flush=True)
     counts = re.fullmatch(r"(\d+) passed, (\d+) failed\n", said[-1]) if said else None
     if counts and not running.returncode:
-        return Result(int(counts[1]))
+        return Result(int(counts[1]), failed)
     print("".join(said), end="", flush=True)
-    return Result(
-        int(counts[1]) if counts else 0,
-        [f"rt ci: status {running.returncode}: its last lines are above"],
-    )
+    failed.append(f"rt ci: status {running.returncode}: its last lines are above")
+    return Result(int(counts[1]) if counts else 0, failed)
 
 
 def mutants():
@@ -299,7 +303,11 @@ def mutants():
 
 def the_programs():
     return commands(
-        [".ci/program-runs"], [".ci/ipld-runs"], [".ci/failed-allocations"], [".ci/use-in"]
+        [".ci/program-runs"],
+        [".ci/ipld-runs"],
+        [".ci/failed-allocations"],
+        [".ci/no-compile"],
+        [".ci/use-in"],
     )
 
 
