@@ -13,8 +13,12 @@ use crate::nesting::nesting_within;
 use std::alloc::{AllocError, Global};
 use std::mem;
 
-// How many levels of nesting a call goes down by recursion, before it goes on with a stack that grows.
+// How many levels a call that copies, drops or gathers goes down by recursion, before it goes on by a loop.
 pub(crate) const SHALLOW: usize = 32;
+
+// How many levels are measured by recursion, before that goes on with a stack that grows: as many as `Limits::default()` allows. A list
+// takes 48 bytes of the call stack, and a map 160.
+const MEASURED: usize = 1024;
 
 // A walk in the order of `IpldIter` that allocates as it goes deeper: the innermost cursor, and those around it.
 #[derive(Drop)]
@@ -74,28 +78,31 @@ impl<'a> GrowingWalk<'a> {
 }
 
 impl Ipld {
-    /// How deep lists and maps nest, as [`Ipld::nesting`] says. It recurses for at most 32 levels, and measures a deeper tree by a
-    /// loop, so that trees of any depth are measured.
+    /// Returns how deep lists and maps nest, as [`Ipld::nesting`] does, of a tree of any depth.
     ///
-    /// It allocates, where lists or maps nest more than 32 levels deep, for a stack that grows with their nesting, and returns
-    /// `AllocError` where that fails.
+    /// It recurses for at most 1,024 levels, which takes at most 256 KiB of the call stack, and measures a deeper tree by a loop.
+    ///
+    /// # Errors
+    ///
+    /// `AllocError` if an allocation fails. It allocates only if lists or maps nest more than 1,024 levels deep, for a stack that
+    /// grows with their nesting.
     pub fn try_nesting(&self, alloc: Global) -> Result<usize, AllocError>
         ensures nested { IfOk result (λ n. n ≡ nest (tree_of self.now)) }
         ensures whole { OnOk result (IsWhole (tree_of self.now)) }
-        ensures deep { OnErr result (32 < nest (tree_of self.now)) }
+        ensures deep { OnErr result (1024 < nest (tree_of self.now)) }
     {
         Ok(slots_needed(alloc, self)? - 1)
     }
 }
 
-// How many cursors a walk of the value holds at most: found by recursion for a shallow tree, for a deeper one by a walk whose
-// stack grows.
+// How many cursors a walk of the value holds at most: found by recursion down to `MEASURED` levels, for a deeper tree by a walk
+// whose stack grows.
 pub(crate) fn slots_needed(alloc: Global, value: &Ipld) -> Result<usize, AllocError>
     ensures slots { IfOk result (λ n. n ≡ 1 + nest (tree_of value.now)) }
     ensures whole { OnOk result (IsWhole (tree_of value.now)) }
-    ensures deep { OnErr result (32 < nest (tree_of value.now)) }
+    ensures deep { OnErr result (1024 < nest (tree_of value.now)) }
 {
-    if let Some(levels) = nesting_within(value, SHALLOW) {
+    if let Some(levels) = nesting_within(value, MEASURED) {
         return Ok(levels + 1);
     }
     let mut walk = GrowingWalk::new(alloc, value);

@@ -89,9 +89,13 @@ impl Ipld {
     /// Begins a walk of the tree: a list or a map comes before what it holds, items in order, values in byte order of their
     /// keys, and keys not at all.
     ///
-    /// It measures the nesting first: without allocating where lists and maps nest at most 32 levels deep, and else by a loop
-    /// with a stack of its own, for which it allocates. It then allocates at once a slot for the value itself and one for each
-    /// level of nesting, and the walk allocates no more. It returns `AllocError` where an allocation fails.
+    /// It measures the nesting first, as [`Ipld::try_nesting`] does, and then allocates at once a slot for the value itself and one for
+    /// each level of nesting. So it allocates once if lists and maps nest at most 1,024 levels deep; of a deeper tree measuring allocates
+    /// too. The walk allocates no more.
+    ///
+    /// # Errors
+    ///
+    /// `AllocError` if an allocation fails.
     pub fn iter(&self, alloc: Global) -> Result<IpldIter<'_>, AllocError>
         ensures walk { IfOk result (λ w. rest w ≡ preorder (tree_of self.now)) }
         ensures slots { IfOk result (λ w. slots w.levels ≡ 1 + nest (tree_of self.now)) }

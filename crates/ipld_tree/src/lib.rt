@@ -18,8 +18,8 @@
 //! # Deep trees
 //!
 //! [`Ipld::iter`], [`Ipld::references`], [`Ipld::try_clone`], [`Ipld::try_nesting`], [`Ipld::same_tree`] and [`Ipld::discard`] go
-//! to any depth, and so does a clone: they are loops, and the first four recurse for at most 32 levels before theirs. What [`Ipld::take`] or a
-//! conversion leaves out, a copy that fails and what [`ipld!`] has built where an allocation fails is dropped by a loop too.
+//! to any depth, and so does a clone: they are loops. Before theirs [`Ipld::references`] and [`Ipld::try_clone`] recurse for at most 32
+//! levels, [`Ipld::iter`] and [`Ipld::try_nesting`] for at most 1,024. What [`Ipld::take`] or a conversion leaves out, a copy that fails and what [`ipld!`] has built where an allocation fails is dropped by a loop too.
 //!
 //! `==`, printing, the ordinary drop and [`Ipld::nesting`] are recursive, with a call for each level of nesting, so that the
 //! call stack limits how deep a tree may nest: call [`Ipld::discard`] in place of dropping a tree from untrusted input,

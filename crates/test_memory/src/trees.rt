@@ -142,7 +142,7 @@ fn copied(rt: HostRuntime) -> Result<(), Ended> {
 // Lists in one another, so deep that they are measured by a loop.
 fn deep(alloc: Global) -> Result<Ipld, AllocError> {
     let mut tree = Ipld::Null;
-    for _ in 0..33u8 {
+    for _ in 0..1_025u16 {
         let mut items = Vec::with_capacity(alloc, 1)?;
         items.push(tree)?;
         tree = Ipld::List(items);
