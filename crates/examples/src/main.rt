@@ -4,6 +4,7 @@
 #![tactic(auto)]
 
 mod bytes_to_text;
+mod car_in_memory;
 mod own_codec;
 mod own_source;
 mod own_type;
@@ -18,5 +19,6 @@ fn main(rt: HostRuntime) -> anyhow::Result<()> {
     own_type::show(&rt, rt.alloc())?;
     own_codec::show(&rt, rt.alloc())?;
     own_source::show(&rt, rt.alloc())?;
-    untrusted_links::show(&rt, rt.alloc())
+    untrusted_links::show(&rt, rt.alloc())?;
+    car_in_memory::show(&rt, rt.alloc())
 }

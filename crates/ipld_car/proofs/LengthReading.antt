@@ -37,7 +37,7 @@ groups_none old room = record {
 }
 
 -- the bytes so far begin a varint
-begins : (old new : Option (List ℕ)) (taken : List ℕ) (value place room : ℕ) → ReadsGroups old new taken value place room → BeginsVarint taken
+pub begins : (old new : Option (List ℕ)) (taken : List ℕ) (value place room : ℕ) → ReadsGroups old new taken value place room → BeginsVarint taken
 unfolding read_varint
 begins old new taken value place room g = ap (read_from 0) (sym (append-nil taken)) ∙ sym (g.ahead [])
 
@@ -89,7 +89,7 @@ next old mid taken value place room byte rest g = ap (read_from 0) (append_assoc
 stopped : (place byte : ℕ) (rest : List ℕ) (error : CidError) → error_at place byte ≡ Some error → read_from place (byte ∷ rest) ≡ Err error
 stopped place byte rest error e = rw e refl
 
-no_varint : (old mid : Option (List ℕ)) (taken : List ℕ) (value place room byte : ℕ) (error : CidError) → ReadsGroups old mid taken value place room
+pub no_varint : (old mid : Option (List ℕ)) (taken : List ℕ) (value place room byte : ℕ) (error : CidError) → ReadsGroups old mid taken value place room
     → error_at place byte ≡ Some error → IsNoVarint (taken ++ byte ∷ []) error
 unfolding read_varint
 no_varint old mid taken value place room byte error g e = record {
@@ -110,14 +110,14 @@ error_among true b = inl (inr refl)
 error_among false true = inr refl
 error_among false false = inl (inl refl)
 
-error_is : (place byte : ℕ) → ((error_at place byte ≡ None) ⊎ (error_at place byte ≡ Some VarintTooLarge)) ⊎ (error_at place byte ≡ Some VarintNotShortest)
+pub error_is : (place byte : ℕ) → ((error_at place byte ≡ None) ⊎ (error_at place byte ≡ Some VarintTooLarge)) ⊎ (error_at place byte ≡ Some VarintNotShortest)
 unfolding error_by
 error_is place byte = error_among (eqb place 9 && ltb 1 byte) (ltb 0 place && eqb byte 0)
 
-same_kind : (found kind : CarErrorKind) → ◌≡◌ {A = Option CarErrorKind} (Some found) (Some kind) → found ≡ kind
+pub same_kind : (found kind : CarErrorKind) → ◌≡◌ {A = Option CarErrorKind} (Some found) (Some kind) → found ≡ kind
 same_kind found kind e = cc
 
-no_kind : (kind : CarErrorKind) → ◌≡◌ {A = Option CarErrorKind} None (Some kind) → ⊥
+pub no_kind : (kind : CarErrorKind) → ◌≡◌ {A = Option CarErrorKind} None (Some kind) → ⊥
 no_kind kind e = cc
 
 -- no varint begins with the byte there

@@ -7,7 +7,7 @@ use Rattle.ipld_car.specs.declared.error.CarErrorKind.{CarErrorKind}
 use Rattle.ipld_car.specs.declared.error.CarErrorKind.TheVariants.{UnexpectedEnd, LengthNotShortest, LengthTooLarge}
 use Rattle.ipld_car.specs.Lengths.{ReadsLength, kind_of}
 use Rattle.ipld_car.specs.Taking.{IsOfReader, TakesByte}
-use Rattle.ipld_car.proofs.LengthReading.{ReadsGroups, length_cut}
+use Rattle.ipld_car.proofs.LengthReading.{ReadsGroups, length_cut, no_kind, same_kind}
 
 -- the byte at a place, taken
 take_more : (bytes : List ℕ) (place : ℕ) → place < length bytes → take (suc place) bytes ≡ take place bytes ++ get_or bytes place 0 ∷ []
@@ -64,12 +64,6 @@ length_cut_in bytes value place g many some =
 
 pub no_zero : (n : ℕ) → n ≡ 0 → (n == 0) ≡ false → ⊥
 no_zero n e f = let t = sym (ap (λ (k : ℕ). k == 0) e) ∙ f in cc
-
-no_kind : (kind : CarErrorKind) → ◌≡◌ {A = Option CarErrorKind} None (Some kind) → ⊥
-no_kind kind e = cc
-
-same_kind : (found kind : CarErrorKind) → ◌≡◌ {A = Option CarErrorKind} (Some found) (Some kind) → found ≡ kind
-same_kind found kind e = cc
 
 -- what is wrong with a length is no error of a reader
 pub own_length : (error : Option CidError) (kind : CarErrorKind) → kind_of error ≡ Some kind → IsOfReader kind → ⊥

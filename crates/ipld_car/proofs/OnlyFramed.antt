@@ -15,10 +15,10 @@ use Rattle.ipld_car.specs.Taking.{Ends, IsReaderError}
 abbrev pub Reading : Type 0
 Reading = Result (ℕ × List ℕ) CidError
 
-not_both : (n : ℕ) (rest : List ℕ) (error : CidError) (r : Reading) → r ≡ Ok (n, rest) → r ≡ Err error → ⊥
+pub not_both : (n : ℕ) (rest : List ℕ) (error : CidError) (r : Reading) → r ≡ Ok (n, rest) → r ≡ Err error → ⊥
 not_both n rest error r p q = let both = sym p ∙ q in cc
 
-abbrev number_in : Reading → ℕ
+abbrev pub number_in : Reading → ℕ
 number_in (Ok p) = p.0
 number_in (Err e) = 0
 

@@ -2,7 +2,7 @@
 use Rattle.std.proofs.Common.{◌≡◌, ℕ, zero, suc, ◌+◌, ◌-◌, ◌^◌, ◌<◌, ◌≤◌, nat_lt, min, Bool, true, false, List, [], ◌∷◌, ◌++◌, length, take, drop, Option, Some, None, Ok, Err, inl, inr, refl, sym, ap, subst, ◌∙◌, arith, append_assoc, append-nil, length-append}
 use Rattle.std.proofs.lemmas.Bool.{ltb-true, ltb-false}
 use Rattle.std.proofs.lemmas.List.{take-append-drop}
-use Rattle.ipld_cid.specs.Bytes.{read_cid}
+use Rattle.ipld_cid.specs.Bytes.{IsCid, read_cid}
 use Rattle.ipld_cid.specs.Cid.{Link}
 use Rattle.ipld_cid.specs.Front.{BeginsWith}
 use Rattle.ipld_cid.specs.Varint.{IsVarint, read_varint}
@@ -191,6 +191,33 @@ section_missing at end start size found car error in_front behind s f none made 
 })
 
 -- ---- a section that stands there
+
+some_varint : (n : ℕ) (bytes : List ℕ) → IsVarint n bytes → 0 < length bytes
+some_varint n [] v = absurd v.encoded
+some_varint n (b ∷ bytes) v = omega arith
+
+some_cid : (bytes : List ℕ) (link : Link) → IsCid 64 bytes link → 0 < length bytes
+some_cid bytes link (inl v0) = let e = ap length v0.encoded in omega arith
+some_cid bytes link (inr v1) =
+    let e = ap length v1.encoded ∙ length-append (v1.version ++ v1.codec ++ v1.code ++ v1.size) link.digest in
+    let digest_behind = length-append (v1.version ++ v1.codec ++ v1.code) v1.size in
+    let size_behind = length-append (v1.version ++ v1.codec) v1.code in
+    let code_behind = length-append v1.version v1.codec in
+    let some = some_varint 1 v1.version v1.version_encoded in omega arith
+
+-- its parts come one after the other, within the bytes
+pub parts_inside : (at end : ℕ) (car : List ℕ) (span : SectionSpan) (block : Block) → at < end → SpansSection (between at end car) at block span
+    → (at < span.cid) × (span.cid < span.block) × (span.block ≤ span.end) × (span.end ≤ end) × (span.end ≤ length car)
+parts_inside at end car span block in_front s =
+    let size = some_varint (length (s.is_section.cid ++ block.bytes)) s.is_section.size s.is_section.size_encoded in
+    let cid = some_cid s.is_section.cid block.cid s.is_section.cid_encoded in
+    let section = ap length s.is_section.encoded ∙ length-append (s.is_section.size ++ s.is_section.cid) block.bytes in
+    let front = length-append s.is_section.size s.is_section.cid in
+    let all = sym (between_len at end car) ∙ ap length s.parts ∙ length-append s.section s.rest in
+    let c = s.cid_begins in
+    let b = s.block_begins in
+    let e = s.ends in
+    (omega arith, omega arith, omega arith, omega (arith, min), omega (arith, min))
 
 limited : (section : List ℕ) (block : Block) → IsSection section block → length (content_of block) ≤ 2 ^ 64 - 1
 limited section block s =

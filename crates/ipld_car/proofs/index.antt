@@ -1,6 +1,7 @@
 mod Blaming
 mod Filling
 mod Finding
+mod Formats
 mod Grouping
 mod Only
 mod Taking

@@ -3,13 +3,15 @@ use Rattle.std.specs.Prelude.{ℕ, List, ◌++◌, codes, Some, None, false}
 use Rattle.std.specs.declared.option.Option.{Option}
 use Rattle.std.specs.Fmt.{decimal, digits}
 use Rattle.ipld_car.specs.declared.index.error.IndexError.{IndexError}
-use Rattle.ipld_car.specs.declared.index.error.IndexError.TheVariants.{Memory, Read, UnexpectedEnd, Format, Width, Length, NotSorted}
+use Rattle.ipld_car.specs.declared.index.error.IndexError.TheVariants.{Memory, Read, UnexpectedEnd, FormatNotShortest, FormatTooLarge, Format, Width, Length, NotSorted}
 
 -- the sentence of an error, whatever the options; of an error of a reader and of another format it isn't said
 abbrev pub styled_sentence : IndexError → Option (List ℕ)
 styled_sentence Memory = Some (codes "out of memory")
 styled_sentence (Read error) = None
 styled_sentence UnexpectedEnd = Some (codes "the file ends within the index")
+styled_sentence FormatNotShortest = Some (codes "the varint of the index's format is not in its shortest form")
+styled_sentence FormatTooLarge = Some (codes "the index's format is 2^64 or more")
 styled_sentence (Format code) = None
 styled_sentence (Width width) = Some (codes "the index has rows of " ++ (decimal width ++ codes " bytes, and 8 to 72 are read"))
 styled_sentence (Length length) = Some (codes "the index has " ++ (decimal length ++ codes " bytes of rows, which is no number of rows"))

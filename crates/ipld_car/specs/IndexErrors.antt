@@ -1,14 +1,17 @@
 -- What is wrong with bytes that are no index of MultihashIndexSorted whose entries are sorted: the first thing that is, in the order of the bytes. What
 -- stands in front of it is the beginning of such an index. Bytes that end where an index goes on end early, whatever else there might have been.
-use Rattle.std.specs.Prelude.{◌≡◌, ◌≢◌, ◌≤◌, ◌<◌, ◌+◌, ◌*◌, ◌-◌, ◌%◌, ◌^◌, ℕ, nat_lt, if◌then◌else◌, List, [], ◌∷◌, ◌++◌, length, IfSome, Option}
+use Rattle.std.specs.Prelude.{◌≡◌, ◌≢◌, ◌≤◌, ◌<◌, ◌+◌, ◌*◌, ◌^◌, ℕ, List, [], ◌∷◌, ◌++◌, length, IfSome, Option}
+use Rattle.ipld_cid.specs.Varint.{IsVarint}
+use Rattle.ipld_cid.specs.declared.error.CidError.TheVariants.{NotShortest as VarintNotShortest, VarintTooLarge}
 use Rattle.ipld_car.specs.Index.{row, format_code}
 use Rattle.ipld_car.specs.IndexLayout.{IsOf, IsBucket, IsHash, Parts}
 use Rattle.ipld_car.specs.IndexNumbers.{le32, le64}
 use Rattle.ipld_car.specs.IndexOrder.{AreSorted}
 use Rattle.ipld_car.specs.IndexReading.{AreInOrder, AreRows}
+use Rattle.ipld_car.specs.Lengths.{BeginsVarint, IsNoVarint}
 use Rattle.ipld_car.specs.declared.index.entry.IndexEntry.{IndexEntry}
 use Rattle.ipld_car.specs.declared.index.error.IndexError.{IndexError}
-use Rattle.ipld_car.specs.declared.index.error.IndexError.TheVariants.{Memory, Read, UnexpectedEnd, Format, Width, Length, NotSorted}
+use Rattle.ipld_car.specs.declared.index.error.IndexError.TheVariants.{Memory, Read, UnexpectedEnd, FormatNotShortest, FormatTooLarge, Format, Width, Length, NotSorted}
 
 -- the error says what is wrong with known bytes, or that an allocation or the reader failed, which says nothing of them
 abbrev pub Blames : (List ℕ → IndexError → Type 0) → Option (List ℕ) → IndexError → Type 0
@@ -67,14 +70,13 @@ pub data WrongHash (before : List IndexEntry) : List ℕ → IndexError → Type
   wrong_bucket : (code count : ℕ) (rest : List ℕ) (error : IndexError) → code < 2 ^ 64 → count < 2 ^ 32
       → FirstWrong (Parts (IsBucket code)) (WrongBucket code) count before rest error → WrongHash before (le64 code ++ (le32 count ++ rest)) error
 
--- the code of a format by its first two bytes: of a varint of one byte or two, and of a longer one the lowest 14 bits
-abbrev pub code_in : ℕ → ℕ → ℕ
-code_in low high = if nat_lt low 128 then low else low - 128 + high % 128 * 128
-
--- what is wrong first with the code of the format: the bytes end within its two, or it is another one
+-- what is wrong first with the code of the format: the bytes end within its varint; that isn't in its shortest form, or encodes 2^64 or more; or it is the code of
+-- another format
 pub data WrongFormat : List ℕ → IndexError → Type 0 where
-  format_ends : (bytes : List ℕ) → length bytes < 2 → WrongFormat bytes UnexpectedEnd
-  other_format : (low high : ℕ) (rest : List ℕ) → low ∷ high ∷ [] ≢ format_code → WrongFormat (low ∷ high ∷ rest) (Format (code_in low high))
+  format_ends : (bytes : List ℕ) → BeginsVarint bytes → WrongFormat bytes UnexpectedEnd
+  format_not_shortest : (bytes rest : List ℕ) → IsNoVarint bytes VarintNotShortest → WrongFormat (bytes ++ rest) FormatNotShortest
+  format_too_large : (bytes rest : List ℕ) → IsNoVarint bytes VarintTooLarge → WrongFormat (bytes ++ rest) FormatTooLarge
+  other_format : (code : ℕ) (bytes rest : List ℕ) → IsVarint code bytes → code ≢ 0x0401 → WrongFormat (bytes ++ rest) (Format code)
 
 -- what is wrong first with bytes that are no index whose entries are sorted: the code of the format, the bytes end within how many hash functions there are, or
 -- the rows of one of these are wrong

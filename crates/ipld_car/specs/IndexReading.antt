@@ -5,6 +5,7 @@ use Rattle.std.specs.Io.KnownBytes.{Consumes}
 use Rattle.std.specs.List.{All}
 use Rattle.std.specs.declared.io.ErrorKind.{ErrorKind}
 use Rattle.std.specs.declared.io.ErrorKind.TheVariants.{OutOfMemory, UnexpectedEof}
+use Rattle.ipld_cid.specs.Varint.{IsVarint}
 use Rattle.ipld_car.specs.Index.{row, rows, format_code}
 use Rattle.ipld_car.specs.IndexLayout.{IsOf, IsIndex}
 use Rattle.ipld_car.specs.IndexOrder.{AreSorted}
@@ -76,6 +77,12 @@ pub record ReadsPart (IsPart : List ℕ → List IndexEntry → Type 0) (old new
     (result : Result (Unit {0}) IndexError) : Type 0 where
   pub reads : (bytes rest : List ℕ) (entries : List IndexEntry) → old ≡ Some (bytes ++ rest) → IsPart bytes entries → AreInOrder (before ++ entries)
       → MatchResult result (λ _. (new ≡ Some rest) × (after ≡ before ++ entries)) IsOfReader
+
+-- the varint of the code of a format was taken
+pub record TakesCode (old new : Option (List ℕ)) (code : ℕ) : Type 0 where
+  pub bytes : List ℕ
+  pub is_varint : IsVarint code bytes
+  pub consumed : Consumes old new bytes
 
 -- known bytes that begin with the code of the format are no error
 pub record ReadsFormat (old : Option (List ℕ)) (result : Result (Unit {0}) IndexError) : Type 0 where

@@ -1,10 +1,11 @@
 -- Where a reader stands in a CAR.
-use Rattle.std.specs.Prelude.{◌≡◌, ◌+◌, ℕ, List, map, Option}
+use Rattle.std.specs.Prelude.{◌≡◌, ◌+◌, ℕ, List, map, Option, Some, None}
 use Rattle.ipld_cid.specs.Cid.{Link}
 use Rattle.ipld_cid.specs.LinkOf.{link_of}
 use Rattle.ipld_car.specs.declared.error.CarError.{CarError}
 use Rattle.ipld_car.specs.declared.reader.CarReader.{CarReader}
 use Rattle.ipld_car.specs.declared.version.CarVersion.{CarVersion}
+use Rattle.ipld_car.specs.declared.version.CarVersion.TheVariants.{V1, V2}
 use Rattle.ipld_car.specs.Opening.{OpenFault}
 
 -- True if the reader is `count` bytes further in the CAR, and nothing else of it changed except its
@@ -25,6 +26,12 @@ pub record HasOpened {R : Type 0} (car : CarReader R) (version : CarVersion) (ro
   pub starts : car.start ≡ start
   pub stands : car.offset ≡ offset
   pub ends : car.end ≡ end
+
+-- Where the sections of a CAR end that goes on to `end`: version 2 states it in its header, and
+-- version 1 does not state it.
+abbrev pub stated_end : CarVersion → ℕ → Option ℕ
+stated_end V1 end = None
+stated_end V2 end = Some end
 
 -- True if the error is why the part before the sections is not read: `OpenFault`, in one of its
 -- three headers, with the place. How much of the reader was then left is not stated.

@@ -12,7 +12,8 @@
 //! }
 //! ```
 //!
-//! Versions 1 and 2 are read, of version 2 its payload, whose index is skipped. Version 1 is written.
+//! Versions 1 and 2 are read, of version 2 its payload, whose index is skipped. Version 1 is written. [`section_at`] finds the sections of a CAR
+//! whose bytes are all in memory, without a copy.
 //!
 //! The index of a file of version 2 says where the block of a CID stands, so that the blocks before it need not be read. [`CarIndex`] is made
 //! of the places of blocks and written in the format MultihashIndexSorted, [`read_index`] reads one, [`entries_of`] finds the places of a

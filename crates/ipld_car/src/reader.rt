@@ -39,7 +39,7 @@ impl<R: BufRead> CarReader<R> {
     ghost use Rattle.ipld_car.specs.Reading.{ReadsSection, EndsOf, Leaves, UnlessReaderFails};
     ghost use Rattle.ipld_car.specs.Section.{Block, IsSection, content_of};
     ghost use Rattle.ipld_car.specs.SectionOf.{taken_of, block_of};
-    ghost use Rattle.ipld_car.specs.Position.{Moves, FaultOf, HasOpened};
+    ghost use Rattle.ipld_car.specs.Position.{Moves, FaultOf, HasOpened, stated_end};
 
     /// Reads what stands before the sections, and nothing more: the header, or of version 2 the pragma, the header and the header of its
     /// payload. Neither a header nor a section may have more than `limit` bytes behind its length.
@@ -89,15 +89,27 @@ impl<R: BufRead> CarReader<R> {
         &self.roots
     }
 
-    /// The offset in the file at which the sections end: of version 2 where its payload does by its header, also where the file ends
-    /// before that; 2^64 - 1 of version 1, which ends where the file does.
-    pub fn end(&self) -> u64
-        ensures { result ≡ self.now.end }
+    /// Returns the offset in the file at which the payload begins: of version 1 it is 0, since the file is the payload.
+    ///
+    /// The first section begins behind the payload's header, at the [`offset`](CarReader::offset) of a new reader.
+    pub fn start(&self) -> u64
+        ensures { result ≡ self.now.start }
     {
-        self.end
+        self.start
     }
 
-    /// The offset in the file at which the next section begins: so many bytes were read.
+    /// Returns the offset in the file at which the sections end, or `None` of version 1, whose sections end where the file does. Of version 2 it
+    /// is where the payload ends by its header, also if the file ends before that.
+    pub fn end(&self) -> Option<u64>
+        ensures { result ≡ stated_end self.now.version self.now.end }
+    {
+        match self.version {
+            CarVersion::V1 => None,
+            CarVersion::V2 => Some(self.end),
+        }
+    }
+
+    /// Returns the offset in the file at which the next section begins: so many bytes were read.
     pub fn offset(&self) -> u64
         ensures { result ≡ self.now.offset }
     {

@@ -58,12 +58,26 @@ fn split_section(bytes: &[u8], at: usize) -> Result<Option<SectionSpan>, CarErro
     }
 }
 
-/// Where the section stands that begins at the byte `at` of a CAR, which is read up to the byte `end`; `None` where `at` is `end` or
+/// Returns where the section stands that begins at the byte `at` of a CAR, which is read up to the byte `end`; `None` if `at` is `end` or
 /// behind it. Nothing is copied, and it does not allocate.
 ///
-/// [`CarReader::offset`](crate::CarReader::offset) says where the first section begins, [`CarReader::end`](crate::CarReader::end) where the
-/// last one ends, and [`SectionSpan::end`] where the next one begins. `start` is where the payload begins, from which the lengths in an error count, or
-/// from `at` on where that comes before; any numbers may be passed. No limit is kept to: a section is as long as there are bytes.
+/// A [`CarReader`](crate::CarReader) of the same bytes has the numbers. Its [`start`](crate::CarReader::start) is the `start`, and its
+/// [`offset`](crate::CarReader::offset) is where the first section begins. Its [`end`](crate::CarReader::end) is the `end`, or if that is `None`,
+/// as of version 1, the number of bytes is. [`SectionSpan::end`] is where the next section begins:
+///
+/// ```rust
+/// let reader = CarReader::new(alloc, car, DEFAULT_LIMIT)?;
+/// let start = reader.start() as usize;
+/// let end = reader.end().unwrap_or(car.len() as u64) as usize;
+/// let mut at = reader.offset() as usize;
+/// while let Some(section) = section_at(car, start, at, end)? {
+///     println!(rt; "{} bytes", section.end - section.block)?;
+///     at = section.end;
+/// }
+/// ```
+///
+/// The lengths in an error count from `start`, or from `at` where that comes before it. Any numbers may be passed. There is no limit: a section
+/// is as long as there are bytes.
 ///
 /// # Errors
 ///
@@ -76,6 +90,7 @@ pub fn section_at(
     end: usize,
 ) -> Result<Option<SectionSpan>, CarError>
     ensures found { IfOk result (λ some. IfSome some (λ span. (at < end) × ((block : Block) × SpansSection (between at end car.now) at block span))) }
+    ensures inside { IfOk result (λ some. IfSome some (λ span. (at < span.cid) × (span.cid < span.block) × (span.block ≤ span.end) × (span.end ≤ end) × (span.end ≤ length car.now))) }
     ensures none { IfOk result (λ some. IfNone some (end ≤ at)) }
     ensures fault { IfErr result (λ error. (at < end) × Fails at (SpanFault (between at end car.now) (end - at) (end - min start at) (length car.now - min start at)) error) }
     ensures only { (block : Block) (section rest : List ℕ) → at < end → between at end car.now ≡ section ++ rest → IsSection section block

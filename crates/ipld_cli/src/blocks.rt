@@ -8,8 +8,8 @@ use crate::messages::{NamedCid, Outcome};
 use car_files::CarFileError;
 use indexmap::IndexMap;
 use ipld_car::{
-    CarError, CarErrorKind, CarHeader, CarReader, CarVersion, HEADER_END, IndexEntry, IndexError,
-    Section, entries_of, read_index,
+    CarError, CarErrorKind, CarHeader, CarReader, HEADER_END, IndexEntry, IndexError, Section,
+    entries_of, read_index,
 };
 use ipld_cid::Cid;
 use std::alloc::Global;
@@ -33,11 +33,10 @@ pub struct Blocks<'a> {
     file: &'a str,
     bytes: Bytes,
     limit: u64,
-    version: CarVersion,
     roots: Vec<Cid>,
-    // Where the payload begins and ends.
+    // Where the payload begins, and where it ends, if the header says.
     start: u64,
-    end: u64,
+    end: Option<u64>,
     // The entries of the index, as long as it is believed.
     index: Option<Vec<IndexEntry>>,
     passed: PassedSections,
@@ -161,10 +160,10 @@ pub fn open_indexed<'a>(rt: &'a HostRuntime, file: &'a str, limit: u64) -> Optio
 // What the header of a CAR says.
 #[derive(Drop)]
 struct Front {
-    version: CarVersion,
     roots: Vec<Cid>,
+    start: u64,
     first: u64,
-    end: u64,
+    end: Option<u64>,
 }
 
 // What the header of bytes says that begin as a CAR, or `None` of others.
@@ -182,8 +181,8 @@ fn read_front(rt: &HostRuntime, bytes: &Bytes, limit: u64) -> io::Result<Option<
         }
     };
     Ok(Some(Front {
-        version: car.version(),
         roots: Vec::from_slice(rt.alloc(), car.roots())?,
+        start: car.start(),
         first: car.offset(),
         end: car.end(),
     }))
@@ -252,9 +251,8 @@ fn blocks_of<'a>(
         file,
         bytes,
         limit,
-        version: front.version,
         roots: front.roots,
-        start: 0,
+        start: front.start,
         end: front.end,
         index: None,
         passed: PassedSections {
@@ -263,21 +261,20 @@ fn blocks_of<'a>(
         },
     };
     if let Some(header) = header {
-        blocks.start = header.payload;
         blocks.use_index(&header);
     }
     Ok(blocks)
 }
 
-// The reader of the sections from this byte of the file on, up to another.
+// The reader of the sections from this byte of the file on, up to another or to the file's end.
 fn sections_at<'a>(
     rt: &HostRuntime,
     bytes: &'a Bytes,
     from: u64,
-    end: u64,
+    end: Option<u64>,
     limit: u64,
 ) -> Result<Sections<'a>, CarFileError> {
-    let reader = NO_ROOTS.chain(BytesAt::new(bytes, from, end));
+    let reader = NO_ROOTS.chain(BytesAt::new(bytes, from, end.unwrap_or(u64::MAX)));
     let reader = BufReader::with_capacity(rt.alloc(), BUFFER, reader)?;
     // The file has a header, which is no shorter than this one, so the limit is no lower.
     match CarReader::new(rt.alloc(), reader, limit) {
@@ -408,10 +405,10 @@ impl<'a> Blocks<'a> {
 
     // No block more, where the payload ends, by its header too.
     fn end_of_payload(&self) -> Result<Option<Section>, CarFileError> {
-        match self.version {
-            CarVersion::V2 if self.passed.end < self.end => Err(CarFileError::Car(CarError {
+        match self.end {
+            Some(end) if self.passed.end < end => Err(CarFileError::Car(CarError {
                 kind: CarErrorKind::ShortPayload {
-                    expected: self.end.saturating_sub(self.start),
+                    expected: end.saturating_sub(self.start),
                     found: self.passed.end.saturating_sub(self.start),
                 },
                 section: self.passed.end,

@@ -1,24 +1,20 @@
 -- The order of what stands in a section, and the bounds of a CAR.
-use Rattle.std.proofs.Common.{◌≡◌, refl, ℕ, ◌≤◌, List, ◌++◌, length, ap, ◌∙◌, arith, length-append}
+use Rattle.std.specs.Prelude.{unwrap_or}
+use Rattle.std.proofs.Common.{◌≡◌, refl, ℕ}
 use Rattle.ipld_car.specs.declared.error.CarErrorKind.{CarErrorKind}
 use Rattle.ipld_car.specs.declared.error.CarErrorKind.TheVariants.{Memory, Read}
-use Rattle.ipld_car.specs.InMemory.{SpansSection}
-use Rattle.ipld_car.specs.Section.{Block}
 use Rattle.ipld_car.specs.Taking.{IsReaderError}
-use Rattle.ipld_car.specs.declared.span.SectionSpan.{SectionSpan}
+use Rattle.ipld_car.specs.declared.version.CarVersion.{CarVersion}
+use Rattle.ipld_car.specs.declared.version.CarVersion.TheVariants.{V1, V2}
+use Rattle.ipld_car.specs.Position.{stated_end}
 use Rattle.kombilad_c.specs.declared.car_open.CarBounds.{CarBounds}
+use Rattle.kombilad_c.specs.Car.{bounds_end}
 use Rattle.kombilad_c.specs.Status.{car_status}
 
--- the CID comes before the block, which ends with the section
-pub ordered : (bytes : List ℕ) (at : ℕ) (block : Block) (span : SectionSpan) → SpansSection bytes at block span → (span.cid ≤ span.block) × (span.block ≤ span.end)
-ordered bytes at block span s =
-    let size = s.is_section.size in
-    let cid = s.is_section.cid in
-    let whole = ap length s.is_section.encoded ∙ length-append (size ++ cid) block.bytes in
-    let front = length-append size cid in
-    let begins = s.cid_begins in
-    let behind = s.block_begins in
-    let ends = s.ends in (omega arith, omega arith)
+-- where the sections end of bytes: where the header says, else with them
+pub end_in : (version : CarVersion) (len end : ℕ) → unwrap_or (stated_end version end) len ≡ bounds_end version len end
+end_in V1 len end = refl
+end_in V2 len end = refl
 
 pub same_bounds : (v w s t e f : ℕ) → v ≡ w → s ≡ t → e ≡ f
     → ◌≡◌ {A = CarBounds} (record { version = v; sections = s; end = e }) (record { version = w; sections = t; end = f })

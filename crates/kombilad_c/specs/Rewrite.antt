@@ -1,5 +1,5 @@
 -- What the export that rewrites a block returns.
-use Rattle.std.specs.Prelude.{◌≡◌, ◌⊎◌, ℕ, true, List}
+use Rattle.std.specs.Prelude.{◌⊎◌, ℕ, true, List}
 use Rattle.ipld_tree.specs.declared.limits.Limits.{Limits}
 use Rattle.dag_cbor_tape.specs.Canonical.{IsCanonicalOf}
 use Rattle.kombilad_c.specs.Block.{IsWithin, IsStopped}

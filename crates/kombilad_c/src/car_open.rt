@@ -5,7 +5,7 @@ ghost use Rattle.ipld_cid.specs.Cid.{Link};
 ghost use Rattle.ipld_cid.specs.LinkOf.{link_of};
 ghost use Rattle.ipld_car.specs.Opening.{IsFront};
 ghost use Rattle.ipld_car.specs.declared.version.CarVersion as versions;
-ghost use Rattle.kombilad_c.specs.Car.{OpensCar, OpensAs, version_number, bounds_end};
+ghost use Rattle.kombilad_c.specs.Car.{OpensCar, OpensAs, version_number};
 ghost use Rattle.kombilad_c.specs.CidRecord.{record_of};
 ghost use Rattle.kombilad_c.specs.Fill.{Fills};
 
@@ -35,16 +35,6 @@ fn number_of(version: CarVersion) -> u64
     match version {
         CarVersion::V1 => 1,
         CarVersion::V2 => 2,
-    }
-}
-
-// Where the last section ends, of so many bytes.
-fn end_of(version: CarVersion, len: usize, end: u64) -> usize
-    ensures { result ≡ bounds_end version len end }
-{
-    match version {
-        CarVersion::V1 => len,
-        CarVersion::V2 => end as usize,
     }
 }
 
@@ -80,11 +70,10 @@ pub extern "C" fn kombilad_car_open(
 {
     match CarReader::new(alloc, car, limit as u64) {
         Ok(reader) => {
-            let version = reader.version();
             *opened = CarBounds {
-                version: number_of(version),
+                version: number_of(reader.version()),
                 sections: reader.offset() as usize,
-                end: end_of(version, car.len(), reader.end()),
+                end: reader.end().unwrap_or(car.len() as u64) as usize,
             };
             fill_roots(reader.roots(), roots, needed)
         }

@@ -1,5 +1,5 @@
 -- What reading an index says of its bytes, put together.
-use Rattle.std.proofs.Common.{◌≡◌, ◌≢◌, ◌≤◌, ◌<◌, ◌+◌, ◌*◌, ◌-◌, ◌/◌, ◌%◌, ◌^◌, ℕ, List, [], ◌∷◌, ◌++◌, length, take, slice_index_or, Option, Some, None, Result, Ok, Err, IfErr, refl, sym, ap, ◌∙◌, subst, append_assoc, append-nil, add-zero, arith}
+use Rattle.std.proofs.Common.{◌≡◌, ◌≢◌, ◌≤◌, ◌<◌, ◌+◌, ◌*◌, ◌-◌, ◌/◌, ◌%◌, ◌^◌, ℕ, List, [], ◌∷◌, ◌++◌, length, take, Option, Some, None, Result, Ok, Err, IfErr, refl, sym, ap, ◌∙◌, subst, append_assoc, append-nil, add-zero, arith}
 use Rattle.std.specs.Io.KnownBytes.{Consumes, IsAtEnd}
 use Rattle.std.proofs.KnownBytes.{Consumes-nil, Consumes-trans}
 use Rattle.std.proofs.Math.Nat.{div-add-mod, mul-mod_right}
@@ -9,11 +9,11 @@ use Rattle.ipld_car.specs.Index.{row, rows, format_code}
 use Rattle.ipld_car.specs.IndexLayout.{IsBucket, Parts, IsHash}
 use Rattle.ipld_car.specs.IndexNumbers.{le32, le64}
 use Rattle.ipld_car.specs.IndexReading.{TakesRows, TakesPart, AreInOrder, AreRows}
-use Rattle.ipld_car.specs.IndexErrors.{code_in, Blames, EndsWithin, IsUnsorted, FirstWrong, WrongRow, row_ends, unsorted, WrongBucket, width_ends, wrong_width, length_ends, wrong_length, wrong_row, WrongHash, hash_ends, wrong_bucket, WrongFormat, format_ends, other_format, WrongIndex, wrong_format, count_ends, wrong_hash}
+use Rattle.ipld_car.specs.IndexErrors.{Blames, EndsWithin, IsUnsorted, FirstWrong, WrongRow, row_ends, unsorted, WrongBucket, width_ends, wrong_width, length_ends, wrong_length, wrong_row, WrongHash, hash_ends, wrong_bucket, WrongFormat, WrongIndex, wrong_format, count_ends, wrong_hash}
 use Rattle.ipld_car.proofs.index.Taking.{ordered_none}
 use Rattle.ipld_car.specs.declared.index.entry.IndexEntry.{IndexEntry}
 use Rattle.ipld_car.specs.declared.index.error.IndexError.{IndexError}
-use Rattle.ipld_car.specs.declared.index.error.IndexError.TheVariants.{Memory, Read, UnexpectedEnd, Format, Width, Length, NotSorted}
+use Rattle.ipld_car.specs.declared.index.error.IndexError.TheVariants.{Memory, Read, UnexpectedEnd, FormatNotShortest, FormatTooLarge, Format, Width, Length, NotSorted}
 
 -- ---- known bytes
 
@@ -43,6 +43,8 @@ blames_end V count old mid taken (Read failure) p f e = tt
 blames_end V count None mid taken UnexpectedEnd p f e = tt
 blames_end V count (Some xs) None taken UnexpectedEnd p f e = absurd p
 blames_end V count (Some xs) (Some ys) taken UnexpectedEnd p f e = subst (λ l. V l UnexpectedEnd) (sym p) (f ys e)
+blames_end V count old mid taken FormatNotShortest p f e = absurd e
+blames_end V count old mid taken FormatTooLarge p f e = absurd e
 blames_end V count old mid taken (Format code) p f e = absurd e
 blames_end V count old mid taken (Width width) p f e = absurd e
 blames_end V count old mid taken (Length len) p f e = absurd e
@@ -73,6 +75,8 @@ unfolding row
 row_unsorted code digest_len offset digest hash old mid new before Memory p q fits is long u = tt
 row_unsorted code digest_len offset digest hash old mid new before (Read failure) p q fits is long u = tt
 row_unsorted code digest_len offset digest hash old mid new before UnexpectedEnd p q fits is long u = absurd u
+row_unsorted code digest_len offset digest hash old mid new before FormatNotShortest p q fits is long u = absurd u
+row_unsorted code digest_len offset digest hash old mid new before FormatTooLarge p q fits is long u = absurd u
 row_unsorted code digest_len offset digest hash old mid new before (Format other) p q fits is long u = absurd u
 row_unsorted code digest_len offset digest hash old mid new before (Width width) p q fits is long u = absurd u
 row_unsorted code digest_len offset digest hash old mid new before (Length len) p q fits is long u = absurd u
@@ -197,22 +201,6 @@ module _ (before : List IndexEntry) where
       blames_behind (FirstWrong (Parts (IsBucket code)) (WrongBucket code) count before) (WrongHash before) old two (le64 code ++ le32 count) error
       (Consumes-trans old one two (le64 code) (le32 count) p q)
       (λ rest w. subst (λ l. WrongHash before l error) (sym (append_assoc (le64 code) (le32 count) rest)) (wrong_bucket code count rest error low few w)) (b o)
-
-pub format_cut : (old : Option (List ℕ)) (error : IndexError) → EndsWithin 2 old error → Blames WrongFormat old error
-format_cut old error ends = blames_end_now WrongFormat 2 old error (λ bytes few. format_ends bytes few) ends
-
-pub two_bytes : (bytes : List ℕ) → length bytes ≡ 2 → bytes ≡ slice_index_or bytes 0 0 ∷ slice_index_or bytes 1 0 ∷ []
-two_bytes [] long = absurd (omega arith)
-two_bytes (a ∷ []) long = absurd (omega arith)
-two_bytes (a ∷ b ∷ []) long = refl
-two_bytes (a ∷ b ∷ c ∷ rest) long = absurd (omega arith)
-
-pub format_other : (low high code : ℕ) (bytes : List ℕ) (old one : Option (List ℕ)) → Consumes old one bytes → bytes ≡ low ∷ high ∷ [] → bytes ≢ format_code
-    → code ≡ code_in low high → Blames WrongFormat old (Format code)
-format_other low high code bytes old one p are other is =
-    blames_here WrongFormat old one bytes (Format code) p
-    (λ rest. subst (λ l. WrongFormat (l ++ rest) (Format code)) (sym are) (subst (λ n. WrongFormat (low ∷ high ∷ rest) (Format n)) (sym is)
-    (other_format low high rest (λ same. other (are ∙ same)))))
 
 pub index_format : (old : Option (List ℕ)) (error : IndexError) → Blames WrongFormat old error → Blames WrongIndex old error
 index_format old error b = blames_behind WrongFormat WrongIndex old old [] error (Consumes-nil old) (λ rest w. wrong_format rest error w) b

@@ -18,7 +18,7 @@ use Rattle.ipld_car.specs.IndexReading.{AreInOrder, IsOfReader, IsRow, AreRows, 
 use Rattle.ipld_car.specs.IndexErrors.{EndsWithin, IsUnsorted}
 use Rattle.ipld_car.specs.declared.index.entry.IndexEntry.{IndexEntry}
 use Rattle.ipld_car.specs.declared.index.error.IndexError.{IndexError}
-use Rattle.ipld_car.specs.declared.index.error.IndexError.TheVariants.{Memory, Read, UnexpectedEnd, Format, Width, Length, NotSorted}
+use Rattle.ipld_car.specs.declared.index.error.IndexError.TheVariants.{Memory, Read, UnexpectedEnd, FormatNotShortest, FormatTooLarge, Format, Width, Length, NotSorted}
 
 -- ---- the front of known bytes
 
@@ -53,6 +53,8 @@ not_ended count front back None UnexpectedEnd is long e = absurd cc
 not_ended count front back (Some xs) UnexpectedEnd is long e =
     let same : xs ≡ front ++ back = cc in
     let sized = ap length same ∙ length-append front back in absurd (omega arith)
+not_ended count front back known FormatNotShortest is long e = absurd e
+not_ended count front back known FormatTooLarge is long e = absurd e
 not_ended count front back known (Format code) is long e = absurd e
 not_ended count front back known (Width width) is long e = absurd e
 not_ended count front back known (Length len) is long e = absurd e
@@ -63,6 +65,8 @@ not_unsorted : (entries : List IndexEntry) (error : IndexError) → IsUnsorted e
 not_unsorted entries Memory u s = tt
 not_unsorted entries (Read failure) u s = tt
 not_unsorted entries UnexpectedEnd u s = absurd u
+not_unsorted entries FormatNotShortest u s = absurd u
+not_unsorted entries FormatTooLarge u s = absurd u
 not_unsorted entries (Format code) u s = absurd u
 not_unsorted entries (Width width) u s = absurd u
 not_unsorted entries (Length len) u s = absurd u
@@ -426,14 +430,6 @@ hash_read code count result old one two new before after p q low few r = record 
       r.reads h.buckets rest entries second.1
       (subst (λ n. Parts (IsBucket code) n h.buckets entries) (sym second.0) (subst (λ c. Parts (IsBucket c) h.count h.buckets entries) (sym first.0) h.parts)) s;
 }
-
-pub format_read : (error : IndexError) (bytes : List ℕ) (old new : Option (List ℕ)) → Consumes old new bytes → length bytes ≡ 2 → bytes ≢ format_code → ReadsFormat old (Err error)
-unfolding format_code
-format_read error bytes old new p long other = record { reads = λ rest known. absurd (other (front_taken format_code bytes rest old new long known p).0) }
-
-pub format_failed : (error : IndexError) (old : Option (List ℕ)) → EndsWithin 2 old error → ReadsFormat old (Err error)
-unfolding format_code
-format_failed error old ends = record { reads = λ rest known. not_ended 2 format_code rest old error known (omega arith) ends }
 
 pub index_no_format : (error : IndexError) (old : Option (List ℕ)) (bytes rest : List ℕ) (entries : List IndexEntry) → ReadsFormat old (Err error) → old ≡ Some (bytes ++ rest)
     → IsIndex bytes entries → IsOfReader error

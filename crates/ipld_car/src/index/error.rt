@@ -14,7 +14,11 @@ pub enum IndexError {
     Read(io::Error),
     /// The file ends before the index does: within the code of its format, a number or a row.
     UnexpectedEnd,
-    /// It has another format than MultihashIndexSorted: the one of this code, or of a code above 14 bits its lowest 14.
+    /// The varint of its format is not in its shortest form.
+    FormatNotShortest,
+    /// The varint of its format encodes a number of 2^64 or more.
+    FormatTooLarge,
+    /// It has another format than MultihashIndexSorted, which is 0x401: the one of this code.
     Format(u64),
     /// Its rows have so many bytes: fewer than an offset has, or more than one and a digest of 64 bytes.
     Width(u32),
@@ -36,6 +40,10 @@ impl fmt::Display for IndexError {
             IndexError::Memory => f.write_str("out of memory"),
             IndexError::Read(error) => write!(f, "the reader failed: {error}"),
             IndexError::UnexpectedEnd => f.write_str("the file ends within the index"),
+            IndexError::FormatNotShortest => {
+                f.write_str("the varint of the index's format is not in its shortest form")
+            }
+            IndexError::FormatTooLarge => f.write_str("the index's format is 2^64 or more"),
             IndexError::Format(code) => write!(
                 f,
                 "the index has the format 0x{code:x}, and 0x401 alone is read"

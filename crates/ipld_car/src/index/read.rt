@@ -6,11 +6,13 @@ ghost use Rattle.ipld_car.specs.Index.{format_code};
 ghost use Rattle.ipld_car.specs.IndexLayout.{IsBucket, Parts, IsHash, IsIndex};
 ghost use Rattle.ipld_car.specs.IndexNumbers.{le32, le64};
 ghost use Rattle.ipld_car.specs.IndexOrder.{AreSorted};
-ghost use Rattle.ipld_car.specs.IndexReading.{TakesRow, TakesRows, TakesPart, TakesIndex, IsOfReader, AreInOrder, IsRow, AreRows, ReadsPart, ReadsFormat};
-ghost use Rattle.ipld_car.specs.IndexErrors.{Blames, EndsWithin, IsUnsorted, FirstWrong, WrongRow, WrongBucket, WrongHash, WrongFormat, WrongIndex, code_in};
+ghost use Rattle.ipld_car.specs.IndexReading.{TakesRow, TakesRows, TakesPart, TakesIndex, IsOfReader, AreInOrder, IsRow, AreRows, ReadsPart, ReadsFormat, TakesCode};
+ghost use Rattle.ipld_car.specs.IndexErrors.{Blames, EndsWithin, IsUnsorted, FirstWrong, WrongRow, WrongBucket, WrongHash, WrongFormat, WrongIndex};
 
+use crate::error::CarErrorKind;
 use crate::index::entry::IndexEntry;
 use crate::index::error::IndexError;
+use crate::length::error_at;
 use ipld_cid::Multihash;
 use std::alloc::Global;
 use std::io::{Error, ErrorKind, Read};
@@ -20,8 +22,8 @@ const OFFSET_LEN: u32 = 8;
 
 const LONGEST_DIGEST: u32 = 64;
 
-// The varint of 0x0401, the code of MultihashIndexSorted, has two bytes.
-const FORMAT: [u8; 2] = [0x81, 0x08];
+// The code of MultihashIndexSorted.
+const FORMAT: u64 = 0x0401;
 
 // The number of 32 bits that bytes encode, the lowest byte first.
 fn u32_from_le(bytes: [u8; 4]) -> u32
@@ -78,30 +80,53 @@ fn read_u64<R: Read>(reader: &mut R) -> Result<u64, IndexError>
     Ok(u64_from_le(bytes))
 }
 
-// The code of a format by the first two bytes of its varint.
-fn format_code(low: u8, high: u8) -> u64
-    ensures { result ≡ code_in low high }
+// The next byte.
+#[tactic(auto, using(crate::proofs::index::Formats::one_byte))]
+fn read_u8<R: Read>(reader: &mut R) -> Result<u8, IndexError>
+    ensures takes { IfOk result (λ byte. Consumes (R.remaining reader.old) (R.remaining reader.new) (byte ∷ [])) }
+    ensures fails { IfErr result (EndsWithin 1 (R.remaining reader.old)) }
 {
-    match low.checked_sub(128) {
-        Some(low) => u64::from(low) + u64::from(high % 128) * 128,
-        None => u64::from(low),
-    }
+    let mut bytes = [0; 1];
+    read_exact(reader, &mut bytes)?;
+    let [byte] = bytes;
+    Ok(byte)
 }
 
-// The code of a format, a varint, of which two bytes are looked at: no format of an index has a longer one.
-#[tactic(auto, unfolding(crate::specs::Index::format_code), using(crate::proofs::index::Only::format_read, crate::proofs::index::Only::format_failed, crate::proofs::index::Blaming::format_cut))]
+// The code of a format, a varint.
+#[tactic(auto, using(crate::proofs::index::Formats::code_begins))]
+fn read_code<R: Read>(reader: &mut R) -> Result<u64, IndexError>
+    ensures takes { IfOk result (TakesCode (R.remaining reader.old) (R.remaining reader.new)) }
+    ensures wrong { IfErr result (Blames WrongFormat (R.remaining reader.old)) }
+{
+    let mut code = 0;
+    for place in 0..10 {
+        let byte = read_u8(reader)?;
+        if let Some(kind) = error_at(place, byte) {
+            return match kind {
+                CarErrorKind::LengthTooLarge => Err(IndexError::FormatTooLarge),
+                _ => Err(IndexError::FormatNotShortest),
+            };
+        }
+        code |= u64::from(byte & 0x7f) << (7 * place);
+        if byte < 0x80 {
+            return Ok(code);
+        }
+    }
+    unreachable!()
+}
+
+// The code of the format, which has to be that of MultihashIndexSorted.
+#[tactic(auto, using(crate::proofs::index::Formats::format_taken, crate::proofs::index::Formats::format_other, crate::proofs::index::Formats::format_only))]
 fn read_format<R: Read>(reader: &mut R) -> Result<(), IndexError>
     ensures takes { OnOk result (Consumes (R.remaining reader.old) (R.remaining reader.new) format_code) }
     ensures only { ReadsFormat (R.remaining reader.old) result }
     ensures wrong { IfErr result (Blames WrongFormat (R.remaining reader.old)) }
 {
-    let mut bytes = [0; 2];
-    read_exact(reader, &mut bytes)?;
-    if bytes == FORMAT {
-        return Ok(());
+    let code = read_code(reader)?;
+    if code != FORMAT {
+        return Err(IndexError::Format(code));
     }
-    let [low, high] = bytes;
-    Err(IndexError::Format(format_code(low, high)))
+    Ok(())
 }
 
 // Puts an entry behind the others, where it comes in order.

@@ -1,12 +1,17 @@
 use Rattle.std.proofs.Common.{◌<◌, ◌≤◌, ◌-◌, min, arith, refl}
 use Rattle.ipld_car.specs.InMemory.{between}
-use Rattle.ipld_car.proofs.SectionsInMemory.{only_span, section_missing, section_fault, no_fault_there}
+use Rattle.ipld_car.proofs.SectionsInMemory.{only_span, parts_inside, section_missing, section_fault, no_fault_there}
 use Rattle.ipld_car.proofs.span.section_at.Goals as goal
 
 pub returns-in-Ok-Some-clause-only : goal.returns-in-Ok-Some-clause-only
 returns-in-Ok-Some-clause-only c = λ block section rest less parts is.
     let split = rw (c.in-Ok-Some.field-0-is, c.window.ensures.bytes) at c.in-Ok-Some.ensures in
     only_span (between c.args.at c.args.end c.args.car.now) c.args.at c.in-Ok-Some.span split.0 split.1 block section rest parts is
+
+pub returns-in-Ok-Some-clause-inside : goal.returns-in-Ok-Some-clause-inside
+returns-in-Ok-Some-clause-inside c =
+    let split = rw (c.in-Ok-Some.field-0-is, c.window.ensures.bytes) at c.in-Ok-Some.ensures in
+    parts_inside c.args.at c.args.end c.args.car.now c.in-Ok-Some.span split.0 (omega arith) split.1
 
 pub returns-in-Ok-None-clause-fault : goal.returns-in-Ok-None-clause-fault
 returns-in-Ok-None-clause-fault c =
