@@ -1,16 +1,20 @@
 #!/usr/bin/env python3
 """Says what is wrong with texts in DAG-JSON, and where: of each line `fromjson LEVELS VALUES TEXT`
-of standard input, the text in hexadecimal digits, it writes `Kind at byte OFFSET`, or `ok`.
+of standard input, the text in hexadecimal digits, it writes `Kind at byte OFFSET`, or `ok`. Of a
+line `floatjson LEVELS VALUES TEXT` the text may have floats.
 
 It reads by the specifications of JSON, DAG-JSON and CIDs, on its own, and in no part by the
 library: regular expressions cut the text, and a loop goes over what they cut.
 """
 
 import base64
+import math
 import re
 import sys
 
 LIMIT = 1 << 127
+# The same where the text may have floats: the integers of DAG-CBOR.
+LIMIT_WITH_FLOATS = 1 << 64
 LEXEME = re.compile(
     rb"[ \t\n\r]*(?:([{}\[\]:,])|(\"(?:[^\"\\]|\\.)*(?:\"|\\?\Z))|([^ \t\n\r{}\[\]:,]+))", re.S
 )
@@ -132,6 +136,14 @@ def object_error(members):
     return None
 
 
+def number_error(lexeme, floats):
+    """Why a number is none of those that are read."""
+    if not INTEGER.fullmatch(lexeme):
+        return None if floats and math.isfinite(float(lexeme)) else "Float"
+    limit = LIMIT_WITH_FLOATS if floats else LIMIT
+    return None if -limit <= int(lexeme) < limit else "IntegerRange"
+
+
 def lexemes(text):
     at = 0
     while True:
@@ -143,7 +155,7 @@ def lexemes(text):
         at = found.end()
 
 
-def read(text, levels, values):
+def read(text, levels, values, floats):
     try:
         text.decode()
     except UnicodeDecodeError as error:
@@ -246,11 +258,9 @@ def read(text, levels, values):
             number = NUMBER.fullmatch(lexeme)
             if lexeme not in WORDS and not number or in_key:
                 raise Error("Syntax", at)
-            if number:
-                if not INTEGER.fullmatch(lexeme):
-                    raise Error("Float", at)
-                if not -LIMIT <= int(lexeme) < LIMIT:
-                    raise Error("IntegerRange", at)
+            error = number_error(lexeme, floats) if number else None
+            if error:
+                raise Error(error, at)
             if count >= values:
                 raise Error("TooMany", at)
             count += 1
@@ -260,9 +270,9 @@ def read(text, levels, values):
         raise Error("End", len(text))
 
 
-def said(text, levels=1024, values=(1 << 64) - 1):
+def said(text, levels=1024, values=(1 << 64) - 1, floats=False):
     try:
-        read(text, levels, values)
+        read(text, levels, values, floats)
     except Error as error:
         return error.text
     return None
@@ -271,8 +281,9 @@ def said(text, levels=1024, values=(1 << 64) - 1):
 def main():
     sys.set_int_max_str_digits(0)
     for line in sys.stdin:
-        _, levels, values, *text = line.split()
-        print(said(bytes.fromhex("".join(text)), int(levels), int(values)) or "ok")
+        word, levels, values, *text = line.split()
+        floats = word == "floatjson"
+        print(said(bytes.fromhex("".join(text)), int(levels), int(values), floats) or "ok")
 
 
 if __name__ == "__main__":

@@ -105,7 +105,8 @@ pub(crate) fn read_text(
 ///
 /// # Errors
 ///
-/// The first from the left, and where: [`ReadErrorKind`] says which there are. `Utf8` and `NotCanonical` are never returned.
+/// The first from the left, and where: [`ReadErrorKind`] says which there are, and which it is if one token has several faults. `Utf8` and
+/// `NotCanonical` are never returned.
 pub fn from_str(alloc: Global, text: &str, limits: &Limits) -> Result<Ipld, ReadError>
     ensures found { IfOk result (λ tree. EncodesWithin limits.now (tree_of tree) text.now) }
     ensures only { (t : Tree) → EncodesWithin limits.now t text.now → UnlessMemory result (λ tree. tree_of tree ≡ t) }

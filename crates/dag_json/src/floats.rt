@@ -125,7 +125,8 @@ pub(crate) fn read_number_in(text: &str, floats: bool) -> Result<i128, ReadError
 /// # Errors
 ///
 /// Those of [`from_slice`](crate::from_slice), but for two: `Float` where a number with a fraction or an exponent is beyond the greatest float, so
-/// that an infinity would be nearest, and `IntegerRange` where an integer is below -2^64 or above 2^64 - 1.
+/// that an infinity would be nearest, and `IntegerRange` where an integer is below -2^64 or above 2^64 - 1. With a limit of 0 values
+/// `1e999` is `Float`, and `1e2` is `TooMany`.
 pub fn from_slice(alloc: Global, bytes: &[u8], limits: &Limits) -> Result<Ipld, ReadError>
     ensures found { IfOk result (λ tree. EncodesWithinIn true limits.now (tree_of tree) bytes.now) }
     ensures only { (t : Tree) → EncodesWithinIn true limits.now t bytes.now → UnlessMemory result (λ tree. tree_of tree ≡ t) }

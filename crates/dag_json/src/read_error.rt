@@ -9,6 +9,20 @@ use std::{error, fmt};
 
 /// Why a text isn't read as DAG-JSON.
 ///
+/// The error is that of the first token at fault. If one token has several faults, it is the first of these:
+///
+/// 1. `Syntax`: the token isn't one of JSON, or can't come there.
+/// 2. Of a number `Float` or `IntegerRange`. Of a key `DuplicateKey`. Of the brace that closes an object `Reserved`, and then `Link` or `Bytes`.
+/// 3. `TooDeep`.
+/// 4. `TooMany`.
+///
+/// So with a limit of 0 values `1e2` is `Float` in [`from_slice`](crate::from_slice), and `TooMany` in
+/// [`floats::from_slice`](crate::floats::from_slice), which reads floats. With limits of 0 levels and 0 values `[]` is `TooDeep`. Bytes that aren't
+/// UTF-8 are `Utf8`, also if a token before them is at fault, and any call may return `Memory`.
+///
+/// A number or a word, such as `true`, goes on to the next blank (space, tab, line feed or carriage return), to one of `{`, `}`, `[`, `]`, `:` and `,`,
+/// or to the end of the text. So `1"a"` is one word, and `Syntax` at byte 0. A string ends with its quote, so in `"a"1` the `1` is at fault, at byte 3.
+///
 /// Its `Display` is the variant's name; with `#`, as in `{error:#}`, it is a sentence that says what is wrong.
 #[derive(Clone, Copy, Debug, PartialEq, Eq)]
 pub enum ReadErrorKind {
@@ -116,9 +130,9 @@ pub struct ReadError {
     /// where more would have to follow.
     ///
     /// A string with the colon behind it is one token, a key; so a string that lacks its colon is at fault itself. A number, a word or a string
-    /// that is none begins where its first byte stands. Of an object that ought to be a link or bytes the token is the brace that closes it. Of
-    /// bytes that aren't UTF-8 it is the first that is no part of a character, and of a text that isn't canonical the first that differs. Where
-    /// an allocation failed it is any, at most the length.
+    /// that is none begins where its first byte is, and [`ReadErrorKind`] says how far it goes. Of an object that ought to be a link or bytes the
+    /// token is the brace that closes it. Of bytes that aren't UTF-8 it is the first that is no part of a character, and of a text that isn't
+    /// canonical the first that differs. Where an allocation failed it is any, at most the length.
     pub offset: usize,
 }
 

@@ -11,14 +11,15 @@ ghost use Rattle.ipld_links_run.specs.Arguments.{word_in};
 ghost use Rattle.ipld_links_run.specs.Output.{Output, Writes};
 ghost use Rattle.ipld_links.specs.Status.{code_of};
 
-use ipld_links_run::{RunFault, Status, word_of};
+use ipld_links_run::word_of;
+pub use ipld_links_run::{RunFault, Status, run};
 use std::alloc::Global;
 use std::env::{self, Args};
 use std::io::{self, BufRead, BufReader, BufWriter, Write};
 use std::process::ExitCode;
 
 fn main(rt: HostRuntime) -> ExitCode {
-    match run(&rt) {
+    match run_host(&rt) {
         Ok(status) => exit_code(status),
         Err(RunFault::Write) => ExitCode::FAILURE,
         Err(error) => {
@@ -40,7 +41,7 @@ fn exit_code(status: Status) -> ExitCode
 }
 
 /// Runs the word that the arguments name from standard input to standard output, both of them buffered.
-fn run(rt: &HostRuntime) -> Result<Status, RunFault> {
+fn run_host(rt: &HostRuntime) -> Result<Status, RunFault> {
     let alloc = rt.alloc();
     let arguments = env::args(rt);
     let Ok(mut reader) = BufReader::new(alloc, rt.reader()) else {
@@ -70,6 +71,6 @@ fn run_arguments<R: BufRead, W: Write>(
         (λ input. Writes (W.contents writer.old) (W.contents writer.new) (Output (word_in arguments) input status))) }
 {
     let word = word_of(alloc, arguments)?;
-    ipld_links_run::run(alloc, word.as_str(), reader, writer)
+    run(alloc, word.as_str(), reader, writer)
 }
 // [end: run_arguments]

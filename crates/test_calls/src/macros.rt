@@ -23,6 +23,10 @@ fn keyed(alloc: Global) -> Result<Ipld, AllocError> {
     ipld!(alloc, {"p": {f[0]: f[1]}, ("q"): 2u8})
 }
 
+fn repeated(alloc: Global) -> Result<Ipld, AllocError> {
+    ipld!(alloc, {"a": 1u8, "a": 2u8})
+}
+
 fn overwritten(alloc: Global, key: String) -> Result<Ipld, AllocError> {
     ipld!(alloc, {"b": [1i64, -2i8], key: null, "b": {"c": {}},})
 }
@@ -56,8 +60,13 @@ fn number(alloc: Global) -> Result<u8, ConversionError> {
     }
 }
 
-// The debug string is the Rust crate's.
-fn assert_tree_is(rt: &impl Abort, alloc: Global, tree: Ipld, expected: &str) -> Result<(), Fail> {
+/// The tree has this debug string, as the Rust crate's has it.
+pub fn assert_tree_is(
+    rt: &impl Abort,
+    alloc: Global,
+    tree: Ipld,
+    expected: &str,
+) -> Result<(), Fail> {
     assert_eq!(rt; format!(in alloc; "{tree:?}")?.as_str(), expected);
     Ok(())
 }
@@ -74,6 +83,7 @@ fn builds_what_is_written(rt: HostRuntime) -> Result<(), Fail> {
     assert_tree_is(&rt, alloc, computed(alloc)?, "[5, [0, 255]]")?;
     let expected = "{\"p\": {\"serde\": \"json\"}, \"q\": 2}";
     assert_tree_is(&rt, alloc, keyed(alloc)?, expected)?;
+    assert_tree_is(&rt, alloc, repeated(alloc)?, "{\"a\": 2}")?;
     let tree = overwritten(alloc, String::from_str(alloc, "a")?)?;
     assert_tree_is(&rt, alloc, tree, "{\"a\": null, \"b\": {\"c\": {}}}")?;
     let expected = "[[[]], [null, null], {\"a\": null}, [null]]";

@@ -4,8 +4,8 @@ use crate::codec::generic::{encode_generic, sent_and_received};
 use dag_cbor::DagCborCodec;
 use ipld_core::cid::RAW;
 use ipld_core::codec::laws::{codec_law, tree_codec_law};
-use ipld_core::codec::{Codec, RawCodec};
-use ipld_core::ipld::Ipld;
+use ipld_core::codec::{Codec, RawCodec, RawError};
+use ipld_core::ipld::{Ipld, IpldKind};
 use std::test::Fail;
 
 /// A CID of version 1 of plain bytes, whose hash is the identity of no bytes.
@@ -31,5 +31,16 @@ fn writes_bytes_as_they_are(rt: HostRuntime) -> Result<(), Fail> {
     tree_codec_law::<DagCborCodec>();
     assert_eq!(rt; <RawCodec as Codec<Ipld>>::CODE, RAW);
     assert_eq!(rt; <RawCodec as Codec<Ipld>>::CODE, 0x55);
+    Ok(())
+}
+
+#[test]
+fn rejects_what_is_no_bytes(rt: HostRuntime) -> Result<(), Fail> {
+    let alloc = rt.alloc();
+    let outcome = encode_generic::<RawCodec, Ipld>(alloc, &Ipld::Null);
+    assert!(rt; outcome == Err(RawError::NotBytes(IpldKind::Null)));
+    let mut written = b"before".to_vec(alloc)?;
+    assert!(rt; RawCodec::encode(alloc, &mut written, &Ipld::Null).is_err());
+    assert_eq!(rt; written.as_slice(), b"before".as_slice());
     Ok(())
 }

@@ -178,10 +178,16 @@ fn reports_a_writer_that_takes_no_byte(rt: HostRuntime) -> Result<(), Fail> {
 // A number that no block has is rejected for that, before anything is written.
 #[test]
 fn reports_a_number_out_of_range(rt: HostRuntime) {
-    let outcome = to_vec(rt.alloc(), &i128::MAX);
-    assert!(rt; outcome == Err(EncodeError::IntegerRange));
-    let outcome = to_writer(rt.alloc(), &mut FaultWriter::new(0), &i128::MAX);
-    assert!(rt; outcome == Err(EncodeError::IntegerRange));
+    let alloc = rt.alloc();
+    for number in [0x1_0000_0000_0000_0000, -0x1_0000_0000_0000_0001] {
+        let outcome = to_vec(alloc, &number);
+        assert!(rt; outcome == Err(EncodeError::IntegerRange));
+        let outcome = to_writer(alloc, &mut FaultWriter::new(0), &number);
+        assert!(rt; outcome == Err(EncodeError::IntegerRange));
+        let mut writer = FaultWriter::new(0);
+        let outcome = DagCborCodec::encode(alloc, &mut writer, &Ipld::Integer(number));
+        assert!(rt; outcome == Err(CborError::IntegerRange));
+    }
 }
 
 #[test]

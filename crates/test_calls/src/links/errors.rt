@@ -2,6 +2,7 @@
 
 use crate::links::runs::{outcome_of, runs};
 use crate::pieces::{Full, Pieces};
+use ipld_core::codec::{FaultReader, FaultWriter};
 use ipld_links_run::{RunFault, Status};
 use std::alloc::Global;
 use std::io::{self, Error, ErrorKind, Write};
@@ -204,4 +205,17 @@ fn reports_a_writer_that_takes_no_byte(rt: HostRuntime) {
         let outcome = outcome_of(rt.alloc(), word, &mut input.as_bytes(), &mut Full);
         assert_eq!(rt; outcome, Err(RunFault::Write), "{word}: {input}");
     }
+}
+
+// The reader fails after the first of two lines, the writer at its first write.
+#[test]
+fn reports_ends_that_fail_at_once(rt: HostRuntime) {
+    let lines = b"01550000\n01550000\n";
+    let mut written = Vec::new(rt.alloc());
+    let mut reader = FaultReader::new(lines, 9);
+    let outcome = outcome_of(rt.alloc(), "cid", &mut reader, &mut written);
+    assert_eq!(rt; outcome, Err(RunFault::Read));
+    let mut writer = FaultWriter::new(0);
+    let outcome = outcome_of(rt.alloc(), "cid", &mut lines.as_slice(), &mut writer);
+    assert_eq!(rt; outcome, Err(RunFault::Write));
 }
