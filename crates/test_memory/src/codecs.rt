@@ -1,6 +1,6 @@
 //! The codecs: of plain bytes, and of DAG-CBOR.
 
-use crate::ended::{Ended, Rejection, reported};
+use crate::ended::{Ended, Rejection, reported, reported_by_vector};
 use crate::samples::{A, B, cid, is_same, two_links};
 use dag_cbor::DagCborCodec;
 use ipld_core::codec::{Codec, LinkIter, RawCodec};
@@ -24,10 +24,10 @@ fn writes<C: Codec<Ipld>>(
 where
     C::Error: Rejection,
 {
-    let written = reported("encode_to_vec", C::encode_to_vec(alloc, value))?;
+    let written = reported_by_vector("encode_to_vec", C::encode_to_vec(alloc, value))?;
     assert!(rt; written.as_slice() == block);
     let mut writer = Vec::new(alloc);
-    reported("encode", C::encode(alloc, &mut writer, value))?;
+    reported_by_vector("encode", C::encode(alloc, &mut writer, value))?;
     assert!(rt; writer.as_slice() == block);
     Ok(())
 }

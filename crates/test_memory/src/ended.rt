@@ -50,6 +50,11 @@ impl From<CidError> for Ended {
 pub trait Rejection: Drop {
     /// Whether the error is a failed allocation.
     fn is_out_of_memory(&self) -> bool;
+
+    /// Whether the error is that of a vector that was written to and didn't grow.
+    fn is_failed_write(&self) -> bool {
+        false
+    }
 }
 
 impl Rejection for AllocError {
@@ -113,10 +118,13 @@ impl Rejection for TokenError<AllocError> {
     }
 }
 
-/// A vector that is written to reports a failed allocation as a writer that failed.
 impl Rejection for RawError {
     fn is_out_of_memory(&self) -> bool {
-        matches!(self, RawError::Memory | RawError::Write)
+        *self == RawError::Memory
+    }
+
+    fn is_failed_write(&self) -> bool {
+        *self == RawError::Write
     }
 }
 
@@ -153,10 +161,13 @@ impl Rejection for DecodeError {
     }
 }
 
-/// A vector that is written to reports a failed allocation as a writer that failed.
 impl Rejection for RunFault {
     fn is_out_of_memory(&self) -> bool {
-        matches!(self, RunFault::Memory | RunFault::Write)
+        *self == RunFault::Memory
+    }
+
+    fn is_failed_write(&self) -> bool {
+        *self == RunFault::Write
     }
 }
 
@@ -196,5 +207,16 @@ pub fn reported<T, E: Rejection>(call: &'static str, outcome: Result<T, E>) -> R
     match outcome {
         Ok(value) => Ok(value),
         Err(error) => Err(ended_by(call, error)),
+    }
+}
+
+/// The same of a call that writes to a vector, which may report a failed allocation as a writer that failed.
+pub fn reported_by_vector<T, E: Rejection>(
+    call: &'static str,
+    outcome: Result<T, E>,
+) -> Result<T, Ended> {
+    match outcome {
+        Err(error) if error.is_failed_write() => Err(Ended::NoMemory(call)),
+        outcome => reported(call, outcome),
     }
 }

@@ -1,6 +1,6 @@
 //! The program's words.
 
-use crate::ended::{Ended, reported};
+use crate::ended::{Ended, reported_by_vector};
 use ipld_links_run::{Status, run};
 use std::alloc::Global;
 use std::process::Abort;
@@ -11,7 +11,7 @@ fn writes(rt: &impl Abort, alloc: Global, word: &'static str, input: &str) -> Re
     let outcome = run(alloc, word, &mut reader, &mut written);
     // What was written is the output, or a beginning of it.
     assert!(rt; b"bafkqaaa\nok 1\n".starts_with(written.as_slice()));
-    assert!(rt; reported(word, outcome)? == Status::Done);
+    assert!(rt; reported_by_vector(word, outcome)? == Status::Done);
     assert_eq!(rt; written.len(), 14);
     Ok(())
 }

@@ -3,7 +3,7 @@
 use crate::ended::Ended;
 use ipld_cid::{Cid, CidError};
 use ipld_ser::SerdeError;
-use ipld_tree::{Ipld, ipld};
+use ipld_tree::{Ipld, IpldKind, ipld};
 use std::alloc::{AllocError, Global};
 use std::collections::BTreeMap;
 use std::process::Abort;
@@ -17,6 +17,32 @@ pub const B: [u8; 5] = [0x01, 0x55, 0x00, 0x01, 0x07];
 /// The CID of these bytes. Does not allocate.
 pub fn cid(bytes: &[u8]) -> Result<Cid, CidError> {
     Cid::try_from(bytes)
+}
+
+/// Every kind of tree.
+pub const KINDS: [IpldKind; 8] = [
+    IpldKind::Null,
+    IpldKind::Bool,
+    IpldKind::Integer,
+    IpldKind::String,
+    IpldKind::Bytes,
+    IpldKind::List,
+    IpldKind::Map,
+    IpldKind::Link,
+];
+
+/// A tree of the kind: `true`, 7, the link of A, and texts, bytes, lists and maps of nothing. Does not allocate.
+pub fn of_kind(alloc: Global, kind: IpldKind) -> Result<Ipld, CidError> {
+    Ok(match kind {
+        IpldKind::Null => Ipld::Null,
+        IpldKind::Bool => Ipld::Bool(true),
+        IpldKind::Integer => Ipld::Integer(7),
+        IpldKind::String => Ipld::String(String::new(alloc)),
+        IpldKind::Bytes => Ipld::Bytes(Vec::new(alloc)),
+        IpldKind::List => Ipld::List(Vec::new(alloc)),
+        IpldKind::Map => Ipld::Map(BTreeMap::new(alloc)),
+        IpldKind::Link => Ipld::Link(cid(&A)?),
+    })
 }
 
 /// Three links, two of them in a list and one in a map, and a bool, in a map.
@@ -110,4 +136,19 @@ pub fn rejects<T: PartialEq + Drop>(
     expected: SerdeError,
 ) {
     assert!(rt; outcome == Err(expected));
+}
+
+/// The call read this tree, since it is of the kind that it reads, or rejected it by its kind.
+pub fn reads_kind<T: Drop>(
+    rt: &impl Abort,
+    found: IpldKind,
+    expected: IpldKind,
+    outcome: Result<T, SerdeError>,
+) {
+    match outcome {
+        Ok(_) => assert!(rt; found == expected),
+        Err(error) => {
+            assert!(rt; found != expected && error == SerdeError::WrongKind(found));
+        }
+    }
 }

@@ -207,3 +207,29 @@ fn keys_and_indexes(rt: HostRuntime) -> Result<(), Ended> {
     assert!(rt; number == text && key.as_str() == "7" && text.as_str() == "7");
     Ok(())
 }
+
+// Nothing here allocates but what makes the trees.
+#[test]
+fn looked_into(rt: HostRuntime) -> Result<(), Ended> {
+    let alloc = rt.alloc();
+    let list = ipld!(alloc, [true, null])?;
+    assert!(rt;
+        list.get(1) == Ok(Some(&Ipld::Null)) && list.get("+0") == Ok(Some(&Ipld::Bool(true)))
+    );
+    assert!(rt; list.get("001") == Ok(Some(&Ipld::Null)) && list.get("2") == Ok(None));
+    assert!(rt; list.get(String::from_str(alloc, "1")?) == Ok(Some(&Ipld::Null)));
+    assert!(rt; list.get(IpldIndex::List(0)) == Ok(Some(&Ipld::Bool(true))));
+    assert!(rt; list.get(String::from_str(alloc, "-1")?).is_err());
+    assert!(rt; list.take("1") == Ok(Some(Ipld::Null)));
+    assert!(rt; ipld!(alloc, [true, null])?.take(2) == Ok(None));
+    let map = ipld!(alloc, {"7": true, "+7": null})?;
+    assert!(rt;
+        map.get(7) == Ok(Some(&Ipld::Bool(true))) && map.get("+7") == Ok(Some(&Ipld::Null))
+    );
+    assert!(rt;
+        map.get("07") == Ok(None) && map.get(IpldIndex::List(7)) == Ok(Some(&Ipld::Bool(true)))
+    );
+    assert!(rt; map.get(String::from_str(alloc, "7")?) == Ok(Some(&Ipld::Bool(true))));
+    assert!(rt; map.take(7) == Ok(Some(Ipld::Bool(true))));
+    Ok(())
+}

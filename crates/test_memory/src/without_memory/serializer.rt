@@ -59,3 +59,25 @@ fn lists_and_maps(rt: HostRuntime) -> Result<(), Ended> {
     returns(&rt, map.end(), Ipld::Map(BTreeMap::new(rt.alloc())));
     Ok(())
 }
+
+#[test]
+fn numbers(rt: HostRuntime) {
+    returns(&rt, Serializer.serialize_i8(-1), Ipld::Integer(-1));
+    returns(&rt, Serializer.serialize_i16(-2), Ipld::Integer(-2));
+    returns(&rt, Serializer.serialize_i32(-3), Ipld::Integer(-3));
+    returns(&rt, Serializer.serialize_i64(-4), Ipld::Integer(-4));
+    let number = i128::MIN;
+    returns(
+        &rt,
+        Serializer.serialize_i128(number),
+        Ipld::Integer(number),
+    );
+    returns(&rt, Serializer.serialize_u8(1), Ipld::Integer(1));
+    returns(&rt, Serializer.serialize_u16(2), Ipld::Integer(2));
+    returns(&rt, Serializer.serialize_u32(3), Ipld::Integer(3));
+    let greatest = (1 << 127) - 1;
+    let outcome = Serializer.serialize_u128(greatest);
+    returns(&rt, outcome, Ipld::Integer(i128::MAX));
+    let outcome = Serializer.serialize_u128(greatest + 1);
+    rejects(&rt, outcome, SerdeError::U128);
+}

@@ -66,3 +66,40 @@ fn an_unknown_word(rt: HostRuntime) -> Result<(), Ended> {
     assert!(rt; page.starts_with(b"usage: "));
     Ok(())
 }
+
+const EACH: [Token<'static>; 17] = [
+    Token::None,
+    Token::Unit,
+    Token::UnitStruct,
+    Token::Bool(true),
+    Token::Int(-7),
+    Token::U128(7),
+    Token::Char('c'),
+    Token::Str("x"),
+    Token::Bytes(TokenBytes::Lent(&A)),
+    Token::UnitVariant("v"),
+    Token::Some,
+    Token::Variant("v"),
+    Token::Link,
+    Token::Seq(Some(usize::MAX)),
+    Token::SeqEnd,
+    Token::Map(None),
+    Token::MapEnd,
+];
+
+#[test]
+fn of_each_token(rt: HostRuntime) {
+    let (tokens, expected) = (EACH, EACH);
+    let mut source = SliceSource::new(&tokens);
+    for token in expected {
+        assert!(rt; source.next_token() == Ok(Some(token)));
+    }
+    assert!(rt; source.next_token() == Ok(None) && !source.has_failed());
+    let expected = EACH;
+    let mut source = FaultSource::new(&tokens, 17);
+    for token in expected {
+        assert!(rt; source.next_token() == Ok(Some(token)));
+    }
+    assert!(rt; !source.has_failed());
+    assert!(rt; source.next_token() == Err(Stopped) && source.has_failed());
+}
