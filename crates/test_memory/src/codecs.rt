@@ -3,7 +3,7 @@
 use crate::ended::{Ended, Rejection, reported, reported_by_vector};
 use crate::samples::{A, B, cid, is_same, two_links};
 use dag_cbor::DagCborCodec;
-use ipld_core::codec::{Codec, LinkIter, RawCodec};
+use ipld_core::codec::{Codec, LinkIter, Links, RawCodec};
 use ipld_tree::{Ipld, Limits};
 use std::alloc::Global;
 use std::process::Abort;
@@ -62,6 +62,26 @@ fn dag_cbor(rt: HostRuntime) -> Result<(), Ended> {
     let value = two_links(rt.alloc())?;
     writes::<DagCborCodec>(&rt, rt.alloc(), &value, &BLOCK)?;
     reads::<DagCborCodec>(&rt, rt.alloc(), &value, &BLOCK)
+}
+
+/// The block of the same map whose keys come in another order.
+const UNSORTED: [u8; 22] = [
+    0xa2, 0x61, 0x62, 0xd8, 0x2a, 0x45, 0x00, 0x01, 0x55, 0x00, 0x00, 0x61, 0x61, 0xd8, 0x2a, 0x46,
+    0x00, 0x01, 0x55, 0x00, 0x01, 0x07,
+];
+
+#[test]
+fn keys_in_another_order(rt: HostRuntime) -> Result<(), Ended> {
+    let value = two_links(rt.alloc())?;
+    reads::<DagCborCodec>(&rt, rt.alloc(), &value, &UNSORTED)?;
+    let (a, b) = (cid(&A)?, cid(&B)?);
+    let links = DagCborCodec::links(rt.alloc(), &UNSORTED);
+    let mut links = reported("DagCborCodec::links", links)?;
+    assert!(rt; links.next() == Some(a) && links.next() == Some(b) && links.next().is_none());
+    let mut found = Vec::new(rt.alloc());
+    reported("references", value.references(rt.alloc(), &mut found))?;
+    assert!(rt; found.as_slice() == [b, a].as_slice());
+    Ok(())
 }
 
 #[test]

@@ -98,3 +98,50 @@ fn links_found(rt: HostRuntime) -> Result<(), Ended> {
     assert!(rt; links.as_slice() == [cid, cid, cid].as_slice());
     Ok(())
 }
+
+// After a refusal the source holds an ending of its tokens, and else nothing.
+fn holds_an_ending(rt: &impl Abort, source: &mut SliceSource<'_>, tokens: usize, is_read: bool) {
+    let mut left = 0usize;
+    for _ in 0..tokens {
+        if source.next_token() != Ok(None) {
+            left = left.saturating_add(1);
+        }
+    }
+    assert!(rt; source.next_token() == Ok(None) && !source.has_failed());
+    assert!(rt; !is_read || left == 0);
+}
+
+#[test]
+fn tree_read_from_a_slice(rt: HostRuntime) -> Result<(), Ended> {
+    let tokens = MAP;
+    let mut source = SliceSource::new(&tokens);
+    let outcome = read_ipld(rt.alloc(), &mut source);
+    holds_an_ending(&rt, &mut source, 9, outcome.is_ok());
+    let tree = reported("read_ipld", outcome)?;
+    assert!(rt; has_pair(&tree, &Ipld::Link(cid(&A)?)));
+    Ok(())
+}
+
+/// A link, its bytes, and it again as the content of a variant.
+const LIST: [Token<'static>; 8] = [
+    Token::Seq(None),
+    Token::Link,
+    Token::Bytes(TokenBytes::Lent(&A)),
+    Token::Bytes(TokenBytes::Lent(&A)),
+    Token::Variant("v"),
+    Token::Link,
+    Token::Bytes(TokenBytes::Lent(&A)),
+    Token::SeqEnd,
+];
+
+#[test]
+fn links_found_in_a_slice(rt: HostRuntime) -> Result<(), Ended> {
+    let tokens = LIST;
+    let mut source = SliceSource::new(&tokens);
+    let outcome = ExtractLinks::<64>::deserialize(rt.alloc(), &mut source);
+    holds_an_ending(&rt, &mut source, 8, outcome.is_ok());
+    let links = reported("ExtractLinks::deserialize", outcome)?.into_vec();
+    let cid = cid(&A)?;
+    assert!(rt; links.as_slice() == [cid, cid].as_slice());
+    Ok(())
+}

@@ -1,7 +1,7 @@
 //! Trees: made, walked, copied, and the links in them.
 
 use crate::ended::{Ended, reported};
-use crate::samples::{A, B, cid, entry, is_bytes, is_same, is_text, list, nested};
+use crate::samples::{A, B, cid, is_bytes, is_same, is_text, nested};
 use dag_cbor_tape::encode_tape;
 use dag_json::floats::{self, Number};
 use dag_json::{
@@ -9,7 +9,7 @@ use dag_json::{
 };
 use ipld_cid::Cid;
 use ipld_tree::convert::{IntoIpld, IntoKey};
-use ipld_tree::{Ipld, IpldIndex, IpldIter, Limits, ipld};
+use ipld_tree::{IndexError, Ipld, IpldIndex, IpldIter, Limits, ipld};
 use std::alloc::{AllocError, Global};
 use std::collections::BTreeSet;
 use std::process::Abort;
@@ -133,7 +133,7 @@ fn links_in_a_set(rt: HostRuntime) -> Result<(), Ended> {
 
 #[test]
 fn copied(rt: HostRuntime) -> Result<(), Ended> {
-    let tree = entry(rt.alloc(), "k", list(rt.alloc(), true)?)?;
+    let tree = tree(rt.alloc())?;
     assert!(rt; is_same(&reported("try_clone", tree.try_clone(rt.alloc()))?, &tree));
     assert!(rt; is_same(&reported("clone", tree.clone())?, &tree));
     Ok(())
@@ -170,12 +170,14 @@ fn made_by_the_macro(rt: HostRuntime) -> Result<(), Ended> {
     Ok(())
 }
 
+const BYTES: [u8; 4] = [0, 1, 2, 3];
+
 fn yields_text(
     rt: &impl Abort,
     call: &'static str,
     outcome: Result<Ipld, AllocError>,
 ) -> Result<(), Ended> {
-    assert!(rt; is_text(&reported(call, outcome)?, "text"));
+    assert!(rt; is_text(&reported(call, outcome)?, "a string"));
     Ok(())
 }
 
@@ -184,17 +186,21 @@ fn yields_bytes(
     call: &'static str,
     outcome: Result<Ipld, AllocError>,
 ) -> Result<(), Ended> {
-    assert!(rt; is_bytes(&reported(call, outcome)?, &B));
+    assert!(rt; is_bytes(&reported(call, outcome)?, &BYTES));
     Ok(())
 }
 
 #[test]
 fn made_of_texts_and_bytes(rt: HostRuntime) -> Result<(), Ended> {
     let alloc = rt.alloc();
-    yields_text(&rt, "from_text", Ipld::from_text(alloc, "text"))?;
-    yields_bytes(&rt, "from_byte_slice", Ipld::from_byte_slice(alloc, &B))?;
-    yields_text(&rt, "into_ipld of a text", "text".into_ipld(alloc))?;
-    yields_bytes(&rt, "into_ipld of bytes", B.as_slice().into_ipld(alloc))
+    yields_text(&rt, "from_text", Ipld::from_text(alloc, "a string"))?;
+    yields_bytes(&rt, "from_byte_slice", Ipld::from_byte_slice(alloc, &BYTES))?;
+    yields_text(&rt, "into_ipld of a text", "a string".into_ipld(alloc))?;
+    yields_bytes(&rt, "into_ipld of bytes", BYTES.as_slice().into_ipld(alloc))?;
+    let text = Ipld::from(String::from_str(alloc, "a string")?);
+    assert!(rt; is_text(&text, "a string"));
+    assert!(rt; is_bytes(&Ipld::from(Vec::from_slice(alloc, &BYTES)?), &BYTES));
+    Ok(())
 }
 
 #[test]
@@ -208,28 +214,42 @@ fn keys_and_indexes(rt: HostRuntime) -> Result<(), Ended> {
     Ok(())
 }
 
+// The index comes back as it was.
+fn is_no_number(rt: &impl Abort, list: &Ipld, text: &str) {
+    let expected = IndexError::ParseInteger(IpldIndex::MapRef(text));
+    assert!(rt; list.get(text) == Err(expected), "{text}");
+}
+
 // Nothing here allocates but what makes the trees.
 #[test]
-fn looked_into(rt: HostRuntime) -> Result<(), Ended> {
+fn lists_looked_into(rt: HostRuntime) -> Result<(), Ended> {
     let alloc = rt.alloc();
-    let list = ipld!(alloc, [true, null])?;
-    assert!(rt;
-        list.get(1) == Ok(Some(&Ipld::Null)) && list.get("+0") == Ok(Some(&Ipld::Bool(true)))
-    );
-    assert!(rt; list.get("001") == Ok(Some(&Ipld::Null)) && list.get("2") == Ok(None));
-    assert!(rt; list.get(String::from_str(alloc, "1")?) == Ok(Some(&Ipld::Null)));
-    assert!(rt; list.get(IpldIndex::List(0)) == Ok(Some(&Ipld::Bool(true))));
+    let list = ipld!(alloc, [0u8, 1u8, 2u8])?;
+    for text in ["+1", "001", "1"] {
+        assert!(rt; list.get(text) == Ok(Some(&Ipld::Integer(1))), "{text}");
+    }
+    for text in ["", "-0", "-1", "+", "99999999999999999999999"] {
+        is_no_number(&rt, &list, text);
+    }
+    assert!(rt; list.get(3) == Ok(None) && list.get("3") == Ok(None));
+    assert!(rt; list.get(String::from_str(alloc, "1")?) == Ok(Some(&Ipld::Integer(1))));
+    assert!(rt; list.get(IpldIndex::List(0)) == Ok(Some(&Ipld::Integer(0))));
     assert!(rt; list.get(String::from_str(alloc, "-1")?).is_err());
-    assert!(rt; list.take("1") == Ok(Some(Ipld::Null)));
+    assert!(rt; list.take(1) == Ok(Some(Ipld::Integer(1))));
+    assert!(rt; ipld!(alloc, [true, null])?.take("1") == Ok(Some(Ipld::Null)));
     assert!(rt; ipld!(alloc, [true, null])?.take(2) == Ok(None));
+    Ok(())
+}
+
+#[test]
+fn maps_looked_into(rt: HostRuntime) -> Result<(), Ended> {
+    let alloc = rt.alloc();
     let map = ipld!(alloc, {"7": true, "+7": null})?;
-    assert!(rt;
-        map.get(7) == Ok(Some(&Ipld::Bool(true))) && map.get("+7") == Ok(Some(&Ipld::Null))
-    );
-    assert!(rt;
-        map.get("07") == Ok(None) && map.get(IpldIndex::List(7)) == Ok(Some(&Ipld::Bool(true)))
-    );
+    assert!(rt; map.get(7) == Ok(Some(&Ipld::Bool(true))));
+    assert!(rt; map.get("+7") == Ok(Some(&Ipld::Null)) && map.get("07") == Ok(None));
+    assert!(rt; map.get(IpldIndex::List(7)) == Ok(Some(&Ipld::Bool(true))));
     assert!(rt; map.get(String::from_str(alloc, "7")?) == Ok(Some(&Ipld::Bool(true))));
     assert!(rt; map.take(7) == Ok(Some(Ipld::Bool(true))));
+    assert!(rt; ipld!(alloc, {"7": true})?.take("7") == Ok(Some(Ipld::Bool(true))));
     Ok(())
 }

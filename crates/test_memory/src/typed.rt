@@ -30,9 +30,12 @@ fn string(alloc: Global) -> Result<String, AllocError> {
 
 fn person(alloc: Global) -> Result<Person, Ended> {
     Ok(Person {
-        name: String::new(alloc),
+        name: String::from_str(alloc, "Hello World!")?,
         age: 52,
-        hobbies: vec![in alloc; string(alloc)?]?,
+        hobbies: vec![in alloc;
+            String::from_str(alloc, "geography")?,
+            String::from_str(alloc, "programming")?,
+        ]?,
         is_cool: true,
         link: cid(&A)?,
     })

@@ -43,6 +43,17 @@ fn of_numbers(rt: HostRuntime) {
 }
 
 #[test]
+fn of_one(rt: HostRuntime) {
+    let one = Ipld::Integer(1);
+    assert!(rt; Ipld::from(1i8) == one && Ipld::from(1i16) == one && Ipld::from(1i32) == one);
+    assert!(rt; Ipld::from(1i64) == one && Ipld::from(1i128) == one);
+    assert!(rt; Ipld::from(1isize) == one && Ipld::from(1usize) == one);
+    assert!(rt; Ipld::from(1u8) == one && Ipld::from(1u16) == one && Ipld::from(1u32) == one);
+    assert!(rt; Ipld::from(1u64) == one);
+    assert!(rt; Ipld::from(false) == Ipld::Bool(false) && Ipld::from(true) == Ipld::Bool(true));
+}
+
+#[test]
 fn of_other_kinds(rt: HostRuntime) -> Result<(), Ended> {
     let cid = cid(&A)?;
     takes(&rt, Ipld::Null, ());

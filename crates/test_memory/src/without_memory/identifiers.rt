@@ -38,6 +38,9 @@ fn from_texts(rt: HostRuntime) -> Result<(), Ended> {
     let read = cid(&B)?;
     assert!(rt; "bafkqaaih".parse::<Cid>() == Ok(read) && Cid::try_from("bafkqaaih") == Ok(read));
     assert!(rt; LONG.parse::<Cid>() == Err(CidError::DigestTooLong));
+    let text = "bafyreibvjvcv745gig4mvqs4hctx4zfkono4rjejm2ta6gtyzkqxfjeily";
+    let first = Cid::from_text(rt.alloc(), text);
+    assert!(rt; first.is_ok_and(|cid| cid.encoded_len() == 36));
     let empty = CidGeneric::<0>::from_text(rt.alloc(), "bafkqaaa");
     assert!(rt; empty.is_ok_and(|cid| cid.encoded_len() == 4));
     let outcome = CidGeneric::<0>::from_text(rt.alloc(), "bafkqaaih");
