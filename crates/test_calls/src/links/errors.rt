@@ -127,7 +127,7 @@ fn reports_an_error_of_the_reader(rt: HostRuntime) {
 fn asks_no_reader_for_an_unknown_word(rt: HostRuntime) {
     let mut reader = Pieces::new(b"", 1, Some(ErrorKind::Other));
     let mut written = Vec::new(rt.alloc());
-    let outcome = outcome_of(rt.alloc(), "none", &mut reader, &mut written);
+    let outcome = outcome_of(rt.alloc(), "list", &mut reader, &mut written);
     assert_eq!(rt; outcome, Ok(Status::NotUnderstood));
     assert!(rt; !reader.interrupted);
 }
