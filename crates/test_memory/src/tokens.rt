@@ -99,7 +99,7 @@ fn links_found(rt: HostRuntime) -> Result<(), Ended> {
     Ok(())
 }
 
-// After a refusal the source holds an ending of its tokens, and else nothing.
+// Takes what a source of so many tokens still holds. If they were read, that is nothing. A contract says that otherwise it is an ending of them.
 fn holds_an_ending(rt: &impl Abort, source: &mut SliceSource<'_>, tokens: usize, is_read: bool) {
     let mut left = 0usize;
     for _ in 0..tokens {
