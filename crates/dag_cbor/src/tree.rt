@@ -187,7 +187,7 @@ impl TreeBuilder {
     }
 }
 
-impl<'a> Visitor<'a> for TreeBuilder {
+impl Visitor for TreeBuilder {
     ghost use Rattle.dag_cbor_format.specs.Trace.{tokens_in};
 
     ghost Answer = { Option Tree };
@@ -195,7 +195,7 @@ impl<'a> Visitor<'a> for TreeBuilder {
     ghost answer = { λ builder events. tree_answer builder (tokens_in events) };
 
     #[inline(always)]
-    fn visit(&mut self, event: &Event<'a>, _left: usize) -> Result<(), AllocError> {
+    fn visit(&mut self, event: &Event<'_>, _left: usize) -> Result<(), AllocError> {
         match event {
             Event::Null => self.add_null(),
             Event::Bool(truth) => self.add_bool(*truth),

@@ -353,7 +353,8 @@ module _ (laws : CidLaws) (floats : Bool) where
   end_ahead : (content : List ℕ) → trace_ahead floats [] content ≡ traced (length content) (trace_ahead floats) (end_step content)
   end_ahead content = trace_unwound floats laws [] content
 
-  none_left : (content : List ℕ) → (length content == 0) ≡ true → trace_ahead floats [] content ≡ halted None 0
+  -- at the end of the bytes, if nothing is open
+  pub none_left : (content : List ℕ) → (length content == 0) ≡ true → trace_ahead floats [] content ≡ halted None 0
   none_left [] e = end_ahead []
   none_left (b ∷ content) e = absurd (cc (eqb-true (length (b ∷ content)) 0 e))
 

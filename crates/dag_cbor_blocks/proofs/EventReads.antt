@@ -1,6 +1,6 @@
 -- What is read of a block, from its events.
 use Rattle.std.proofs.Common.{◌≡◌, inl, inr, ℕ, Bool, true, false, List, [], ◌++◌, length, map, Option, Some, None, option_map, refl, sym, ap, subst, ◌∙◌, arith}
-use Rattle.std.specs.Prelude.{◌↔◌, ◌&&◌, Result, Ok, Err, MatchResult}
+use Rattle.std.specs.Prelude.{◌↔◌, ◌&&◌}
 use Rattle.std.proofs.lemmas.List.{append-nil}
 use Rattle.ipld_cid.specs.Cid.{Link}
 use Rattle.ipld_cid.specs.LinkOf.{link_of}
@@ -25,7 +25,7 @@ use Rattle.dag_cbor_format.specs.Canonical.{canonical}
 use Rattle.dag_cbor_format.specs.Found.{links_among}
 use Rattle.dag_cbor_format.specs.KeysAscend.{keys_ascend, is_sorted}
 use Rattle.dag_cbor_format.specs.Reading.{unless_error}
-use Rattle.dag_cbor_format.specs.Trace.{Event, tokens_in, Trace, trace_of, Position, positions_among, error_in, links_read, positions_read}
+use Rattle.dag_cbor_format.specs.Trace.{tokens_in, Trace, trace_of, Position, positions_among, error_in, links_read, positions_read}
 use Rattle.dag_cbor_format.specs.WithFloats.{EncodesIn, EncodesTreeIn}
 use Rattle.dag_cbor_format.specs.declared.error.CborError.TheVariants.{Memory}
 use Rattle.dag_cbor_blocks.proofs.Counting.{limit_is, tree_allowed, tree_within}
@@ -36,8 +36,7 @@ use Rattle.dag_cbor_format.proofs.CidLaws.{cid_laws}
 use Rattle.dag_cbor_blocks.specs.LinkFinder.{links_with, links_counted}
 use Rattle.dag_cbor_blocks.specs.LinkPositions.{position_of, positions_with}
 use Rattle.dag_cbor_blocks.specs.OrderChecker.{lasts_in, lasts_of, sorted_with}
-use Rattle.dag_cbor_blocks.specs.Within.{StopsAt, EventsWithin}
-use Rattle.dag_cbor_blocks.specs.declared.block_error.BlockError.{BlockError}
+use Rattle.dag_cbor_blocks.specs.Within.{StopsAt}
 use Rattle.dag_cbor_blocks.specs.declared.block_error.BlockErrorKind.{BlockErrorKind}
 use Rattle.dag_cbor_blocks.specs.declared.block_error.BlockErrorKind.TheVariants.{Cbor, TooDeep, TooMany}
 use Rattle.dag_cbor_blocks.specs.declared.canonical.OrderChecker.{OrderChecker}
@@ -163,9 +162,3 @@ only_memory floats limits block TooDeep offset stops t is within = absurd (let e
 only_memory floats limits block TooMany offset stops t is within = absurd (let e = sym stops ∙ (limits_where floats limits is.0 t block is.1 is.2).1 within in cc)
 only_memory floats limits block (Cbor error) offset (inl memory) t is within = ap Cbor memory.0
 only_memory floats limits block (Cbor error) offset (inr stops) t is within = absurd (error_in_or_tree cid_laws floats block error stops.0 t is)
-
--- a block was read, or why it wasn't
-pub checked : {V A : Type 0} (floats : Bool) (answer : V → List Event → A) (old : V) (limits : Limits) (block : List ℕ) (r : Result (Unit {0}) BlockError) (new : V) → EventsWithin floats answer old limits block r new
-    → MatchResult r (λ _. (error_in floats block ≡ None) × (limit_passed floats limits block ≡ None)) (λ error. StopsAt floats limits block error.kind error.offset)
-checked floats answer old limits block (Ok u) new (whole, same, within) = (error_known floats block whole, within)
-checked floats answer old limits block (Err error) new stops = stops

@@ -14,7 +14,7 @@ pub mod EventReads
 pub mod TapeReads
 pub mod Tapes
 pub mod Fits
-pub mod LinkReads
+pub mod ShallowVisits
 pub mod ShallowTapes
 mod Texts
 pub mod KeyBytes

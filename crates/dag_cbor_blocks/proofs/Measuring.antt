@@ -225,6 +225,13 @@ mutual
 
 -- ---- a block
 
+-- the lists and maps of a block nest as deep as those of its tree
+pub nests : (floats : Bool) (block : List ℕ) (t : Tree) → EncodesTreeIn floats t block → deepest_in 0 (trace_of floats block).events ≡ nest t
+nests floats block t (i, encodes, is) =
+    let over = over_block_in cid_laws floats i t block encodes is in
+    let s = item_size i t over.events [] 0 over.of is in
+    omega (arith, ap (λ (x : Trace). deepest_in 0 x.events) over.is, s.levels)
+
 module _ (floats : Bool) (block : List ℕ) (old new : Measurer) (fresh : old ≡ record { depth = 0; levels = 0; values = 0; links = 0 })
     (whole : (trace_of floats block).error ≡ None) (same : measured new [] ≡ measured old (trace_of floats block).events) where
   abbrev events : List Event

@@ -18,6 +18,6 @@ pub mod Tokens
 pub mod TokensSource
 pub mod Decoded
 pub mod Measuring
-pub mod ShallowLinks
+pub mod ShallowVisit
 pub mod ShallowTape
 pub mod TapeErrors

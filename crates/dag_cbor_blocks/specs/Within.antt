@@ -24,17 +24,25 @@ StopsAt floats limits block (Cbor error) offset =
     ((error ≡ Memory) × (offset ≤ length block))
     ⊎ ((error_in floats block ≡ Some error) × (limit_passed floats limits block ≡ None) × (offset ≡ error_offset floats block))
 
--- a visitor has taken all events of the block, whose bytes have no error and pass no limit; or why it hasn't, and so many bytes are left where that lies
-abbrev pub VisitsParts : {V A : Type 0} → Bool → (V → List Event → A) → V → Limits → List ℕ → Result (Unit {0}) BlockErrorKind → V → ℕ → Type 0
-VisitsParts floats answer old limits block (Ok done) new left =
+-- a visitor has taken all events of the block, whose bytes have no error and pass no limit
+abbrev pub TakesWhole : {V A : Type 0} → Bool → (V → List Event → A) → V → Limits → List ℕ → V → Type 0
+TakesWhole floats answer old limits block new =
     ((trace_of floats block).error ≡ None) × (answer new [] ≡ answer old (trace_of floats block).events) × (limit_passed floats limits block ≡ None)
+
+-- it has, or why it hasn't, and so many bytes are left where that lies
+abbrev pub VisitsParts : {V A : Type 0} → Bool → (V → List Event → A) → V → Limits → List ℕ → Result (Unit {0}) BlockErrorKind → V → ℕ → Type 0
+VisitsParts floats answer old limits block (Ok done) new left = TakesWhole floats answer old limits block new
 VisitsParts floats answer old limits block (Err kind) new left = StopsAt floats limits block kind (length block - left)
 
--- a visitor has taken all events of the block, whose bytes have no error and pass no limit; or why it has not, and at which byte
+-- it has, or why it hasn't, and at which byte
 abbrev pub EventsWithin : {V A : Type 0} → Bool → (V → List Event → A) → V → Limits → List ℕ → Result (Unit {0}) BlockError → V → Type 0
-EventsWithin floats answer old limits block (Ok done) new =
-    ((trace_of floats block).error ≡ None) × (answer new [] ≡ answer old (trace_of floats block).events) × (limit_passed floats limits block ≡ None)
+EventsWithin floats answer old limits block (Ok done) new = TakesWhole floats answer old limits block new
 EventsWithin floats answer old limits block (Err error) new = StopsAt floats limits block error.kind error.offset
+
+-- the same of a visitor that is given back
+abbrev pub ReturnsVisitor : {V A : Type 0} → Bool → (V → List Event → A) → V → Limits → List ℕ → Result V BlockError → Type 0
+ReturnsVisitor floats answer old limits block (Ok new) = TakesWhole floats answer old limits block new
+ReturnsVisitor floats answer old limits block (Err error) = StopsAt floats limits block error.kind error.offset
 
 -- what is read of a block is this, and no limit is passed; or why it isn't read, and where
 abbrev pub ReadsAs : {A B : Type 0} → Bool → Limits → List ℕ → Option B → (A → B) → Result A BlockError → Type 0

@@ -13,21 +13,19 @@ ghost use Rattle.dag_cbor_blocks.specs.BlockReading.{ahead_of, item_ahead, heade
 
 use crate::block_error::{BlockError, BlockErrorKind};
 use crate::counter::{Counter, PartKind};
+use crate::link::read_link_cid;
 use crate::options::ReadOptions;
 use crate::position::{Next, Position};
-use crate::visit::{Event, Visitor};
+use crate::visit::{BorrowingVisitor, Event};
 use dag_cbor_format::head::read_head;
-use dag_cbor_format::item_header::{
-    FLOAT, LINK_TAG, is_finite, read_bytes, read_link_bytes, read_text,
-};
+use dag_cbor_format::item_header::{FLOAT, LINK_TAG, is_finite, read_bytes, read_text};
 use dag_cbor_format::{CborError, Major};
-use ipld_cid::Cid;
 use ipld_tree::Limits;
 use std::alloc::Global;
 
 // An integer, after its head.
 #[inline(always)]
-fn read_unsigned<'a, const FLOATS: bool, V: Visitor<'a>>(
+fn read_unsigned<'a, const FLOATS: bool, V: BorrowingVisitor<'a>>(
     position: &mut Position<'a>,
     visitor: &mut V,
     number: u64,
@@ -40,7 +38,7 @@ fn read_unsigned<'a, const FLOATS: bool, V: Visitor<'a>>(
 
 // A negative integer, after its head.
 #[inline(always)]
-fn read_negative<'a, const FLOATS: bool, V: Visitor<'a>>(
+fn read_negative<'a, const FLOATS: bool, V: BorrowingVisitor<'a>>(
     position: &mut Position<'a>,
     visitor: &mut V,
     argument: u64,
@@ -56,7 +54,7 @@ fn read_negative<'a, const FLOATS: bool, V: Visitor<'a>>(
 
 // The content of a byte string, after its head.
 #[inline(always)]
-fn read_byte_string<'a, const FLOATS: bool, V: Visitor<'a>>(
+fn read_byte_string<'a, const FLOATS: bool, V: BorrowingVisitor<'a>>(
     position: &mut Position<'a>,
     visitor: &mut V,
     length: u64,
@@ -71,7 +69,7 @@ fn read_byte_string<'a, const FLOATS: bool, V: Visitor<'a>>(
 
 // The content of a text string, after its head.
 #[inline(always)]
-fn read_text_string<'a, const FLOATS: bool, V: Visitor<'a>>(
+fn read_text_string<'a, const FLOATS: bool, V: BorrowingVisitor<'a>>(
     position: &mut Position<'a>,
     visitor: &mut V,
     length: u64,
@@ -86,7 +84,7 @@ fn read_text_string<'a, const FLOATS: bool, V: Visitor<'a>>(
 
 // A list is open, after its head.
 #[inline(always)]
-fn begin_list<'a, const FLOATS: bool, V: Visitor<'a>>(
+fn begin_list<'a, const FLOATS: bool, V: BorrowingVisitor<'a>>(
     position: &mut Position<'a>,
     visitor: &mut V,
     items: u64,
@@ -101,7 +99,7 @@ fn begin_list<'a, const FLOATS: bool, V: Visitor<'a>>(
 
 // A map is open, after its head.
 #[inline(always)]
-fn begin_map<'a, const FLOATS: bool, V: Visitor<'a>>(
+fn begin_map<'a, const FLOATS: bool, V: BorrowingVisitor<'a>>(
     position: &mut Position<'a>,
     visitor: &mut V,
     pairs: u64,
@@ -114,7 +112,7 @@ fn begin_map<'a, const FLOATS: bool, V: Visitor<'a>>(
 }
 
 // A link, after the head of its tag.
-fn read_link<'a, const FLOATS: bool, V: Visitor<'a>>(
+fn read_link<'a, const FLOATS: bool, V: BorrowingVisitor<'a>>(
     position: &mut Position<'a>,
     visitor: &mut V,
     tag: u64,
@@ -125,9 +123,8 @@ fn read_link<'a, const FLOATS: bool, V: Visitor<'a>>(
         return Err(CborError::Unsupported);
     }
     position.begun = position.rest.len();
-    let (encoded, rest) = read_link_bytes(position.rest)?;
-    match Cid::try_from(encoded) {
-        Ok(cid) => {
+    match read_link_cid(position.rest) {
+        Ok((cid, encoded, rest)) => {
             position.rest = rest;
             visitor.visit(
                 &Event::Link {
@@ -139,13 +136,13 @@ fn read_link<'a, const FLOATS: bool, V: Visitor<'a>>(
             )?;
             Ok(PartKind::Scalar)
         }
-        Err(error) => Err(CborError::Cid(error)),
+        Err(error) => Err(error),
     }
 }
 
 // A simple value, after its head.
 #[inline(always)]
-fn read_simple<'a, const FLOATS: bool, V: Visitor<'a>>(
+fn read_simple<'a, const FLOATS: bool, V: BorrowingVisitor<'a>>(
     position: &mut Position<'a>,
     visitor: &mut V,
     value: u64,
@@ -163,7 +160,7 @@ fn read_simple<'a, const FLOATS: bool, V: Visitor<'a>>(
 
 // What stands behind the head of an item, or the beginning of it.
 #[inline(always)]
-fn read_content<'a, const FLOATS: bool, V: Visitor<'a>>(
+fn read_content<'a, const FLOATS: bool, V: BorrowingVisitor<'a>>(
     position: &mut Position<'a>,
     visitor: &mut V,
     major: Major,
@@ -184,7 +181,7 @@ fn read_content<'a, const FLOATS: bool, V: Visitor<'a>>(
 }
 
 // A float, which is read as null, behind the byte that is its head.
-fn read_float<'a, const FLOATS: bool, V: Visitor<'a>>(
+fn read_float<'a, const FLOATS: bool, V: BorrowingVisitor<'a>>(
     position: &mut Position<'a>,
     visitor: &mut V,
 ) -> Result<PartKind, CborError>
@@ -203,7 +200,7 @@ fn read_float<'a, const FLOATS: bool, V: Visitor<'a>>(
 
 // An item that is no float, or what it begins with.
 #[inline(always)]
-fn read_item_without_floats<'a, const FLOATS: bool, V: Visitor<'a>>(
+fn read_item_without_floats<'a, const FLOATS: bool, V: BorrowingVisitor<'a>>(
     position: &mut Position<'a>,
     visitor: &mut V,
 ) -> Result<PartKind, CborError>
@@ -219,7 +216,7 @@ fn read_item_without_floats<'a, const FLOATS: bool, V: Visitor<'a>>(
 
 // An item, or what it begins with.
 #[inline(always)]
-fn read_item<'a, const FLOATS: bool, V: Visitor<'a>>(
+fn read_item<'a, const FLOATS: bool, V: BorrowingVisitor<'a>>(
     position: &mut Position<'a>,
     visitor: &mut V,
 ) -> Result<PartKind, CborError>
@@ -237,7 +234,7 @@ fn read_item<'a, const FLOATS: bool, V: Visitor<'a>>(
 
 // Goes on in what is open.
 #[inline(always)]
-fn read_part<'a, const FLOATS: bool, V: Visitor<'a>>(
+fn read_part<'a, const FLOATS: bool, V: BorrowingVisitor<'a>>(
     position: &mut Position<'a>,
     visitor: &mut V,
 ) -> Result<PartKind, CborError>
@@ -269,7 +266,7 @@ fn read_part<'a, const FLOATS: bool, V: Visitor<'a>>(
 /// # Errors
 ///
 /// `Memory` where an allocation failed, also the visitor's, else the first error of the bytes. Then the visitor has taken some parts.
-pub fn read_events<'a, const FLOATS: bool, V: Visitor<'a>>(
+pub fn read_events<'a, const FLOATS: bool, V: BorrowingVisitor<'a>>(
     alloc: Global,
     bytes: &'a [u8],
     visitor: &mut V,
@@ -288,7 +285,7 @@ pub fn read_events<'a, const FLOATS: bool, V: Visitor<'a>>(
 }
 
 // Reads a whole block from where it begins, while its parts are within the limits.
-fn read_parts<'a, const FLOATS: bool, V: Visitor<'a>>(
+fn read_parts<'a, const FLOATS: bool, V: BorrowingVisitor<'a>>(
     position: &mut Position<'a>,
     limits: Limits,
     visitor: &mut V,
@@ -315,7 +312,8 @@ fn read_parts<'a, const FLOATS: bool, V: Visitor<'a>>(
 /// # Errors
 ///
 /// Those of [`check_block`](crate::check_block), also where an allocation of the visitor failed. Then the visitor has taken some parts.
-pub fn read_events_within<'a, const FLOATS: bool, V: Visitor<'a>>(
+#[inline(never)]
+pub fn read_events_within<'a, const FLOATS: bool, V: BorrowingVisitor<'a>>(
     alloc: Global,
     bytes: &'a [u8],
     limits: Limits,
@@ -334,7 +332,8 @@ pub fn read_events_within<'a, const FLOATS: bool, V: Visitor<'a>>(
 }
 
 // Reads a whole block within the limits of the options, with floats or without as they say.
-pub(crate) fn read_events_as<'a, V: Visitor<'a>>(
+#[inline(always)]
+pub(crate) fn read_events_as<'a, V: BorrowingVisitor<'a>>(
     alloc: Global,
     bytes: &'a [u8],
     options: &ReadOptions,

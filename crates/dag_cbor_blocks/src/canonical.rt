@@ -5,7 +5,7 @@ ghost use Rattle.dag_cbor_blocks.specs.OrderChecker.{last_of};
 ghost use Rattle.dag_cbor_format.specs.KeysAscend.{follows};
 
 use crate::keys::comes_after;
-use crate::visit::{Event, Visitor};
+use crate::visit::{BorrowingVisitor, Event};
 use std::alloc::{AllocError, Global};
 
 // The order of a block's keys so far.
@@ -57,7 +57,7 @@ impl<'a> OrderChecker<'a> {
     }
 }
 
-impl<'a> Visitor<'a> for OrderChecker<'a> {
+impl<'a> BorrowingVisitor<'a> for OrderChecker<'a> {
     ghost use Rattle.dag_cbor_blocks.specs.OrderChecker.{sorted_with};
 
     ghost Answer = { Bool };

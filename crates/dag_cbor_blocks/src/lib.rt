@@ -1,8 +1,9 @@
 //! Blocks of DAG-CBOR, with floats and without, read without building their trees.
 //!
 //! The calls at the root take [`ReadOptions`], which have the limits and whether floats are read, and say at which byte reading stopped.
-//! They read the bytes from the left, by a loop; [`links_of_block`] and [`tape::read_tape`] recurse, for at most 32 levels, and read by the
-//! loop, from the start, a block that nests deeper, has its keys in another order than length-first, or has an error:
+//! They read the bytes from the left, by a recursion of at most 32 levels. A block that nests deeper, has its keys in another order than
+//! length-first, has more bytes than it may have values, or has an error they read again, from its start, in a loop. [`is_canonical`] reads
+//! each block in the loop alone.
 //!
 //! ```rust
 //! use dag_cbor_blocks::{BlockError, ReadOptions, links_of_block};
@@ -28,7 +29,9 @@ pub mod block;
 mod block_error;
 mod canonical;
 mod counter;
+mod drive;
 mod keys;
+mod link;
 mod link_position;
 pub mod links;
 mod measure;
@@ -37,7 +40,6 @@ mod position;
 mod read;
 mod reader;
 pub mod shallow;
-mod shallow_links;
 mod shallow_tape;
 pub mod tape;
 mod tokens;

@@ -37,7 +37,7 @@ impl PositionFinder {
     }
 }
 
-impl<'a> Visitor<'a> for PositionFinder {
+impl Visitor for PositionFinder {
     ghost use Rattle.dag_cbor_blocks.specs.LinkPositions.{positions_with};
 
     ghost Answer = { List Position };
@@ -45,7 +45,7 @@ impl<'a> Visitor<'a> for PositionFinder {
     ghost answer = { positions_with };
 
     #[inline(always)]
-    fn visit(&mut self, event: &Event<'a>, _left: usize) -> Result<(), AllocError> {
+    fn visit(&mut self, event: &Event<'_>, _left: usize) -> Result<(), AllocError> {
         match event {
             Event::Link { encoded, left, .. } => {
                 let length = encoded.len();

@@ -26,7 +26,7 @@ impl LinkFinder {
     }
 }
 
-impl<'a> Visitor<'a> for LinkFinder {
+impl Visitor for LinkFinder {
     ghost use Rattle.dag_cbor_blocks.specs.LinkFinder.{links_with};
 
     ghost Answer = { List Link };
@@ -34,7 +34,7 @@ impl<'a> Visitor<'a> for LinkFinder {
     ghost answer = { λ finder events. links_with finder (tokens_in events) };
 
     #[inline(always)]
-    fn visit(&mut self, event: &Event<'a>, _left: usize) -> Result<(), AllocError> {
+    fn visit(&mut self, event: &Event<'_>, _left: usize) -> Result<(), AllocError> {
         match event {
             Event::Link { cid, .. } => {
                 self.links.push(*cid)?;
@@ -51,7 +51,7 @@ pub(crate) struct LinkCounter {
     pub(crate) count: usize,
 }
 
-impl<'a> Visitor<'a> for LinkCounter {
+impl Visitor for LinkCounter {
     ghost use Rattle.std.specs.Prelude.{ℕ};
     ghost use Rattle.dag_cbor_blocks.specs.LinkFinder.{links_counted};
 
@@ -60,7 +60,7 @@ impl<'a> Visitor<'a> for LinkCounter {
     ghost answer = { λ counter events. links_counted counter (tokens_in events) };
 
     #[inline(always)]
-    fn visit(&mut self, event: &Event<'a>, _left: usize) -> Result<(), AllocError> {
+    fn visit(&mut self, event: &Event<'_>, _left: usize) -> Result<(), AllocError> {
         match event {
             Event::Link { .. } => {
                 self.count = self.count.checked_add(1).ok_or(AllocError)?;

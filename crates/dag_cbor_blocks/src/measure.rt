@@ -8,8 +8,8 @@ ghost use Rattle.dag_cbor_format.specs.WithFloats.{EncodesTreeIn};
 ghost use Rattle.dag_cbor_blocks.specs.Measuring.{measured, Counts, Measures};
 ghost use Rattle.dag_cbor_blocks.specs.Within.{ReadsAs, UnlessOutOfMemory};
 
-use crate::block::read_events_as;
 use crate::block_error::BlockError;
+use crate::drive::visit_block;
 use crate::options::ReadOptions;
 use crate::visit::{Event, Visitor};
 use std::alloc::{AllocError, Global};
@@ -93,7 +93,7 @@ impl Measurer {
     }
 }
 
-impl<'a> Visitor<'a> for Measurer {
+impl Visitor for Measurer {
     ghost use Rattle.dag_cbor_blocks.specs.declared.measure.BlockSize.{BlockSize};
 
     ghost Answer = { BlockSize };
@@ -101,7 +101,7 @@ impl<'a> Visitor<'a> for Measurer {
     ghost answer = { measured };
 
     #[inline(always)]
-    fn visit(&mut self, event: &Event<'a>, _left: usize) -> Result<(), AllocError> {
+    fn visit(&mut self, event: &Event<'_>, _left: usize) -> Result<(), AllocError> {
         match event {
             Event::Key(_) => Ok(()),
             Event::Link { .. } => self.count_link(),
@@ -120,13 +120,14 @@ impl<'a> Visitor<'a> for Measurer {
     }
 }
 
-/// How large the tree of a block is, and how many links it has, without building it. A float is a value like null.
+/// Returns how large the tree of a block is, and how many links it has. It makes no tree. A float is a value like null.
 ///
-/// It reads the bytes once, by a loop, and allocates as [`check_block`](crate::check_block) does.
+/// It allocates as [`check_block`](crate::check_block) does.
 ///
 /// # Errors
 ///
 /// Those of [`check_block`](crate::check_block): the same error of the same bytes, unless an allocation fails.
+#[inline(always)]
 pub fn measure_block(
     alloc: Global,
     bytes: &[u8],
@@ -136,8 +137,7 @@ pub fn measure_block(
     ensures found { IfOk result (λ size. (t : Tree) × EncodesTreeIn options.now.floats t bytes.now × Measures t size) }
     ensures only { (t : Tree) → EncodesTreeIn options.now.floats t bytes.now → Within options.now.limits t → UnlessOutOfMemory result (Measures t) }
 {
-    let mut measurer = Measurer::new();
-    read_events_as(alloc, bytes, options, &mut measurer)?;
+    let measurer = visit_block(alloc, bytes, options, Measurer::new(), Measurer::new())?;
     Ok(BlockSize {
         levels: measurer.levels,
         values: measurer.values,

@@ -16,20 +16,20 @@ ghost use Rattle.dag_cbor_blocks.specs.LinkPositions.{position_of};
 ghost use Rattle.dag_cbor_blocks.specs.Within.{StopsAt, ReadsAs, UnlessOutOfMemory};
 
 use crate::block::read_events_as;
-use crate::block_error::{BlockError, BlockErrorKind};
+use crate::block_error::BlockError;
 use crate::canonical::OrderChecker;
+use crate::drive::visit_block;
 use crate::link_position::{LinkPosition, PositionFinder};
 use crate::links::{LinkCounter, LinkFinder};
 use crate::options::ReadOptions;
-use crate::shallow::Stop;
-use crate::shallow_links::find_links;
-use dag_cbor_format::CborError;
 use ipld_cid::Cid;
 use std::alloc::Global;
 
-/// Whether the bytes are a block, within the limits of the options.
+/// Checks that the bytes are a block, within the limits of the options.
 ///
-/// The bytes are read once, in a loop, and nothing of them is kept but what is open and the keys of open maps.
+/// It allocates nothing if the block nests at most 32 levels deep, the keys of each map come in length-first order (RFC 8949, section
+/// 4.2.3), none of them is empty, and the block has no more bytes than it may have values. It reads any other block again, from its start,
+/// in a loop, and then allocates for what is open and for the keys of open maps.
 ///
 /// # Errors
 ///
@@ -38,23 +38,30 @@ use std::alloc::Global;
 /// - `TooDeep` or `TooMany` where the bytes pass a limit.
 /// - Else `Cbor`: with `Memory` where an allocation failed, else with the first error from the left. With floats it is `Float` of one of
 ///   16 or 32 bits, NaN or an infinity, and `End` of a float of 64 bits that is cut; without, `Float` of the first float.
+#[inline(always)]
 pub fn check_block(alloc: Global, bytes: &[u8], options: &ReadOptions) -> Result<(), BlockError>
     ensures exact { MatchResult result
         (λ _. (error_in options.now.floats bytes.now ≡ None) × (limit_passed options.now.floats options.now.limits bytes.now ≡ None))
         (λ error. StopsAt options.now.floats options.now.limits bytes.now error.kind error.offset) }
 {
-    let mut counter = LinkCounter { count: 0 };
-    read_events_as(alloc, bytes, options, &mut counter)
+    visit_block(
+        alloc,
+        bytes,
+        options,
+        LinkCounter { count: 0 },
+        LinkCounter { count: 0 },
+    )?;
+    Ok(())
 }
 
-/// The links in a block, in the order of its bytes, each as often as it stands there, and without building the tree.
+/// Returns the links of a block, in the order of its bytes, each as often as it stands there. It makes no tree.
 ///
-/// It allocates the vector alone where the block nests at most 32 levels deep, has no floats, and the keys of each map come in length-first
-/// order (RFC 8949, section 4.2.3), none of them empty. Another block is read a second time, from its start, as [`check_block`] reads it.
+/// It allocates the vector, and what [`check_block`] allocates for the same block.
 ///
 /// # Errors
 ///
 /// Those of [`check_block`]: the same error of the same bytes, unless an allocation fails.
+#[inline(always)]
 pub fn links_of_block(
     alloc: Global,
     bytes: &[u8],
@@ -65,46 +72,43 @@ pub fn links_of_block(
     ensures only { (i : Item 64) (t : Tree) → EncodesIn options.now.floats i bytes.now → tree_of_item i ≡ Some t → Within options.now.limits t
         → UnlessOutOfMemory result (λ links. map link_of links.items ≡ links_in i) }
 {
-    match find_links(alloc, bytes, &options.limits) {
-        Ok(links) => Ok(links),
-        Err(Stop::Memory) => Err(BlockError {
-            kind: BlockErrorKind::Cbor(CborError::Memory),
-            offset: 0,
-        }),
-        Err(Stop::Unread) => links_by_loop(alloc, bytes, options),
-    }
-}
-
-// The same, of a block that nests however deep, has keys in any order or floats, passes a limit or has an error.
-fn links_by_loop(alloc: Global, bytes: &[u8], options: &ReadOptions) -> Result<Vec<Cid>, BlockError>
-    ensures exact { ReadsAs options.now.floats options.now.limits bytes.now (links_read options.now.floats bytes.now) (λ links. map link_of links.items) result }
-    ensures found { IfOk result (λ links. LinksOf options.now.floats bytes.now (map link_of links.items)) }
-    ensures only { (i : Item 64) (t : Tree) → EncodesIn options.now.floats i bytes.now → tree_of_item i ≡ Some t → Within options.now.limits t
-        → UnlessOutOfMemory result (λ links. map link_of links.items ≡ links_in i) }
-{
-    let mut finder = LinkFinder::new(alloc);
-    read_events_as(alloc, bytes, options, &mut finder)?;
+    let finder = visit_block(
+        alloc,
+        bytes,
+        options,
+        LinkFinder::new(alloc),
+        LinkFinder::new(alloc),
+    )?;
     Ok(finder.links)
 }
 
-/// How many links a block has, repeats included. It keeps none of them.
+/// Returns how many links a block has, repeats included. It keeps none of them, and allocates as [`check_block`] does.
 ///
 /// # Errors
 ///
 /// Those of [`check_block`]: the same error of the same bytes, unless an allocation fails.
+#[inline(always)]
 pub fn count_links(alloc: Global, bytes: &[u8], options: &ReadOptions) -> Result<usize, BlockError>
     ensures exact { ReadsAs options.now.floats options.now.limits bytes.now (option_map length (links_read options.now.floats bytes.now)) (λ count. count) result }
 {
-    let mut counter = LinkCounter { count: 0 };
-    read_events_as(alloc, bytes, options, &mut counter)?;
+    let counter = visit_block(
+        alloc,
+        bytes,
+        options,
+        LinkCounter { count: 0 },
+        LinkCounter { count: 0 },
+    )?;
     Ok(counter.count)
 }
 
-/// Where the bytes of the links' CIDs stand in a block, in their order, repeats included. Nothing of the block is copied.
+/// Returns where the bytes of the links' CIDs stand in a block, in their order, repeats included. It copies nothing of the block.
+///
+/// It allocates the vector, and what [`check_block`] allocates for the same block.
 ///
 /// # Errors
 ///
 /// Those of [`check_block`]: the same error of the same bytes, unless an allocation fails.
+#[inline(always)]
 pub fn link_positions(
     alloc: Global,
     bytes: &[u8],
@@ -112,17 +116,25 @@ pub fn link_positions(
 ) -> Result<Vec<LinkPosition>, BlockError>
     ensures exact { ReadsAs options.now.floats options.now.limits bytes.now (positions_read options.now.floats bytes.now) (λ positions. map position_of positions.items) result }
 {
-    let mut finder = PositionFinder::new(alloc, bytes.len());
-    read_events_as(alloc, bytes, options, &mut finder)?;
+    let finder = visit_block(
+        alloc,
+        bytes,
+        options,
+        PositionFinder::new(alloc, bytes.len()),
+        PositionFinder::new(alloc, bytes.len()),
+    )?;
     Ok(finder.positions)
 }
 
-/// Whether a block is in canonical form: the keys of each map come in length-first order (RFC 8949, section 4.2.3). All else that it asks
-/// for is asked of each block. Where no floats are read it is the block that `DagCborCodec` of `dag_cbor` writes of its tree.
+/// Returns whether a block is in canonical form: the keys of each map come in length-first order (RFC 8949, section 4.2.3). All else that it
+/// asks for is asked of each block. If no floats are read it is the block that `DagCborCodec` of `dag_cbor` writes of its tree.
+///
+/// It reads the bytes once, in a loop, and allocates for what is open and for the keys of open maps.
 ///
 /// # Errors
 ///
 /// Those of [`check_block`]: the same error of the same bytes, unless an allocation fails.
+#[inline(always)]
 pub fn is_canonical(alloc: Global, bytes: &[u8], options: &ReadOptions) -> Result<bool, BlockError>
     ensures exact { ReadsAs options.now.floats options.now.limits bytes.now (is_sorted options.now.floats bytes.now) (λ sorted. sorted) result }
     ensures canonical { options.now.floats ≡ false → IfOk result (λ sorted. (sorted ≡ true) ↔ ((t : Tree) × (canonical t ≡ Some bytes.now))) }

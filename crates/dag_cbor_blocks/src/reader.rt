@@ -4,10 +4,10 @@ ghost use Rattle.std.specs.Prelude.{◌≡◌, ◌∷◌, []};
 ghost use Rattle.dag_cbor_format.specs.Reading.{one};
 ghost use Rattle.dag_cbor_blocks.specs.Reader.{frames_of, Steps};
 
+use crate::link::read_link_cid;
 use crate::position::{Next, Position};
 use dag_cbor_format::CborError;
-use dag_cbor_format::item_header::{ItemHeader, read_header, read_link_bytes};
-use ipld_cid::Cid;
+use dag_cbor_format::item_header::{ItemHeader, read_header};
 use ipld_tokens::{Token, TokenBytes};
 use std::alloc::Global;
 
@@ -80,14 +80,13 @@ impl<'a> Reader<'a> {
         requires { self.old.stage ≡ TokenStage.LinkBytes }
         ensures { Steps self.old self.new result }
     {
-        let (encoded, rest) = read_link_bytes(self.position.rest)?;
-        match Cid::try_from(encoded) {
-            Ok(_) => {
+        match read_link_cid(self.position.rest) {
+            Ok((_cid, encoded, rest)) => {
                 self.stage = TokenStage::Inside;
                 self.position.rest = rest;
                 Ok(Some(Token::Bytes(TokenBytes::Lent(encoded))))
             }
-            Err(error) => Err(CborError::Cid(error)),
+            Err(error) => Err(error),
         }
     }
 

@@ -325,13 +325,13 @@ impl TapeWriter {
     }
 }
 
-impl<'a> Visitor<'a> for TapeWriter {
+impl Visitor for TapeWriter {
     ghost Answer = { Reading };
 
     ghost answer = { tape_with };
 
     #[inline(always)]
-    fn visit(&mut self, event: &Event<'a>, left: usize) -> Result<(), AllocError> {
+    fn visit(&mut self, event: &Event<'_>, left: usize) -> Result<(), AllocError> {
         match event {
             Event::Null => self.push_null_or_float(left),
             Event::Bool(truth) => self.push_bool(*truth, left),

@@ -44,20 +44,51 @@ pub enum Event<'a> {
     EndOfMap,
 }
 
-/// Takes the parts of a block one after another.
-pub trait Visitor<'a>: Drop {
+/// Takes the parts of a block one after another, and keeps nothing of the block's bytes.
+pub trait Visitor: Drop {
     // What the visitor comes to in the end.
     ghost Answer: { Type 0 };
 
-    // What the visitor comes to where it takes these events and no more.
+    // What the visitor comes to if it takes these events and no more.
     ghost answer: { Self → List Traced → Answer };
 
     /// Takes the next part, which so many bytes of the block follow; of a link it is the tag that they follow.
     ///
     /// # Errors
     ///
-    /// `AllocError` where an allocation failed. What the visitor then comes to isn't said.
+    /// `AllocError` if an allocation failed. What the visitor then comes to isn't said.
+    fn visit(&mut self, event: &Event<'_>, left: usize) -> Result<(), AllocError>
+        requires { IsRead event.now }
+        ensures { (key : Bool) → Takes answer self.old (events_of event.now left key) result self.new };
+}
+
+/// Takes the parts of a block one after another, as a [`Visitor`] does, and may keep strings and bytes of the block.
+///
+/// Each [`Visitor`] is one. The loop of [`block`](crate::block) drives it; the recursion for blocks that nest little drives a [`Visitor`].
+pub trait BorrowingVisitor<'a>: Drop {
+    // What the visitor comes to in the end.
+    ghost Answer: { Type 0 };
+
+    // What the visitor comes to if it takes these events and no more.
+    ghost answer: { Self → List Traced → Answer };
+
+    /// Takes the next part, as [`Visitor::visit`] does.
+    ///
+    /// # Errors
+    ///
+    /// Those of [`Visitor::visit`].
     fn visit(&mut self, event: &Event<'a>, left: usize) -> Result<(), AllocError>
         requires { IsRead event.now }
         ensures { (key : Bool) → Takes answer self.old (events_of event.now left key) result self.new };
+}
+
+impl<'a, V: Visitor> BorrowingVisitor<'a> for V {
+    ghost Answer = { V.Answer };
+
+    ghost answer = { V.answer };
+
+    #[inline(always)]
+    fn visit(&mut self, event: &Event<'a>, left: usize) -> Result<(), AllocError> {
+        Visitor::visit(self, event, left)
+    }
 }

@@ -15,7 +15,7 @@ use ipld_cid::Cid;
 use ipld_tree::Limits;
 use std::alloc::Global;
 
-// Floats are read, and there are no limits but the bytes: no call here recurses.
+// Floats are read, and there are no limits but the bytes: no call here recurses for more than 32 levels.
 const OPTIONS: ReadOptions = ReadOptions {
     limits: Limits {
         levels: usize::MAX,

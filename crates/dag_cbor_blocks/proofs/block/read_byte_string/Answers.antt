@@ -14,5 +14,5 @@ returns g c =
     let read = c.in_ok-content in
     let after : Position = record p { rest = read.rest } in
     let shorter = front_shorter c.args.length p.rest.now read.content.now read.rest.now read.ensures in
-    bytes_taken (is_on g.row.FLOATS) g.V.Visitor.answer c.args.visitor.now c.visit.new.self (kinds_of p) (headed (is_on g.row.FLOATS) Bytes c.args.length p) p.begun _ after read.content.now (after_a_key (frames_of p))
+    bytes_taken (is_on g.row.FLOATS) g.V.BorrowingVisitor.answer c.args.visitor.now c.visit.new.self (kinds_of p) (headed (is_on g.row.FLOATS) Bytes c.args.length p) p.begun _ after read.content.now (after_a_key (frames_of p))
     (bytes_ahead (is_on g.row.FLOATS) p c.args.length read.content.now read.rest.now read.ensures) (c.in_ok-visit.ensures (after_a_key (frames_of p))) refl refl (omega (arith, shorter))

@@ -23,7 +23,7 @@ loop-position-init g c =
     let block = c.args.bytes.now in
     let begins = at_start cid_laws (is_on g.row.FLOATS) c.new-position.result block c.new-position.ensures.frames c.new-position.ensures.rest in (
       c.in_ok-read_item.ensures.same_error ∙ sym (ap (λ (x : Trace). x.error) begins),
-      c.in_ok-read_item.ensures.same_answer ∙ sym (ap (λ (x : Trace). g.V.Visitor.answer c.args.visitor.now x.events) begins),
+      c.in_ok-read_item.ensures.same_answer ∙ sym (ap (λ (x : Trace). g.V.BorrowingVisitor.answer c.args.visitor.now x.events) begins),
     )
 
 pub returns-then-not-is_empty : goal.returns-then-not-is_empty
@@ -38,5 +38,5 @@ pub returns : goal.returns
 returns g c =
     let ends = at_end cid_laws (is_on g.row.FLOATS) c.loop-position.position (sym c.is_open.ensures ∙ c.loop-position-test.false) (sym c.is_empty.ensures ∙ c.if-not-is_empty.false) in (
       sym c.loop-position.invariant.0 ∙ ap (λ (x : Trace). x.error) ends,
-      sym (ap (λ (x : Trace). g.V.Visitor.answer c.loop-position.visitor x.events) ends) ∙ c.loop-position.invariant.1,
+      sym (ap (λ (x : Trace). g.V.BorrowingVisitor.answer c.loop-position.visitor x.events) ends) ∙ c.loop-position.invariant.1,
     )

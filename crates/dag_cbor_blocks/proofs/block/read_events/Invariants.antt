@@ -9,7 +9,7 @@ use Rattle.dag_cbor_blocks.proofs.block.read_events.Given as goal
 abbrev pub invariant-loop-position : goal.invariant-loop-position
 invariant-loop-position g l =
     ((ahead_of (is_on g.row.FLOATS) l.position).error ≡ (trace_of (is_on g.row.FLOATS) l.bytes).error)
-    × (g.V.Visitor.answer l.visitor (ahead_of (is_on g.row.FLOATS) l.position).events ≡ g.V.Visitor.answer l.fn.visitor (trace_of (is_on g.row.FLOATS) l.bytes).events)
+    × (g.V.BorrowingVisitor.answer l.visitor (ahead_of (is_on g.row.FLOATS) l.position).events ≡ g.V.BorrowingVisitor.answer l.fn.visitor (trace_of (is_on g.row.FLOATS) l.bytes).events)
 
 abbrev pub decreases-loop-position : goal.decreases-loop-position
 decreases-loop-position g l = steps_left l.position

@@ -17,5 +17,5 @@ returns g c =
     let key = after_a_key (frames_of p) in
     let shorter = front_shorter 8 p.rest.now read.content.now read.rest.now read.ensures in
     let finite : is_finite read.content.now ≡ true = search rules in
-    scalar_taken floats g.V.Visitor.answer c.args.visitor.now c.visit.new.self (kinds_of p) (float_headed floats p) p.begun _ after none key
+    scalar_taken floats g.V.BorrowingVisitor.answer c.args.visitor.now c.visit.new.self (kinds_of p) (float_headed floats p) p.begun _ after none key
     (finite_ahead floats p read.content.now read.rest.now read.ensures finite) (c.in_ok-visit.ensures key) refl refl (omega (arith, shorter))

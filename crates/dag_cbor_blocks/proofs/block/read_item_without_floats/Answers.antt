@@ -30,7 +30,7 @@ returns g c =
     let read = c.in_ok-major in
     let behind : Position = record p { rest = read.rest; begun = length bs } in
     let shorter = head_shorter bs read.rest.now read.major read.argument read.ensures in
-    reads_same (is_on g.row.FLOATS) g.V.Visitor.answer c.args.visitor.now c.read_content.new.visitor (kinds_of p) (kinds_of behind) true true
+    reads_same (is_on g.row.FLOATS) g.V.BorrowingVisitor.answer c.args.visitor.now c.read_content.new.visitor (kinds_of p) (kinds_of behind) true true
     (traced (length bs) (trace_ahead (is_on g.row.FLOATS)) (begun (frames_of p) (item_header_error bs) (item_header_at bs))) (headed (is_on g.row.FLOATS) read.major read.argument behind)
     (length bs) (steps_left p) (steps_left behind + 3) c.read_content.result c.read_content.new.position
     (ap (traced (length bs) (trace_ahead (is_on g.row.FLOATS))) (item_headed (frames_of p) bs read.rest.now read.major read.argument read.ensures)) (omega (arith, shorter)) refl (λ limits values from. refl) c.read_content.ensures

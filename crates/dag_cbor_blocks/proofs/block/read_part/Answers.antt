@@ -32,7 +32,7 @@ returns-in-Item g c =
     let q = c.advance.new.self in
     let next = rw c.in-Item.is at c.in_ok-advance.ensures in
     let floats = is_on g.row.FLOATS in
-    let answer = g.V.Visitor.answer in
+    let answer = g.V.BorrowingVisitor.answer in
     let step = item_step_in floats (frames_of q) q.rest.now in
     let reads = subst (λ n. Reads floats answer c.args.visitor.now (kinds_of q) true (traced n (trace_ahead floats) step) n (steps_left q) c.read_item.result c.read_item.new.visitor c.read_item.new.position)
     (ap length next.0.0) c.read_item.ensures in
@@ -47,7 +47,7 @@ returns-in-Outside g c =
     let q = c.advance.new.self in
     let next = rw c.in-Outside.is at c.in_ok-advance.ensures in
     let floats = is_on g.row.FLOATS in
-    nothing_taken floats g.V.Visitor.answer c.args.visitor.now (kinds_of p) (ahead_of floats p) (length p.rest.now) (steps_left p) q
+    nothing_taken floats g.V.BorrowingVisitor.answer c.args.visitor.now (kinds_of p) (ahead_of floats p) (length p.rest.now) (steps_left p) q
     (ap (λ fs. trace_ahead floats fs p.rest.now) next.0.0 ∙ ap (trace_ahead floats (frames_of q)) next.0.1) (ap length next.0.1) next.2 (next.1 c.requires)
 
 pub returns-in_ok-visit-in-Value : goal.returns-in_ok-visit-in-Value
@@ -57,7 +57,7 @@ returns-in_ok-visit-in-Value g c =
     let next = rw c.in-Value.is at c.in_ok-advance.ensures in
     let t = atom (text c.in-Value.key.now) in
     let n = length q.rest.now in
-    reads_after (is_on g.row.FLOATS) g.V.Visitor.answer c.args.visitor.now c.visit.new.self c.read_item-in-Value.new.visitor (kinds_of p) (kinds_of q) next.2.0 (ahead_of (is_on g.row.FLOATS) p) (item_ahead (is_on g.row.FLOATS) q) (text c.in-Value.key.now)
+    reads_after (is_on g.row.FLOATS) g.V.BorrowingVisitor.answer c.args.visitor.now c.visit.new.self c.read_item-in-Value.new.visitor (kinds_of p) (kinds_of q) next.2.0 (ahead_of (is_on g.row.FLOATS) p) (item_ahead (is_on g.row.FLOATS) q) (text c.in-Value.key.now)
     (length p.rest.now) n true (steps_left p) (steps_left q) c.read_item-in-Value.result c.read_item-in-Value.new.position
     (ahead_by cid_laws (is_on g.row.FLOATS) (frames_of p) p.rest.now (yields t next.0.0 q.rest.now) (next.0.2 (is_on g.row.FLOATS))
     ∙ ap (λ tr. led (t, n, after_a_key next.0.0) tr) (ahead_by cid_laws (is_on g.row.FLOATS) next.0.0 q.rest.now (item_step_in (is_on g.row.FLOATS) (frames_of q) q.rest.now) (next.0.3 (is_on g.row.FLOATS)))
@@ -69,7 +69,7 @@ returns-in_ok-visit-in-EndOfList g c =
     let p = c.args.position.now in
     let q = c.advance.new.self in
     let next = rw c.in-EndOfList.is at c.in_ok-advance.ensures in
-    end_taken (is_on g.row.FLOATS) g.V.Visitor.answer c.args.visitor.now c.visit-in-EndOfList.new.self (kinds_of p) in_list (ahead_of (is_on g.row.FLOATS) p) (length p.rest.now) (steps_left p) q seq_end (after_a_key (frames_of q))
+    end_taken (is_on g.row.FLOATS) g.V.BorrowingVisitor.answer c.args.visitor.now c.visit-in-EndOfList.new.self (kinds_of p) in_list (ahead_of (is_on g.row.FLOATS) p) (length p.rest.now) (steps_left p) q seq_end (after_a_key (frames_of q))
     (ahead_by cid_laws (is_on g.row.FLOATS) (frames_of p) p.rest.now (yields seq_end (frames_of q) q.rest.now) (next.0 (is_on g.row.FLOATS))) (c.in_ok-visit-in-EndOfList.ensures (after_a_key (frames_of q))) (λ values. refl) next.2 (next.1 c.requires)
 
 pub returns-in_ok-visit-in-EndOfMap : goal.returns-in_ok-visit-in-EndOfMap
@@ -77,5 +77,5 @@ returns-in_ok-visit-in-EndOfMap g c =
     let p = c.args.position.now in
     let q = c.advance.new.self in
     let next = rw c.in-EndOfMap.is at c.in_ok-advance.ensures in
-    end_taken (is_on g.row.FLOATS) g.V.Visitor.answer c.args.visitor.now c.visit-in-EndOfMap.new.self (kinds_of p) in_map (ahead_of (is_on g.row.FLOATS) p) (length p.rest.now) (steps_left p) q map_end (after_a_key (frames_of q))
+    end_taken (is_on g.row.FLOATS) g.V.BorrowingVisitor.answer c.args.visitor.now c.visit-in-EndOfMap.new.self (kinds_of p) in_map (ahead_of (is_on g.row.FLOATS) p) (length p.rest.now) (steps_left p) q map_end (after_a_key (frames_of q))
     (ahead_by cid_laws (is_on g.row.FLOATS) (frames_of p) p.rest.now (yields map_end (frames_of q) q.rest.now) (next.0 (is_on g.row.FLOATS))) (c.in_ok-visit-in-EndOfMap.ensures (after_a_key (frames_of q))) (λ values. refl) next.2 (next.1 c.requires)

@@ -8,7 +8,7 @@ use Rattle.dag_cbor_blocks.proofs.block.read_parts.Goals as goal
 
 pub returns-in_err-part : goal.returns-in_err-part
 returns-in_err-part g c =
-    let answer = g.V.Visitor.answer in
+    let answer = g.V.BorrowingVisitor.answer in
     let p = c.args.position.now in
     let block = p.rest.now in
     let ran = item_ahead (is_on g.row.FLOATS) p in
@@ -18,7 +18,7 @@ returns-in_err-part g c =
 
 pub returns-in_err-count : goal.returns-in_err-count
 returns-in_err-count g c =
-    let answer = g.V.Visitor.answer in
+    let answer = g.V.BorrowingVisitor.answer in
     let p = c.args.position.now in
     let block = p.rest.now in
     let ran = item_ahead (is_on g.row.FLOATS) p in
@@ -31,7 +31,7 @@ returns-in_err-count g c =
 
 pub loop-counter-init : goal.loop-counter-init
 loop-counter-init g c =
-    let answer = g.V.Visitor.answer in
+    let answer = g.V.BorrowingVisitor.answer in
     let p = c.args.position.now in
     let block = p.rest.now in
     let ran = item_ahead (is_on g.row.FLOATS) p in
@@ -41,7 +41,7 @@ loop-counter-init g c =
 
 pub returns-in_err-part-2 : goal.returns-in_err-part-2
 returns-in_err-part-2 g c =
-    let answer = g.V.Visitor.answer in
+    let answer = g.V.BorrowingVisitor.answer in
     let block = c.args.position.now.rest.now in
     let l = c.loop-counter in
     let error = err_from_is_err_and c.from_residual-in_err-part-2.result c.from_residual-in_err-part-2.ensures.1 in
@@ -49,7 +49,7 @@ returns-in_err-part-2 g c =
 
 pub returns-in_err-count-2 : goal.returns-in_err-count-2
 returns-in_err-count-2 g c =
-    let answer = g.V.Visitor.answer in
+    let answer = g.V.BorrowingVisitor.answer in
     let block = c.args.position.now.rest.now in
     let l = c.loop-counter in
     let error = err_from_is_err_and c.from_residual-in_err-count-2.result c.from_residual-in_err-count-2.ensures.1 in
@@ -60,7 +60,7 @@ returns-in_err-count-2 g c =
 
 pub loop-counter-preserved : goal.loop-counter-preserved
 loop-counter-preserved g c =
-    let answer = g.V.Visitor.answer in
+    let answer = g.V.BorrowingVisitor.answer in
     let block = c.args.position.now.rest.now in
     let l = c.loop-counter in
     counted (is_on g.row.FLOATS) answer c.args.limits block c.args.visitor.now (kinds_of l.position) false (ahead_of (is_on g.row.FLOATS) l.position) l.position.begun (length l.position.rest.now) l.counter l.visitor l.invariant
@@ -68,7 +68,7 @@ loop-counter-preserved g c =
 
 pub returns-then-is_empty : goal.returns-then-is_empty
 returns-then-is_empty g c =
-    let answer = g.V.Visitor.answer in
+    let answer = g.V.BorrowingVisitor.answer in
     let block = c.args.position.now.rest.now in
     let l = c.loop-counter in
     whole (is_on g.row.FLOATS) answer c.args.limits block c.args.visitor.now l.position l.counter l.visitor l.invariant (sym c.is_open.ensures ∙ c.loop-counter-test.false)
@@ -76,7 +76,7 @@ returns-then-is_empty g c =
 
 pub returns : goal.returns
 returns g c =
-    let answer = g.V.Visitor.answer in
+    let answer = g.V.BorrowingVisitor.answer in
     let block = c.args.position.now.rest.now in
     let l = c.loop-counter in
     bytes_left (is_on g.row.FLOATS) answer c.args.limits block c.args.visitor.now l.position l.counter l.visitor l.invariant (sym c.is_open.ensures ∙ c.loop-counter-test.false)

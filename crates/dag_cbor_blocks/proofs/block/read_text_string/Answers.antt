@@ -15,6 +15,6 @@ returns g c =
     let read = c.in_ok-string in
     let after : Position = record p { rest = read.rest } in
     let shorter = text_shorter c.args.length p.rest.now read.string.now read.rest.now read.ensures in
-    scalar_taken (is_on g.row.FLOATS) g.V.Visitor.answer c.args.visitor.now c.visit.new.self (kinds_of p) (headed (is_on g.row.FLOATS) Text c.args.length p) p.begun _ after (text read.string.now) false
+    scalar_taken (is_on g.row.FLOATS) g.V.BorrowingVisitor.answer c.args.visitor.now c.visit.new.self (kinds_of p) (headed (is_on g.row.FLOATS) Text c.args.length p) p.begun _ after (text read.string.now) false
     (text_ahead (is_on g.row.FLOATS) p c.args.length read.string.now read.rest.now read.ensures ∙ ap (λ k. led (atom (text read.string.now), length read.rest.now, k) (ahead_of (is_on g.row.FLOATS) after)) (no_key p))
     (c.in_ok-visit.ensures false) refl refl (omega (arith, shorter))

@@ -12,5 +12,5 @@ pub returns : goal.returns
 returns g c =
     let p = c.args.position.now in
     let key = after_a_key (frames_of p) in
-    scalar_taken (is_on g.row.FLOATS) g.V.Visitor.answer c.args.visitor.now c.visit.new.self (kinds_of p) (headed (is_on g.row.FLOATS) Unsigned c.args.number p) p.begun (steps_left p + 3) p (integer _) key
+    scalar_taken (is_on g.row.FLOATS) g.V.BorrowingVisitor.answer c.args.visitor.now c.visit.new.self (kinds_of p) (headed (is_on g.row.FLOATS) Unsigned c.args.number p) p.begun (steps_left p + 3) p (integer _) key
     (ap (λ z. led (atom (integer z), length p.rest.now, key) (ahead_of (is_on g.row.FLOATS) p)) (search (c.from.ensures, rules))) (c.in_ok-visit.ensures key) refl refl (omega arith)

@@ -4,5 +4,5 @@ use Rattle.dag_cbor_blocks.proofs.read.count_links.Goals as goal
 
 pub returns : goal.returns
 returns c =
-    let r = c.in_ok-read_events_as.ensures in
-    record { exact = (counted c.args.options.now.floats c.args.bytes.now r.0 (record { count = 0 }) c.read_events_as.new.visitor refl r.1, r.2) }
+    let r = c.in_ok-counter.ensures in
+    record { exact = (counted c.args.options.now.floats c.args.bytes.now r.0 (record { count = 0 }) c.in_ok-counter.counter refl r.1, r.2) }

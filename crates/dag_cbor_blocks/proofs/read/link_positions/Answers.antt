@@ -4,6 +4,6 @@ use Rattle.dag_cbor_blocks.proofs.read.link_positions.Goals as goal
 
 pub returns : goal.returns
 returns c =
-    let r = c.in_ok-read_events_as.ensures in
-    let new = c.new-finder.ensures in
-    record { exact = (finder_positions c.args.options.now.floats c.args.bytes.now r.0 c.new-finder.result c.read_events_as.new.visitor new.positions (search (new.size, rules)) r.1, r.2) }
+    let r = c.in_ok-finder.ensures in
+    let new = c.new.ensures in
+    record { exact = (finder_positions c.args.options.now.floats c.args.bytes.now r.0 c.new.result c.in_ok-finder.finder new.positions (search (new.size, rules)) r.1, r.2) }

@@ -3,7 +3,7 @@ use Rattle.std.specs.Prelude.{◌&&◌}
 use Rattle.dag_cbor_format.specs.KeysAscend.{keys_ascend}
 use Rattle.dag_cbor_blocks.specs.OrderChecker.{lasts_of}
 use Rattle.dag_cbor_blocks.proofs.OrderChecks.{pushed, popped, key_outside, key_taken, others_ascend}
-use Rattle.dag_cbor_blocks.proofs.canonical.OrderCheckerVisitor.visit.Goals as goal
+use Rattle.dag_cbor_blocks.proofs.canonical.OrderCheckerBorrowingVisitor.visit.Goals as goal
 
 pub returns-in_default : goal.returns-in_default
 returns-in_default c = λ key more.

@@ -1,0 +1,43 @@
+//! A block handed to a visitor in the fastest way that reads it.
+
+ghost use Rattle.std.specs.Prelude.{◌≡◌, List};
+ghost use Rattle.dag_cbor_format.specs.Trace.{Event};
+ghost use Rattle.dag_cbor_blocks.specs.Within.{ReturnsVisitor};
+
+use crate::block::read_events_as;
+use crate::block_error::{BlockError, BlockErrorKind};
+use crate::options::ReadOptions;
+use crate::shallow::{Stop, visit_shallow};
+use crate::visit::Visitor;
+use dag_cbor_format::CborError;
+use std::alloc::Global;
+
+// Hands each part of a block to the visitor, and gives it back: by recursion, or, if that doesn't reach the end of the block, by the loop
+// to the spare one, which has taken nothing yet either.
+//
+// It is inlined so that a caller with constant options has one recursion and one loop alone.
+#[inline(always)]
+pub(crate) fn visit_block<V: Visitor>(
+    alloc: Global,
+    bytes: &[u8],
+    options: &ReadOptions,
+    visitor: V,
+    spare: V,
+) -> Result<V, BlockError>
+    requires { (events : List Event) → V.answer spare events ≡ V.answer visitor events }
+    ensures { ReturnsVisitor options.now.floats V.answer visitor options.now.limits bytes.now result }
+{
+    let mut visitor = visitor;
+    match visit_shallow(bytes, options, &mut visitor) {
+        Ok(()) => Ok(visitor),
+        Err(Stop::Memory) => Err(BlockError {
+            kind: BlockErrorKind::Cbor(CborError::Memory),
+            offset: 0,
+        }),
+        Err(Stop::Unread) => {
+            let mut spare = spare;
+            read_events_as(alloc, bytes, options, &mut spare)?;
+            Ok(spare)
+        }
+    }
+}
