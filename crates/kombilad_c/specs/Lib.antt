@@ -9,3 +9,4 @@ pub mod Rewrite
 pub mod PbTape
 pub mod Car
 pub mod Digest
+pub mod StatusText

@@ -18,6 +18,7 @@ mod pb_tape;
 mod positions;
 mod rewrite;
 mod status;
+mod status_text;
 mod tape;
 mod verify;
 mod version;
