@@ -291,6 +291,16 @@ func callVerify(cid string, block []byte) Status {
 	return Status(C.verify(cid, bytes, length))
 }
 
+func callStatusText(status uint32) string {
+	var text [80]byte
+	var needed C.size_t
+	C.kombilad_status_text(C.uint32_t(status), (*C.uint8_t)(&text[0]), C.size_t(len(text)), &needed)
+	if int(needed) > len(text) {
+		return ""
+	}
+	return string(text[:needed])
+}
+
 func callVersion() uint32 {
 	return uint32(C.kombilad_version())
 }

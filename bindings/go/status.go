@@ -3,8 +3,6 @@ package kombilad
 // #include "kombilad.h"
 import "C"
 
-import "strconv"
-
 // Status is the reason of an [Error]. It is an error too, so errors.Is(err, kombilad.ErrTooDeep)
 // reports whether an error has this reason.
 type Status uint32
@@ -109,62 +107,8 @@ const (
 	ErrCustom                                // a Marshaler or an Unmarshaler failed
 )
 
+// What the reasons report that the library does not have.
 var sentences = map[Status]string{
-	ErrNoMemory:     "out of memory",
-	ErrNotCanonical: "the keys of a map are not in canonical order",
-	ErrUnknownBase:  "unknown base for the text of a CID",
-	ErrV0Base:       "the text of a CIDv0 is only in base58btc",
-	ErrTooDeep:      "lists and maps nest deeper than the limit",
-	ErrTooMany:      "there are more values than the limit",
-	ErrTooLong:      "a string, a byte string, a list or a map is too long",
-	ErrUnknownHash:  "unsupported hash function: only SHA2-256, SHA2-512 and identity are verified",
-	ErrWrongDigest:  "the block does not match the digest of the CID",
-
-	ErrCidEnd:              "the CID is incomplete",
-	ErrCidNotShortest:      "a varint of the CID is not in its shortest form",
-	ErrCidVarintTooLarge:   "a varint of the CID is 2^64 or more",
-	ErrCidExplicitVersion0: "the CID begins with the version 0, which must not be written",
-	ErrCidUnknownVersion:   "unknown CID version: only 0 and 1 exist",
-	ErrCidDigestTooLong:    "the digest of the CID is longer than 64 bytes",
-	ErrCidTrailingBytes:    "bytes follow the CID",
-
-	ErrTextUnknownBase:   "not a CID: unknown multibase prefix",
-	ErrTextInvalidLength: "not a CID: no CID has a text of this length in its base",
-	ErrTextInvalidLetter: "not a CID: invalid character for its base",
-	ErrTextUnusedBits:    "not a CID: the last character has bits set that are not used",
-	ErrTextWrongVersion:  "not a CID: a CIDv0 must not have a multibase prefix",
-	ErrTextUTF8:          "not a CID: the text is not UTF-8",
-
-	ErrBlockEnd:           "the block is incomplete",
-	ErrBlockNotShortest:   "a number or a length is not in its shortest form",
-	ErrBlockFloat:         "a float must have 64 bits and must not be NaN or an infinity",
-	ErrBlockUnsupported:   "a simple value, a tag or an indefinite length is not allowed in DAG-CBOR",
-	ErrBlockUTF8:          "a string is not UTF-8",
-	ErrBlockKeyNotText:    "the key of a map is not a string",
-	ErrBlockDuplicateKey:  "duplicate key in a map",
-	ErrBlockLinkBytes:     "tag 42 must be followed by a byte string that begins with 0x00",
-	ErrBlockTrailingBytes: "bytes follow the value",
-
-	ErrCarUnexpectedEnd:     "the CAR ends within a header or a section",
-	ErrCarLengthNotShortest: "the length of a header or a section is not in its shortest form",
-	ErrCarLengthTooLarge:    "the length of a header or a section is 2^64 or more",
-	ErrCarEmpty:             "a header or a section is empty",
-	ErrCarTooLong:           "a header or a section is longer than the limit",
-	ErrCarNotAHeader:        "not the header of a CAR: it must be a map with roots and version 1",
-	ErrCarPayload:           "the header of a CARv2 has an impossible payload offset or size",
-	ErrCarShortPayload:      "the CAR ends within the payload of version 2",
-
-	ErrPbEnd:            "the field is incomplete",
-	ErrPbVarintTooLarge: "a varint is 2^64 or more, or has more than ten bytes",
-	ErrPbUnknownField:   "DAG-PB does not have this field here",
-	ErrPbFieldOrder:     "a field is repeated or out of order",
-	ErrPbNoHash:         "a link does not begin with its hash",
-	ErrPbUTF8:           "the name of a link is not UTF-8",
-
-	ErrValueUTF8:    "a string is not UTF-8",
-	ErrValueFloat:   "NaN and infinities cannot be encoded",
-	ErrDuplicateKey: "duplicate key in a map",
-
 	ErrType:            "the value has another type",
 	ErrRange:           "the number is out of range",
 	ErrLength:          "the length differs from that of the array",
@@ -178,11 +122,8 @@ var sentences = map[Status]string{
 
 // Error returns the reason as a sentence without a place.
 func (s Status) Error() string {
-	if s >= ErrLinkEnd && s <= ErrLinkTrailingBytes {
-		return "invalid link: " + sentences[s-ErrLinkEnd+ErrCidEnd]
-	}
 	if sentence, known := sentences[s]; known {
 		return sentence
 	}
-	return "libkombilad returned the unknown status " + strconv.FormatUint(uint64(s), 10)
+	return callStatusText(uint32(s))
 }

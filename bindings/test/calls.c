@@ -1058,8 +1058,51 @@ static void check_depth(void) {
     free(block);
 }
 
+static bool reports(uint32_t status, const char *sentence) {
+    uint8_t text[80];
+    size_t needed = 0;
+    return kombilad_status_text(status, text, sizeof text, &needed) == KOMBILAD_OK &&
+           needed == strlen(sentence) && memcmp(text, sentence, needed) == 0;
+}
+
+/* Every number has a sentence: of at most 80 bytes, in ASCII, without a full stop. What follows it
+ * in the buffer stays, and so does a buffer that is too short. */
+static void check_sentences(void) {
+    for (uint32_t status = 0; status < 70000; status++) {
+        uint8_t text[81];
+        size_t needed = 0;
+        memset(text, 0xaa, sizeof text);
+        CHECK(kombilad_status_text(status, NULL, 0, &needed) == KOMBILAD_TOO_SHORT);
+        CHECK(0 < needed && needed <= 80);
+        size_t len = needed;
+        needed = 0;
+        CHECK(kombilad_status_text(status, text, len - 1, &needed) == KOMBILAD_TOO_SHORT);
+        CHECK(needed == len && text[0] == 0xaa && text[len - 1] == 0xaa);
+        CHECK(kombilad_status_text(status, text, len, &needed) == KOMBILAD_OK && needed == len);
+        for (size_t at = 0; at < len; at++) CHECK(' ' <= text[at] && text[at] <= '~');
+        CHECK(text[len - 1] != '.' && text[len] == 0xaa);
+        if (status > KOMBILAD_PB_UTF8)
+            CHECK(reports(status, "the status is not one of this version"));
+    }
+    CHECK(reports(KOMBILAD_OK, "the call succeeded"));
+    CHECK(reports(KOMBILAD_NO_MEMORY, "out of memory"));
+    CHECK(reports(KOMBILAD_OTHER, "the status is not one of this version"));
+    CHECK(reports(136, "the status is not one of this version"));
+    CHECK(reports(UINT32_MAX, "the status is not one of this version"));
+    CHECK(reports(KOMBILAD_CID_TRAILING_BYTES, "more bytes follow the CID"));
+    CHECK(reports(KOMBILAD_TEXT_UTF8, "the text is not UTF-8"));
+    CHECK(reports(KOMBILAD_BLOCK_DUPLICATE_KEY, "a map has the same key twice"));
+    CHECK(reports(KOMBILAD_LINK_TRAILING_BYTES, "more bytes follow the CID of a link"));
+    CHECK(reports(KOMBILAD_CAR_SHORT_PAYLOAD,
+                  "the bytes end before the payload of version 2 does"));
+    CHECK(reports(KOMBILAD_WRONG_DIGEST, "the digest of the block is not that of the CID"));
+    CHECK(reports(KOMBILAD_TAPE_DUPLICATE_KEY, "a map has the same key twice"));
+    CHECK(reports(KOMBILAD_PB_UTF8, "the name of a link is not UTF-8"));
+}
+
 int main(int count, char **words) {
     CHECK(kombilad_version() == KOMBILAD_VERSION);
+    check_sentences();
     if (count > 1 && strcmp(words[1], "deep") == 0) {
         check_depth();
         puts("calls deep: ok");

@@ -1,6 +1,6 @@
 // The instance of the core and its memory: [stack, constants][record][room][heap]. A call writes
 // numbers and a CID to the record, and reads and writes the rest in the room.
-import { ofName, ofStatus } from './errors.js'
+import { ofName, ofStatus, startBy, useSentences } from './errors.js'
 
 let module
 let instance
@@ -48,6 +48,8 @@ class Core {
     this.calls.kombilad_wasm_bound(bound)
     this.size = -1
     this.view()
+    this.reserve(0)
+    useSentences((status) => this.sentence(status))
   }
 
   /** Makes views of the memory as it is. */
@@ -93,12 +95,20 @@ class Core {
     return this.words[this.neededAt >>> 2] >>> 0
   }
 
+  /** Returns what a status reports. The sentence is written to the place of the record's CID. */
+  sentence (status) {
+    this.calls.kombilad_status_text(status, this.cidAt, RECORD - 8, this.neededAt)
+    return String.fromCharCode(...this.bytes.subarray(this.cidAt, this.cidAt + this.needed()))
+  }
+
   /** Returns the record's second number. */
   offset () {
     this.refresh()
     return this.words[this.offsetAt >>> 2] >>> 0
   }
 }
+
+startBy(() => { if (module !== undefined) run(() => {}) })
 
 /** The error that a status is, with its offset where it has one. */
 export function failed (core, status) {

@@ -817,3 +817,12 @@ test('each status has the name of the header, but for those of tapes, which the 
   for (const [name, number] of statuses) if (!['OK', 'TOO_SHORT', 'NOT_CANONICAL', 'OTHER'].includes(name) && !name.startsWith('TAPE_')) assert.equal(ours[name], number, name)
   assert.ok(statuses.length > 35)
 })
+
+test('errors say what the core has for their status', () => {
+  assert.throws(() => check(hex('a2616101616101')), { code: 'BLOCK_DUPLICATE_KEY', message: 'a map has the same key twice (at byte 4)' })
+  assert.throws(() => CID.parse('bafkqaa1'), { code: 'TEXT_INVALID_LETTER', message: 'a character is not a letter of the base (at byte 7)' })
+  for (const [name, status] of Object.entries(errors.statusNames)) {
+    const { message } = errors.ofStatus(status)
+    assert.ok(message !== name && !/status/.test(message) && !message.endsWith('.'), `${name}: ${message}`)
+  }
+})

@@ -42,7 +42,7 @@ def check(block: BytesLike, *, levels: int = 1024, values: Optional[int] = None)
     >>> check(bytes.fromhex("a16161f6"))
     >>> check(bytes.fromhex("a2616101616102"))
     Traceback (most recent call last):
-    kombilad.BlockError: a key stands in a map for the second time, at byte 4
+    kombilad.BlockError: a map has the same key twice, at byte 4
 
     `levels` says how deep lists and maps may nest, and `values` how many values there may be; where
     a block passes a limit it is a `LimitError`, and where it passes one and has an error, what

@@ -46,7 +46,7 @@ class Cid(_native.CidBytes):
 
     >>> Cid("bafkqaa1")
     Traceback (most recent call last):
-    kombilad.TextError: a character is no letter of the text's base, at 7
+    kombilad.TextError: a character is not a letter of the base, at 7
     >>> Cid(b"\\x01\\x55")
     Traceback (most recent call last):
     kombilad.CidError: the bytes end before the CID does

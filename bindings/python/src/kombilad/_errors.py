@@ -1,62 +1,16 @@
 """Why a call fails."""
 
+from ctypes import byref, c_size_t, create_string_buffer
 from typing import Any, Optional, Tuple
 
-from ._library import Status
-
-_SENTENCES = {
-    Status.UNKNOWN_BASE: "there is no such base",
-    Status.V0_BASE: "a version 0 CID has a text in base58btc alone",
-    Status.TOO_DEEP: "lists and maps nest deeper than the limit",
-    Status.TOO_MANY: "there are more values than the limit",
-    Status.TOO_LONG: "a string, a list or a map is too long for an entry of a tape",
-    Status.CID_END: "the bytes end before the CID does",
-    Status.CID_NOT_SHORTEST: "a varint is not in its shortest form",
-    Status.CID_VARINT_TOO_LARGE: "a varint encodes a number of 2^64 or more",
-    Status.CID_EXPLICIT_VERSION_0: "CIDv0 cannot be specified in CIDv1 format",
-    Status.CID_UNKNOWN_VERSION: "unknown CID version",
-    Status.CID_DIGEST_TOO_LONG: "the digest is longer than 64 bytes",
-    Status.CID_TRAILING_BYTES: "more bytes follow the CID",
-    Status.TEXT_UNKNOWN_BASE: "the text begins with no prefix of a base",
-    Status.TEXT_INVALID_LENGTH: "no CID has a text of this length in its base",
-    Status.TEXT_INVALID_LETTER: "a character is no letter of the text's base",
-    Status.TEXT_UNUSED_BITS: "bits after the last byte of the text are set",
-    Status.TEXT_WRONG_VERSION: "a version 0 CID has no multibase text",
-    Status.TEXT_UTF8: "the text is not UTF-8",
-    Status.BLOCK_END: "the bytes end before the item does",
-    Status.BLOCK_NOT_SHORTEST: "an argument is not in its shortest form",
-    Status.BLOCK_FLOAT: "a float of other than 64 bits, NaN or an infinity; or any where a tree is made",
-    Status.BLOCK_UNSUPPORTED: "a simple value, a tag or an indefinite length that DAG-CBOR has not",
-    Status.BLOCK_UTF8: "a text string is not UTF-8",
-    Status.BLOCK_KEY_NOT_TEXT: "the key of a map is no text string",
-    Status.BLOCK_DUPLICATE_KEY: "a key stands in a map for the second time",
-    Status.BLOCK_LINK_BYTES: "after the tag of a link there is no byte string that begins with a zero byte",
-    Status.BLOCK_TRAILING_BYTES: "more bytes follow the item",
-    Status.CAR_DONE: "no section is left",
-    Status.CAR_UNEXPECTED_END: "the bytes end within a header or a section",
-    Status.CAR_LENGTH_NOT_SHORTEST: "the length of a header or a section is not in its shortest form",
-    Status.CAR_LENGTH_TOO_LARGE: "the length of a header or a section is 2^64 or more",
-    Status.CAR_EMPTY: "a header or a section has the length zero",
-    Status.CAR_TOO_LONG: "a header or a section is longer than the limit",
-    Status.CAR_NOT_A_HEADER: "the header is no map of roots and version 1",
-    Status.CAR_PAYLOAD: "the header of version 2 places the payload where it can't be",
-    Status.CAR_SHORT_PAYLOAD: "the bytes end before the payload of version 2 does",
-    Status.UNKNOWN_HASH: "the hash function of the CID is neither SHA2-256, SHA2-512 nor identity",
-    Status.WRONG_DIGEST: "the block has another digest than the CID",
-    Status.PB_END: "the bytes end before the field does",
-    Status.PB_VARINT_TOO_LARGE: "a varint encodes a number of 2^64 or more",
-    Status.PB_UNKNOWN_FIELD: "DAG-PB has no such field there",
-    Status.PB_FIELD_ORDER: "a field comes twice or out of order",
-    Status.PB_NO_HASH: "a link does not begin with its hash",
-    Status.PB_UTF8: "the name of a link is not UTF-8",
-}
+from ._library import Status, library
 
 
 def _sentence(status: Status) -> str:
-    if Status.LINK_END <= status <= Status.LINK_TRAILING_BYTES:
-        of_cid = Status(status - Status.LINK_END + Status.CID_END)
-        return "the bytes of a link are no CID: " + _SENTENCES[of_cid]
-    return _SENTENCES.get(status, f"the status {int(status)} of libkombilad")
+    """Returns what a status reports, in a sentence, which the library has."""
+    text, needed = create_string_buffer(80), c_size_t()
+    library.kombilad_status_text(status, text, len(text), byref(needed))
+    return text.raw[: needed.value].decode("ascii")
 
 
 class KombiladError(ValueError):
@@ -122,10 +76,10 @@ class VerifyError(KombiladError):
 
 
 _NOT_ENCODED = {
-    "FLOAT": "NaN and the infinities are no value of DAG-CBOR",
-    "INTEGER": "an integer is from -2^64 to 2^64 - 1",
-    "KEY_NOT_TEXT": "the key of a map is no text",
-    "TYPE": "there is no value of DAG-CBOR for an object of the type",
+    "FLOAT": _sentence(Status.TAPE_FLOAT),
+    "INTEGER": "an integer must be from -2^64 to 2^64 - 1",
+    "KEY_NOT_TEXT": _sentence(Status.BLOCK_KEY_NOT_TEXT),
+    "TYPE": "DAG-CBOR has no value for an object of the type",
 }
 
 
@@ -135,10 +89,10 @@ class EncodeError(ValueError):
     >>> import kombilad
     >>> kombilad.encode_dag_cbor([1 << 64])
     Traceback (most recent call last):
-    kombilad.EncodeError: an integer is from -2^64 to 2^64 - 1
+    kombilad.EncodeError: an integer must be from -2^64 to 2^64 - 1
     >>> kombilad.encode_dag_cbor({"a": {1, 2}})
     Traceback (most recent call last):
-    kombilad.EncodeError: there is no value of DAG-CBOR for an object of the type set
+    kombilad.EncodeError: DAG-CBOR has no value for an object of the type set
     """
 
     def __init__(self, name: str, value: object = None):

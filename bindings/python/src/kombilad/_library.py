@@ -167,6 +167,7 @@ def _declared(name: str, result: Any, *arguments: Any) -> None:
 library = ctypes.CDLL(_native.__file__)
 _SIZE = POINTER(c_size_t)
 _BYTES: Tuple[Any, ...] = (c_void_p, c_size_t)
+_declared("kombilad_status_text", c_uint32, c_uint32, POINTER(c_char), c_size_t, _SIZE)
 _declared("kombilad_cid_check", c_uint32, *_BYTES)
 _declared("kombilad_cid_parts_of", c_uint32, *_BYTES, POINTER(CidParts))
 _declared("kombilad_cid_to_text", c_uint32, *_BYTES, c_uint32, POINTER(c_char), c_size_t, _SIZE)

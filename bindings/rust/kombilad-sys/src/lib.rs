@@ -221,6 +221,13 @@ pub const KOMBILAD_BASE58BTC: u32 = b'z' as u32;
 pub const KOMBILAD_BASE64URL: u32 = b'u' as u32;
 
 extern "C" {
+    /// Writes what a status reports: a sentence of at most 80 bytes, in ASCII.
+    pub fn kombilad_status_text(
+        status: u32,
+        text: *mut u8,
+        text_len: usize,
+        needed: *mut usize,
+    ) -> u32;
     /// Checks that the bytes are those of a CID, all of them.
     pub fn kombilad_cid_check(bytes: *const u8, len: usize) -> u32;
     /// Reads the parts of the CID that the bytes are.

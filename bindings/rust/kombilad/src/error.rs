@@ -4,6 +4,8 @@ use std::{error, fmt};
 
 use kombilad_sys as sys;
 
+use crate::ffi;
+
 /// Why bytes are no CID: the first error from the left.
 #[derive(Clone, Copy, Debug, PartialEq, Eq, Hash)]
 #[non_exhaustive]
@@ -343,136 +345,140 @@ impl EncodeError {
     }
 }
 
+/// Writes the sentence of a status, which the library has.
+fn write_status(f: &mut fmt::Formatter<'_>, status: u32) -> fmt::Result {
+    f.write_str(ffi::status_text(status, &mut [0; 80]))
+}
+
+impl CidError {
+    fn status(self) -> u32 {
+        match self {
+            CidError::End => sys::KOMBILAD_CID_END,
+            CidError::NotShortest => sys::KOMBILAD_CID_NOT_SHORTEST,
+            CidError::VarintTooLarge => sys::KOMBILAD_CID_VARINT_TOO_LARGE,
+            CidError::ExplicitVersion0 => sys::KOMBILAD_CID_EXPLICIT_VERSION_0,
+            CidError::UnknownVersion => sys::KOMBILAD_CID_UNKNOWN_VERSION,
+            CidError::DigestTooLong => sys::KOMBILAD_CID_DIGEST_TOO_LONG,
+            CidError::TrailingBytes => sys::KOMBILAD_CID_TRAILING_BYTES,
+        }
+    }
+
+    /// Returns the status of the same error in the bytes of a link.
+    fn link_status(self) -> u32 {
+        self.status() - sys::KOMBILAD_CID_END + sys::KOMBILAD_LINK_END
+    }
+}
+
 impl fmt::Display for CidError {
     fn fmt(&self, f: &mut fmt::Formatter<'_>) -> fmt::Result {
-        f.write_str(match self {
-            CidError::End => "the bytes end before the CID does",
-            CidError::NotShortest => "a varint is not in its shortest form",
-            CidError::VarintTooLarge => "a varint encodes a number of 2^64 or more",
-            CidError::ExplicitVersion0 => "CIDv0 cannot be specified in CIDv1 format",
-            CidError::UnknownVersion => "unknown CID version",
-            CidError::DigestTooLong => "the digest is longer than 64 bytes",
-            CidError::TrailingBytes => "more bytes follow the CID",
-        })
+        write_status(f, self.status())
     }
 }
 
 impl fmt::Display for TextError {
     fn fmt(&self, f: &mut fmt::Formatter<'_>) -> fmt::Result {
-        match self {
-            TextError::UnknownBase => f.write_str("the text begins with no prefix of a base"),
-            TextError::InvalidLength => f.write_str("no CID has a text of this length in its base"),
+        let status = match *self {
+            TextError::UnknownBase => sys::KOMBILAD_TEXT_UNKNOWN_BASE,
+            TextError::InvalidLength => sys::KOMBILAD_TEXT_INVALID_LENGTH,
             TextError::InvalidLetter(place) => {
-                write!(f, "the character at byte {place} is no letter of the text's base")
+                write_status(f, sys::KOMBILAD_TEXT_INVALID_LETTER)?;
+                return write!(f, ", at byte {place}");
             }
-            TextError::UnusedBits => f.write_str("bits after the last byte of the text are set"),
-            TextError::WrongVersion => f.write_str("a version 0 CID has no multibase text"),
-            TextError::Cid(error) => write!(f, "the text's bytes are no CID: {error}"),
-        }
+            TextError::UnusedBits => sys::KOMBILAD_TEXT_UNUSED_BITS,
+            TextError::WrongVersion => sys::KOMBILAD_TEXT_WRONG_VERSION,
+            TextError::Cid(error) => error.status(),
+        };
+        write_status(f, status)
     }
 }
 
 impl fmt::Display for BlockError {
     fn fmt(&self, f: &mut fmt::Formatter<'_>) -> fmt::Result {
-        f.write_str(match self {
-            BlockError::End => "the bytes end before the item does",
-            BlockError::NotShortest => "an argument is not in its shortest form",
-            BlockError::Float => {
-                "a float of other than 64 bits, NaN or an infinity; or any where a tree is made"
-            }
-            BlockError::Unsupported => {
-                "a simple value, a tag or an indefinite length that DAG-CBOR has not"
-            }
-            BlockError::Utf8 => "a text string is not UTF-8",
-            BlockError::KeyNotText => "the key of a map is no text string",
-            BlockError::DuplicateKey => "a key stands in a map for the second time",
-            BlockError::LinkBytes => {
-                "after the tag of a link there is no byte string that begins with a zero byte"
-            }
-            BlockError::Cid(error) => return write!(f, "the bytes of a link are no CID: {error}"),
-            BlockError::TrailingBytes => "more bytes follow the item",
-        })
+        let status = match *self {
+            BlockError::End => sys::KOMBILAD_BLOCK_END,
+            BlockError::NotShortest => sys::KOMBILAD_BLOCK_NOT_SHORTEST,
+            BlockError::Float => sys::KOMBILAD_BLOCK_FLOAT,
+            BlockError::Unsupported => sys::KOMBILAD_BLOCK_UNSUPPORTED,
+            BlockError::Utf8 => sys::KOMBILAD_BLOCK_UTF8,
+            BlockError::KeyNotText => sys::KOMBILAD_BLOCK_KEY_NOT_TEXT,
+            BlockError::DuplicateKey => sys::KOMBILAD_BLOCK_DUPLICATE_KEY,
+            BlockError::LinkBytes => sys::KOMBILAD_BLOCK_LINK_BYTES,
+            BlockError::Cid(error) => error.link_status(),
+            BlockError::TrailingBytes => sys::KOMBILAD_BLOCK_TRAILING_BYTES,
+        };
+        write_status(f, status)
     }
 }
 
 impl fmt::Display for CarError {
     fn fmt(&self, f: &mut fmt::Formatter<'_>) -> fmt::Result {
-        f.write_str(match self {
-            CarError::UnexpectedEnd => "the bytes end within a header or a section",
-            CarError::LengthNotShortest => {
-                "the length of a header or a section is not in its shortest form"
-            }
-            CarError::LengthTooLarge => "the length of a header or a section is 2^64 or more",
-            CarError::Empty => "a header or a section has the length zero",
-            CarError::TooLong => "a header or a section is longer than the limit",
-            CarError::NotAHeader => "the header is no map of roots and version 1",
-            CarError::Payload => "the header of version 2 places the payload where it can't be",
-            CarError::ShortPayload => "the bytes end before the payload of version 2 does",
-            CarError::Cid(error) => return write!(f, "a section begins with no CID: {error}"),
-        })
+        let status = match *self {
+            CarError::UnexpectedEnd => sys::KOMBILAD_CAR_UNEXPECTED_END,
+            CarError::LengthNotShortest => sys::KOMBILAD_CAR_LENGTH_NOT_SHORTEST,
+            CarError::LengthTooLarge => sys::KOMBILAD_CAR_LENGTH_TOO_LARGE,
+            CarError::Empty => sys::KOMBILAD_CAR_EMPTY,
+            CarError::TooLong => sys::KOMBILAD_CAR_TOO_LONG,
+            CarError::NotAHeader => sys::KOMBILAD_CAR_NOT_A_HEADER,
+            CarError::Payload => sys::KOMBILAD_CAR_PAYLOAD,
+            CarError::ShortPayload => sys::KOMBILAD_CAR_SHORT_PAYLOAD,
+            CarError::Cid(error) => error.status(),
+        };
+        write_status(f, status)
     }
 }
 
 impl fmt::Display for PbError {
     fn fmt(&self, f: &mut fmt::Formatter<'_>) -> fmt::Result {
-        f.write_str(match self {
-            PbError::End => "the bytes end before the field does",
-            PbError::VarintTooLarge => "a varint encodes a number of 2^64 or more",
-            PbError::UnknownField => "DAG-PB has no such field there",
-            PbError::FieldOrder => "a field comes twice or out of order",
-            PbError::NoHash => "a link does not begin with its hash",
-            PbError::Cid(error) => return write!(f, "the hash of a link is no CID: {error}"),
-            PbError::Utf8 => "the name of a link is not UTF-8",
-        })
+        let status = match *self {
+            PbError::End => sys::KOMBILAD_PB_END,
+            PbError::VarintTooLarge => sys::KOMBILAD_PB_VARINT_TOO_LARGE,
+            PbError::UnknownField => sys::KOMBILAD_PB_UNKNOWN_FIELD,
+            PbError::FieldOrder => sys::KOMBILAD_PB_FIELD_ORDER,
+            PbError::NoHash => sys::KOMBILAD_PB_NO_HASH,
+            PbError::Cid(error) => error.link_status(),
+            PbError::Utf8 => sys::KOMBILAD_PB_UTF8,
+        };
+        write_status(f, status)
     }
 }
 
 impl fmt::Display for Error {
     fn fmt(&self, f: &mut fmt::Formatter<'_>) -> fmt::Result {
-        match self {
-            Error::OutOfMemory => f.write_str("out of memory"),
-            Error::V0Base => f.write_str("a version 0 CID has a text in base58btc alone"),
-            Error::TooDeep { offset } => {
-                write!(f, "lists and maps nest deeper than the limit, at byte {offset}")
-            }
-            Error::TooMany { offset } => {
-                write!(f, "there are more values than the limit, at byte {offset}")
-            }
-            Error::TooLong => {
-                f.write_str("a string, a list or a map is too long for an entry of a tape")
-            }
-            Error::Cid(error) => error.fmt(f),
-            Error::Text(error) => error.fmt(f),
-            Error::Block { error, offset } => write!(f, "{error}, at byte {offset}"),
-            Error::Car { error, offset } => write!(f, "{error}, at byte {offset}"),
-            Error::Pb { error, offset } => write!(f, "{error}, at byte {offset}"),
-            Error::UnknownHash => f.write_str(
-                "the hash function of the CID is neither SHA2-256, SHA2-512 nor identity",
-            ),
-            Error::WrongDigest => f.write_str("the block has another digest than the CID"),
-            Error::Other(status) => write!(f, "the status {status} of libkombilad"),
-        }
+        let (status, offset) = match *self {
+            Error::OutOfMemory => (sys::KOMBILAD_NO_MEMORY, None),
+            Error::V0Base => (sys::KOMBILAD_V0_BASE, None),
+            Error::TooDeep { offset } => (sys::KOMBILAD_TOO_DEEP, Some(offset)),
+            Error::TooMany { offset } => (sys::KOMBILAD_TOO_MANY, Some(offset)),
+            Error::TooLong => (sys::KOMBILAD_TOO_LONG, None),
+            Error::Cid(error) => return error.fmt(f),
+            Error::Text(error) => return error.fmt(f),
+            Error::Block { error, offset } => return write!(f, "{error}, at byte {offset}"),
+            Error::Car { error, offset } => return write!(f, "{error}, at byte {offset}"),
+            Error::Pb { error, offset } => return write!(f, "{error}, at byte {offset}"),
+            Error::UnknownHash => (sys::KOMBILAD_UNKNOWN_HASH, None),
+            Error::WrongDigest => (sys::KOMBILAD_WRONG_DIGEST, None),
+            Error::Other(status) => return write!(f, "the status {status} of libkombilad"),
+        };
+        write_status(f, status)?;
+        offset.map_or(Ok(()), |offset| write!(f, ", at byte {offset}"))
     }
 }
 
 impl fmt::Display for EncodeError {
     fn fmt(&self, f: &mut fmt::Formatter<'_>) -> fmt::Result {
-        f.write_str(match self {
-            EncodeError::OutOfMemory => "out of memory",
-            EncodeError::TooDeep => "lists and maps nest deeper than the limit",
-            EncodeError::Integer => "an integer is from -2^64 to 2^64 - 1",
-            EncodeError::Float => "NaN and the infinities are no value of DAG-CBOR",
-            EncodeError::KeyNotText => "the key of a map is no text",
-            EncodeError::DuplicateKey => "a map has a key twice",
-            EncodeError::Cid(error) => {
-                return write!(f, "what was to be a link is no CID: {error}")
-            }
-            EncodeError::TooLong => {
-                "a text, bytes, a list or a map are too long for an entry of a tape"
-            }
-            EncodeError::Message(message) => message,
+        let status = match self {
+            EncodeError::OutOfMemory => sys::KOMBILAD_NO_MEMORY,
+            EncodeError::TooDeep => sys::KOMBILAD_TOO_DEEP,
+            EncodeError::Integer => return f.write_str("an integer must be from -2^64 to 2^64 - 1"),
+            EncodeError::Float => sys::KOMBILAD_TAPE_FLOAT,
+            EncodeError::KeyNotText => sys::KOMBILAD_BLOCK_KEY_NOT_TEXT,
+            EncodeError::DuplicateKey => sys::KOMBILAD_TAPE_DUPLICATE_KEY,
+            EncodeError::Cid(error) => error.link_status(),
+            EncodeError::TooLong => sys::KOMBILAD_TOO_LONG,
+            EncodeError::Message(message) => return f.write_str(message),
             EncodeError::Other(status) => return write!(f, "the status {status} of libkombilad"),
-        })
+        };
+        write_status(f, status)
     }
 }
 

@@ -25,6 +25,13 @@ pub(crate) fn version() -> u32 {
     unsafe { sys::kombilad_version() }
 }
 
+/// Returns the sentence of a status, which is written to the beginning of `text`.
+pub(crate) fn status_text(status: u32, text: &mut [u8; 80]) -> &str {
+    let mut needed = 0;
+    unsafe { sys::kombilad_status_text(status, text.as_mut_ptr(), text.len(), &mut needed) };
+    text.get(..needed).and_then(|text| str::from_utf8(text).ok()).unwrap_or_default()
+}
+
 fn done(status: u32) -> Result<(), u32> {
     if status == sys::KOMBILAD_OK {
         Ok(())
