@@ -1,174 +1,173 @@
 //! What each status reports, in a sentence.
 
-ghost use Rattle.std.specs.Prelude.{◌≡◌, option_map, slice_get};
+ghost use Rattle.std.specs.Prelude.{◌≡◌, option_map};
 ghost use Rattle.kombilad_c.specs.Fill.{Fills};
-ghost use Rattle.kombilad_c.specs.StatusText.{any_texts, cid_texts, text_texts, block_texts, link_texts, car_texts, digest_texts, tape_texts, pb_texts, status_text};
+ghost use Rattle.kombilad_c.specs.StatusText.{any_sentence, cid_sentence, text_sentence, block_sentence, link_sentence, car_sentence, digest_sentence, tape_sentence, pb_sentence, status_sentence};
 
 use crate::fill::fill;
 
-// What no status of this version reports.
+// What a number reports that is no status of this version.
 const OTHER: &str = "the status is not one of this version";
 
-// The sentence of a status of any call, by its number.
-fn any_text(number: usize) -> Option<&'static str>
-    ensures { option_map (λ text. text.now) result ≡ slice_get any_texts number }
+// The sentence of a status of any call.
+fn any_text(number: u32) -> Option<&'static str>
+    ensures { option_map (λ text. text.now) result ≡ any_sentence number }
 {
-    [
-        "the call succeeded",
-        "out of memory",
-        "the buffer is too short: pass one of the length that the call asks for",
-        "the keys of a map are not in canonical order",
-        "the base is unknown",
-        "the text of a CID of version 0 is in base58btc",
-        "lists and maps nest deeper than the limit",
-        "there are more values than the limit",
-        "a string, a byte string, a list or a map is too long for a tape",
-    ]
-    .get(number)
-    .copied()
+    let text = match number {
+        0 => "the call succeeded",
+        1 => "out of memory",
+        2 => "the buffer is too short: pass one of the length that the call asks for",
+        3 => "the keys of a map are not in canonical order",
+        4 => "the base is unknown",
+        5 => "the text of a CID of version 0 is in base58btc",
+        6 => "lists and maps nest deeper than the limit",
+        7 => "there are more values than the limit",
+        8 => "a string, a byte string, a list or a map is too long for a tape",
+        _ => return None,
+    };
+    Some(text)
 }
 
-// The sentence of why bytes are not a CID, by its number less 16.
-fn cid_text(number: usize) -> Option<&'static str>
-    ensures { option_map (λ text. text.now) result ≡ slice_get cid_texts number }
+// Why bytes are not a CID: the sentence of the status less 16.
+fn cid_text(number: u32) -> Option<&'static str>
+    ensures { option_map (λ text. text.now) result ≡ cid_sentence number }
 {
-    [
-        "the bytes end before the CID does",
-        "a varint is not in its shortest form",
-        "a varint encodes a number of 2^64 or more",
-        "a CID of version 0 must not state its version",
-        "the version is neither 0 nor 1",
-        "the digest is longer than 64 bytes",
-        "more bytes follow the CID",
-    ]
-    .get(number)
-    .copied()
+    let text = match number {
+        0 => "the bytes end before the CID does",
+        1 => "a varint is not in its shortest form",
+        2 => "a varint encodes a number of 2^64 or more",
+        3 => "a CID of version 0 must not state its version",
+        4 => "the version is neither 0 nor 1",
+        5 => "the digest is longer than 64 bytes",
+        6 => "more bytes follow the CID",
+        _ => return None,
+    };
+    Some(text)
 }
 
-// The sentence of why a text is not one of a CID, by its number less 32.
-fn text_text(number: usize) -> Option<&'static str>
-    ensures { option_map (λ text. text.now) result ≡ slice_get text_texts number }
+// Why a text is not one of a CID: the sentence of the status less 32.
+fn text_text(number: u32) -> Option<&'static str>
+    ensures { option_map (λ text. text.now) result ≡ text_sentence number }
 {
-    [
-        "the text is empty, or begins with the prefix of an unknown base",
-        "a CID has no text of this length in its base",
-        "a character is not a letter of the base",
-        "bits after the last byte are set",
-        "the text of a CID of version 0 has no prefix",
-        "the text is not UTF-8",
-    ]
-    .get(number)
-    .copied()
+    let text = match number {
+        0 => "the text is empty, or begins with the prefix of an unknown base",
+        1 => "a CID has no text of this length in its base",
+        2 => "a character is not a letter of the base",
+        3 => "bits after the last byte are set",
+        4 => "the text of a CID of version 0 has no prefix",
+        5 => "the text is not UTF-8",
+        _ => return None,
+    };
+    Some(text)
 }
 
-// The sentence of why bytes are not a block, by its number less 48.
-fn block_text(number: usize) -> Option<&'static str>
-    ensures { option_map (λ text. text.now) result ≡ slice_get block_texts number }
+// Why bytes are not a block: the sentence of the status less 48.
+fn block_text(number: u32) -> Option<&'static str>
+    ensures { option_map (λ text. text.now) result ≡ block_sentence number }
 {
-    [
-        "the bytes end before the item does",
-        "an argument is not in its shortest form",
-        "a float has other than 64 bits, or is NaN or an infinity",
-        "a simple value, a tag or an indefinite length is not allowed in DAG-CBOR",
-        "a text string is not UTF-8",
-        "the key of a map is not a text string",
-        "a map has the same key twice",
-        "after the tag of a link, no byte string begins with a zero byte",
-        "more bytes follow the item",
-    ]
-    .get(number)
-    .copied()
+    let text = match number {
+        0 => "the bytes end before the item does",
+        1 => "an argument is not in its shortest form",
+        2 => "a float has other than 64 bits, or is NaN or an infinity",
+        3 => "a simple value, a tag or an indefinite length is not allowed in DAG-CBOR",
+        4 => "a text string is not UTF-8",
+        5 => "the key of a map is not a text string",
+        6 => "a map has the same key twice",
+        7 => "after the tag of a link, no byte string begins with a zero byte",
+        8 => "more bytes follow the item",
+        _ => return None,
+    };
+    Some(text)
 }
 
-// The sentence of why the bytes of a link are not a CID, by its number less 80.
-fn link_text(number: usize) -> Option<&'static str>
-    ensures { option_map (λ text. text.now) result ≡ slice_get link_texts number }
+// Why the bytes of a link are not a CID: the sentence of the status less 80.
+fn link_text(number: u32) -> Option<&'static str>
+    ensures { option_map (λ text. text.now) result ≡ link_sentence number }
 {
-    [
-        "the bytes of a link end before its CID does",
-        "a varint of a link is not in its shortest form",
-        "a varint of a link encodes a number of 2^64 or more",
-        "a link of version 0 must not state its version",
-        "the version of a link is neither 0 nor 1",
-        "the digest of a link is longer than 64 bytes",
-        "more bytes follow the CID of a link",
-    ]
-    .get(number)
-    .copied()
+    let text = match number {
+        0 => "the bytes of a link end before its CID does",
+        1 => "a varint of a link is not in its shortest form",
+        2 => "a varint of a link encodes a number of 2^64 or more",
+        3 => "a link of version 0 must not state its version",
+        4 => "the version of a link is neither 0 nor 1",
+        5 => "the digest of a link is longer than 64 bytes",
+        6 => "more bytes follow the CID of a link",
+        _ => return None,
+    };
+    Some(text)
 }
 
-// The sentence of why a CAR is not read, by its number less 96.
-fn car_text(number: usize) -> Option<&'static str>
-    ensures { option_map (λ text. text.now) result ≡ slice_get car_texts number }
+// Why a CAR is not read: the sentence of the status less 96.
+fn car_text(number: u32) -> Option<&'static str>
+    ensures { option_map (λ text. text.now) result ≡ car_sentence number }
 {
-    [
-        "the CAR has no more sections",
-        "the bytes end within a header or a section",
-        "the length of a header or a section is not in its shortest form",
-        "the length of a header or a section is 2^64 or more",
-        "the length of a header or a section is zero",
-        "a header is longer than the limit",
-        "the header is not a map of roots and version 1",
-        "the header of version 2 puts the payload where it can not be",
-        "the bytes end before the payload of version 2 does",
-    ]
-    .get(number)
-    .copied()
+    let text = match number {
+        0 => "the CAR has no more sections",
+        1 => "the bytes end within a header or a section",
+        2 => "the length of a header or a section is not in its shortest form",
+        3 => "the length of a header or a section is 2^64 or more",
+        4 => "the length of a header or a section is zero",
+        5 => "a header is longer than the limit",
+        6 => "the header is not a map of roots and version 1",
+        7 => "the header of version 2 puts the payload where it can not be",
+        8 => "the bytes end before the payload of version 2 does",
+        _ => return None,
+    };
+    Some(text)
 }
 
-// The sentence of why a block is not known to be that of a CID, by its number less 112.
-fn digest_text(number: usize) -> Option<&'static str>
-    ensures { option_map (λ text. text.now) result ≡ slice_get digest_texts number }
+// Why a block is not known to be that of a CID: the sentence of the status less 112.
+fn digest_text(number: u32) -> Option<&'static str>
+    ensures { option_map (λ text. text.now) result ≡ digest_sentence number }
 {
-    [
-        "the hash function of the CID is not SHA2-256, SHA2-512 or identity",
-        "the digest of the block is not that of the CID",
-    ]
-    .get(number)
-    .copied()
+    let text = match number {
+        0 => "the hash function of the CID is not SHA2-256, SHA2-512 or identity",
+        1 => "the digest of the block is not that of the CID",
+        _ => return None,
+    };
+    Some(text)
 }
 
-// The sentence of why no block is written of a tape, by its number less 128.
-fn tape_text(number: usize) -> Option<&'static str>
-    ensures { option_map (λ text. text.now) result ≡ slice_get tape_texts number }
+// Why no block is written of a tape: the sentence of the status less 128.
+fn tape_text(number: u32) -> Option<&'static str>
+    ensures { option_map (λ text. text.now) result ≡ tape_sentence number }
 {
-    [
-        "an entry for a value or a key is missing",
-        "more entries follow than the list, the map or the tape has",
-        "the kind of an entry is unknown, or wrong in its place",
-        "a list or a map spans no entry, or more than there are",
-        "the length or the value of an entry does not suit its kind",
-        "the content of an entry is not within the data",
-        "a string or a key is not UTF-8",
-        "a float is NaN or an infinity",
-        "the status is not one of this version",
-        "a map has the same key twice",
-    ]
-    .get(number)
-    .copied()
+    let text = match number {
+        0 => "an entry for a value or a key is missing",
+        1 => "more entries follow than the list, the map or the tape has",
+        2 => "the kind of an entry is unknown, or wrong in its place",
+        3 => "a list or a map spans no entry, or more than there are",
+        4 => "the length or the value of an entry does not suit its kind",
+        5 => "the content of an entry is not within the data",
+        6 => "a string or a key is not UTF-8",
+        7 => "a float is NaN or an infinity",
+        9 => "a map has the same key twice",
+        _ => return None,
+    };
+    Some(text)
 }
 
-// The sentence of why bytes are not a node of DAG-PB, by its number less 144.
-fn pb_text(number: usize) -> Option<&'static str>
-    ensures { option_map (λ text. text.now) result ≡ slice_get pb_texts number }
+// Why bytes are not a node of DAG-PB: the sentence of the status less 144.
+fn pb_text(number: u32) -> Option<&'static str>
+    ensures { option_map (λ text. text.now) result ≡ pb_sentence number }
 {
-    [
-        "the bytes end before the field does",
-        "a varint encodes a number of 2^64 or more, or has more than ten bytes",
-        "a field is not allowed in DAG-PB, or not there",
-        "a field comes twice or out of order",
-        "a link does not begin with its hash",
-        "the name of a link is not UTF-8",
-    ]
-    .get(number)
-    .copied()
+    let text = match number {
+        0 => "the bytes end before the field does",
+        1 => "a varint encodes a number of 2^64 or more, or has more than ten bytes",
+        2 => "a field is not allowed in DAG-PB, or not there",
+        3 => "a field comes twice or out of order",
+        4 => "a link does not begin with its hash",
+        5 => "the name of a link is not UTF-8",
+        _ => return None,
+    };
+    Some(text)
 }
 
 // What a status reports, in a sentence without a full stop. It is ASCII.
 fn sentence(status: u32) -> &'static str
-    ensures { result.now ≡ status_text status }
+    ensures { result.now ≡ status_sentence status }
 {
-    let number = (status % 16) as usize;
+    let number = status % 16;
     let found = match status / 16 {
         0 => any_text(number),
         1 => cid_text(number),
@@ -187,7 +186,7 @@ fn sentence(status: u32) -> &'static str
 /// Writes what a status reports, in a sentence.
 #[unsafe(no_mangle)]
 pub extern "C" fn kombilad_status_text(status: u32, text: &mut [u8], needed: &mut usize) -> u32
-    ensures { Fills (status_text status) result text.old text.new needed.new }
+    ensures { Fills (status_sentence status) result text.old text.new needed.new }
 {
     fill(sentence(status).as_bytes(), text, needed)
 }
