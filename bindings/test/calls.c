@@ -1093,8 +1093,8 @@ static void check_sentences(void) {
     CHECK(reports(KOMBILAD_TEXT_UTF8, "the text is not UTF-8"));
     CHECK(reports(KOMBILAD_BLOCK_DUPLICATE_KEY, "a map has the same key twice"));
     CHECK(reports(KOMBILAD_LINK_TRAILING_BYTES, "more bytes follow the CID of a link"));
-    CHECK(reports(KOMBILAD_CAR_SHORT_PAYLOAD,
-                  "the bytes end before the payload of version 2 does"));
+    CHECK(
+        reports(KOMBILAD_CAR_SHORT_PAYLOAD, "the bytes end before the payload of version 2 does"));
     CHECK(reports(KOMBILAD_WRONG_DIGEST, "the digest of the block is not that of the CID"));
     CHECK(reports(KOMBILAD_TAPE_DUPLICATE_KEY, "a map has the same key twice"));
     CHECK(reports(KOMBILAD_PB_UTF8, "the name of a link is not UTF-8"));

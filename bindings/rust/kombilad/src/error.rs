@@ -469,7 +469,9 @@ impl fmt::Display for EncodeError {
         let status = match self {
             EncodeError::OutOfMemory => sys::KOMBILAD_NO_MEMORY,
             EncodeError::TooDeep => sys::KOMBILAD_TOO_DEEP,
-            EncodeError::Integer => return f.write_str("an integer must be from -2^64 to 2^64 - 1"),
+            EncodeError::Integer => {
+                return f.write_str("an integer must be from -2^64 to 2^64 - 1")
+            }
             EncodeError::Float => sys::KOMBILAD_TAPE_FLOAT,
             EncodeError::KeyNotText => sys::KOMBILAD_BLOCK_KEY_NOT_TEXT,
             EncodeError::DuplicateKey => sys::KOMBILAD_TAPE_DUPLICATE_KEY,
