@@ -33,18 +33,21 @@ use Rattle.dag_cbor_format.proofs.OnlySorted.{only_sorted}
 use Rattle.dag_cbor_blocks.specs.Counting.{Passed, start, excess, passed, with_offset, limit_passed}
 use Rattle.dag_cbor_blocks.specs.Decoded.{LinksOf}
 use Rattle.dag_cbor_format.proofs.CidLaws.{cid_laws}
-use Rattle.dag_cbor_blocks.specs.LinkFinder.{links_with, links_counted}
-use Rattle.dag_cbor_blocks.specs.LinkPositions.{position_of, positions_with}
+use Rattle.dag_cbor_blocks.specs.LinkFinder.{links_with}
+use Rattle.dag_cbor_blocks.specs.LinkPositions.{position_of, kept, found_with}
 use Rattle.dag_cbor_blocks.specs.OrderChecker.{lasts_in, lasts_of, sorted_with}
 use Rattle.dag_cbor_blocks.specs.Within.{StopsAt}
 use Rattle.dag_cbor_blocks.specs.declared.block_error.BlockErrorKind.{BlockErrorKind}
 use Rattle.dag_cbor_blocks.specs.declared.block_error.BlockErrorKind.TheVariants.{Cbor, TooDeep, TooMany}
 use Rattle.dag_cbor_blocks.specs.declared.canonical.OrderChecker.{OrderChecker}
 use Rattle.dag_cbor_blocks.specs.declared.link_position.PositionFinder.{PositionFinder}
-use Rattle.dag_cbor_blocks.specs.declared.links.LinkCounter.{LinkCounter}
 use Rattle.dag_cbor_blocks.specs.declared.links.LinkFinder.{LinkFinder}
 use Rattle.dag_cbor_format.proofs.TreeOfBlock.{no_error_where}
 use Rattle.dag_cbor_format.proofs.FoundLinks.{read_is, read_only}
+
+none_kept : (b : Bool) → kept b [] ≡ []
+none_kept true = refl
+none_kept false = refl
 
 and_true : (b : Bool) → (b && true) ≡ b
 and_true true = refl
@@ -74,19 +77,21 @@ module _ (floats : Bool) (block : List ℕ) (whole : (trace_of floats block).err
   error_known = whole
 
   -- by what a visitor comes to that has taken the events
-  pub counted : (old new : LinkCounter) → old.count ≡ 0 → links_counted new [] ≡ links_counted old (tokens_in (trace_of floats block).events) → option_map length (links_read floats block) ≡ Some new.count
-  counted old new zero e = count_known new.count (omega (arith, zero, e))
+  pub counted : (old new : PositionFinder) → old.count ≡ 0 → found_with new [] ≡ found_with old (trace_of floats block).events → option_map length (links_read floats block) ≡ Some new.count
+  counted old new zero e = count_known new.count (omega (arith, zero, ap (λ (x : ℕ × List Position). x.0) e))
 
   pub finder_links : (old new : LinkFinder) → old.links.items ≡ [] → links_with new [] ≡ links_with old (tokens_in (trace_of floats block).events) → links_read floats block ≡ Some (map link_of new.links.items)
   finder_links old new empty e =
       links_known (map link_of new.links.items) (sym (append-nil (map link_of new.links.items)) ∙ e ∙ ap (λ xs. map link_of xs ++ links_among (tokens_in (trace_of floats block).events)) empty)
 
-  pub finder_positions : (old new : PositionFinder) → old.positions.items ≡ [] → old.size ≡ length block → positions_with new [] ≡ positions_with old (trace_of floats block).events
+  pub finder_positions : (old new : PositionFinder) → old.positions.items ≡ [] → old.size ≡ length block → old.is_keeping ≡ true → found_with new [] ≡ found_with old (trace_of floats block).events
       → positions_read floats block ≡ Some (map position_of new.positions.items)
-  finder_positions old new empty size e =
+  finder_positions old new empty size keeps e =
+      let ps = positions_among (length block) (trace_of floats block).events in
       positions_known (map position_of new.positions.items) (
-      sym (append-nil (map position_of new.positions.items)) ∙ e ∙ ap (λ xs. map position_of xs ++ positions_among old.size (trace_of floats block).events) empty
-      ∙ ap (λ n. positions_among n (trace_of floats block).events) size
+      sym (ap (λ xs. map position_of new.positions.items ++ xs) (none_kept new.is_keeping) ∙ append-nil (map position_of new.positions.items)) ∙ ap (λ (x : ℕ × List Position). x.1) e
+      ∙ ap (λ xs. map position_of xs ++ kept old.is_keeping (positions_among old.size (trace_of floats block).events)) empty
+      ∙ ap (λ n. kept old.is_keeping (positions_among n (trace_of floats block).events)) size ∙ ap (λ b. kept b ps) keeps
       )
 
   pub checker_sorted : (old new : OrderChecker) → old.lasts.items ≡ [] → old.is_sorted ≡ true → sorted_with new [] ≡ sorted_with old (trace_of floats block).events → is_sorted floats block ≡ Some new.is_sorted

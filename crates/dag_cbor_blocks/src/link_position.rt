@@ -1,6 +1,6 @@
 //! Where the links of a block stand in it.
 
-ghost use Rattle.std.specs.Prelude.{◌≡◌, [], List};
+ghost use Rattle.std.specs.Prelude.{◌≡◌, true, false, [], List};
 ghost use Rattle.dag_cbor_format.specs.Trace.{Position};
 
 use crate::visit::{Event, Visitor};
@@ -17,40 +17,68 @@ pub struct LinkPosition {
     pub length: usize,
 }
 
-// The positions of the links of a block so far, in the order of its bytes.
+// How many links a block has so far, and their positions in the order of its bytes, if they are kept.
 #[derive(Drop)]
 pub(crate) struct PositionFinder {
     // How many bytes the block has.
     size: usize,
+    is_keeping: bool,
+    pub(crate) count: usize,
     pub(crate) positions: Vec<LinkPosition>,
 }
 
 impl PositionFinder {
+    // A finder that keeps the positions, in a block of so many bytes.
+    #[inline(always)]
     pub(crate) fn new(alloc: Global, size: usize) -> Self
+        ensures count { result.count ≡ 0 }
         ensures positions { result.positions.items ≡ [] }
         ensures size { result.size ≡ size }
+        ensures is_keeping { result.is_keeping ≡ true }
     {
         PositionFinder {
             size,
+            is_keeping: true,
+            count: 0,
+            positions: Vec::new(alloc),
+        }
+    }
+
+    // A finder that only counts the links.
+    #[inline(always)]
+    pub(crate) fn counter(alloc: Global) -> Self
+        ensures count { result.count ≡ 0 }
+        ensures positions { result.positions.items ≡ [] }
+        ensures size { result.size ≡ 0 }
+        ensures is_keeping { result.is_keeping ≡ false }
+    {
+        PositionFinder {
+            size: 0,
+            is_keeping: false,
+            count: 0,
             positions: Vec::new(alloc),
         }
     }
 }
 
 impl Visitor for PositionFinder {
-    ghost use Rattle.dag_cbor_blocks.specs.LinkPositions.{positions_with};
+    ghost use Rattle.std.specs.Prelude.{ℕ};
+    ghost use Rattle.dag_cbor_blocks.specs.LinkPositions.{found_with};
 
-    ghost Answer = { List Position };
+    ghost Answer = { ℕ × List Position };
 
-    ghost answer = { positions_with };
+    ghost answer = { found_with };
 
     #[inline(always)]
     fn visit(&mut self, event: &Event<'_>, _left: usize) -> Result<(), AllocError> {
         match event {
             Event::Link { encoded, left, .. } => {
-                let length = encoded.len();
-                let offset = self.size.saturating_sub(*left).saturating_sub(length);
-                self.positions.push(LinkPosition { offset, length })?;
+                self.count = self.count.checked_add(1).ok_or(AllocError)?;
+                if self.is_keeping {
+                    let length = encoded.len();
+                    let offset = self.size.saturating_sub(*left).saturating_sub(length);
+                    self.positions.push(LinkPosition { offset, length })?;
+                }
                 Ok(())
             }
             _ => Ok(()),

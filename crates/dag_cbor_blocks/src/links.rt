@@ -44,29 +44,3 @@ impl Visitor for LinkFinder {
         }
     }
 }
-
-// The number of the links of a block so far.
-#[derive(Drop)]
-pub(crate) struct LinkCounter {
-    pub(crate) count: usize,
-}
-
-impl Visitor for LinkCounter {
-    ghost use Rattle.std.specs.Prelude.{ℕ};
-    ghost use Rattle.dag_cbor_blocks.specs.LinkFinder.{links_counted};
-
-    ghost Answer = { ℕ };
-
-    ghost answer = { λ counter events. links_counted counter (tokens_in events) };
-
-    #[inline(always)]
-    fn visit(&mut self, event: &Event<'_>, _left: usize) -> Result<(), AllocError> {
-        match event {
-            Event::Link { .. } => {
-                self.count = self.count.checked_add(1).ok_or(AllocError)?;
-                Ok(())
-            }
-            _ => Ok(()),
-        }
-    }
-}

@@ -20,7 +20,7 @@ use crate::block_error::BlockError;
 use crate::canonical::OrderChecker;
 use crate::drive::visit_block;
 use crate::link_position::{LinkPosition, PositionFinder};
-use crate::links::{LinkCounter, LinkFinder};
+use crate::links::LinkFinder;
 use crate::options::ReadOptions;
 use ipld_cid::Cid;
 use std::alloc::Global;
@@ -48,8 +48,8 @@ pub fn check_block(alloc: Global, bytes: &[u8], options: &ReadOptions) -> Result
         alloc,
         bytes,
         options,
-        LinkCounter { count: 0 },
-        LinkCounter { count: 0 },
+        PositionFinder::counter(alloc),
+        PositionFinder::counter(alloc),
     )?;
     Ok(())
 }
@@ -95,8 +95,8 @@ pub fn count_links(alloc: Global, bytes: &[u8], options: &ReadOptions) -> Result
         alloc,
         bytes,
         options,
-        LinkCounter { count: 0 },
-        LinkCounter { count: 0 },
+        PositionFinder::counter(alloc),
+        PositionFinder::counter(alloc),
     )?;
     Ok(counter.count)
 }

@@ -6,4 +6,4 @@ pub returns : goal.returns
 returns c =
     let r = c.in_ok-finder.ensures in
     let new = c.new.ensures in
-    record { exact = (finder_positions c.args.options.now.floats c.args.bytes.now r.0 c.new.result c.in_ok-finder.finder new.positions (search (new.size, rules)) r.1, r.2) }
+    record { exact = (finder_positions c.args.options.now.floats c.args.bytes.now r.0 c.new.result c.in_ok-finder.finder new.positions (search (new.size, rules)) new.is_keeping r.1, r.2) }
