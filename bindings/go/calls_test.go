@@ -234,7 +234,7 @@ func TestErrorsAreFound(t *testing.T) {
 	same(t, "As", errors.As(err, &failure), true)
 	same(t, "fields", []any{failure.Status, failure.Offset, failure.Path}, []any{ErrBlockEnd, int64(1), ""})
 	same(t, "Is", []bool{errors.Is(err, ErrBlockEnd), errors.Is(err, ErrBlockUTF8)}, []bool{true, false})
-	same(t, "text", err.Error(), "kombilad: the block is incomplete, at byte 1")
+	same(t, "text", err.Error(), "kombilad: the bytes end before the item does, at byte 1")
 	same(t, "no error", Check([]byte{0x80}), nil)
 }
 

@@ -46,7 +46,7 @@ func ExampleParseCid() {
 	fmt.Println(err)
 	// Output:
 	// 0 true 32
-	// kombilad: not a CID: invalid character for its base, at byte 7
+	// kombilad: a character is not a letter of the base, at byte 7
 }
 
 func ExampleCid_Verify() {

@@ -199,16 +199,16 @@ func TestErrorsHaveThePath(t *testing.T) {
 		status Status
 		text   string
 	}{
-		{deep{A: []map[string]any{{}, {"b": []any{1, math.NaN()}}}}, ErrValueFloat, "A[1].b[1]: NaN and infinities cannot be encoded"},
-		{[]any{1, []any{}, []any{1, 2, math.Inf(-1)}, 3}, ErrValueFloat, "[2][2]: NaN and infinities cannot be encoded"},
-		{map[string]any{"x": map[string]any{"y": "\xff"}}, ErrValueUTF8, "x.y: a string is not UTF-8"},
-		{[]any{map[string]any{"\xff": 1}}, ErrValueUTF8, `[0]["\xff"]: a string is not UTF-8`},
-		{"\xff", ErrValueUTF8, "a string is not UTF-8"},
+		{deep{A: []map[string]any{{}, {"b": []any{1, math.NaN()}}}}, ErrValueFloat, "A[1].b[1]: a float is NaN or an infinity"},
+		{[]any{1, []any{}, []any{1, 2, math.Inf(-1)}, 3}, ErrValueFloat, "[2][2]: a float is NaN or an infinity"},
+		{map[string]any{"x": map[string]any{"y": "\xff"}}, ErrValueUTF8, "x.y: a string or a key is not UTF-8"},
+		{[]any{map[string]any{"\xff": 1}}, ErrValueUTF8, `[0]["\xff"]: a string or a key is not UTF-8`},
+		{"\xff", ErrValueUTF8, "a string or a key is not UTF-8"},
 		{map[string]any{"x": make(chan int)}, ErrUnsupportedType, "x: the Go type chan int has no form in DAG-CBOR"},
 		{map[int]int{}, ErrUnsupportedType, "the Go type map[int]int has no form in DAG-CBOR"},
 		{[]any{complex(1, 1)}, ErrUnsupportedType, "[0]: the Go type complex128 has no form in DAG-CBOR"},
 		{struct{ Z func() }{}, ErrUnsupportedType, "Z: the Go type func() has no form in DAG-CBOR"},
-		{long, ErrValueFloat, strings.Repeat("[0]", 32) + "[...]" + strings.Repeat("[0]", 33) + ": NaN and infinities cannot be encoded"},
+		{long, ErrValueFloat, strings.Repeat("[0]", 32) + "[...]" + strings.Repeat("[0]", 33) + ": a float is NaN or an infinity"},
 	} {
 		_, err := Marshal(row.value)
 		sameError(t, row.text, err, row.status, -1)

@@ -72,7 +72,7 @@ car_sentence n =
     else if n == 2 then Some (codes "the length of a header or a section is not in its shortest form")
     else if n == 3 then Some (codes "the length of a header or a section is 2^64 or more")
     else if n == 4 then Some (codes "the length of a header or a section is zero")
-    else if n == 5 then Some (codes "a header is longer than the limit")
+    else if n == 5 then Some (codes "a header or a section is longer than the limit")
     else if n == 6 then Some (codes "the header is not a map of roots and version 1")
     else if n == 7 then Some (codes "the header of version 2 puts the payload where it can not be")
     else if n == 8 then Some (codes "the bytes end before the payload of version 2 does")

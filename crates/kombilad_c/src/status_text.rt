@@ -107,7 +107,7 @@ fn car_text(number: u32) -> Option<&'static str>
         2 => "the length of a header or a section is not in its shortest form",
         3 => "the length of a header or a section is 2^64 or more",
         4 => "the length of a header or a section is zero",
-        5 => "a header is longer than the limit",
+        5 => "a header or a section is longer than the limit",
         6 => "the header is not a map of roots and version 1",
         7 => "the header of version 2 puts the payload where it can not be",
         8 => "the bytes end before the payload of version 2 does",

@@ -62,7 +62,7 @@ def verify(cid: Cid, block: BytesLike) -> None:
     >>> verify(Cid.of_block(b"\\xa0"), b"\\xa0")
     >>> verify(Cid.of_block(b"\\xa0"), b"\\x80")
     Traceback (most recent call last):
-    kombilad.VerifyError: the block has another digest than the CID
+    kombilad.VerifyError: the digest of the block is not that of the CID
     """
     _native.verify(bytes(cid), block)
 

@@ -113,7 +113,7 @@ class Cid(_native.CidBytes):
         'f01550000'
         >>> Cid("bafkqaaa").to_text("base2")
         Traceback (most recent call last):
-        kombilad.BaseError: there is no such base
+        kombilad.BaseError: the base is unknown
         """
         if base and base not in _BASES:
             raise failed(Status.UNKNOWN_BASE)

@@ -104,6 +104,6 @@ def encode_dag_cbor(
 
     >>> encode_dag_cbor(float("nan"))
     Traceback (most recent call last):
-    kombilad.EncodeError: NaN and the infinities are no value of DAG-CBOR
+    kombilad.EncodeError: a float is NaN or an infinity
     """
     return _encode(value, cids, levels)
