@@ -26,7 +26,9 @@ int main(int count, char **words) {
                                      &found, &offset);
     // [end: links]
     if (status != KOMBILAD_OK) {
-        fprintf(stderr, "status %u\n", status);
+        uint8_t text[80];
+        kombilad_status_text(status, text, sizeof text, &found);
+        fprintf(stderr, "%.*s\n", (int)found, (char *)text);
         return 1;
     }
     for (size_t at = 0; at < found; at++) print(&links[at]);
