@@ -193,6 +193,12 @@ enum kombilad_status {
     KOMBILAD_PB_UTF8 = 149
 };
 
+/* Writes what a status reports: a sentence of at most 80 bytes, in ASCII, with no full stop and no
+ * zero byte after it. Every number has one. Does not allocate.
+ *
+ * Statuses: OK, TOO_SHORT. */
+uint32_t kombilad_status_text(uint32_t status, uint8_t *text, size_t text_len, size_t *needed);
+
 /* ---- CIDs */
 
 /* The bytes of a CID: `len` of them, at most 86, and zeros after them. */
@@ -253,9 +259,13 @@ void kombilad_cid_of_block(uint64_t codec, const uint8_t *block, size_t len, kom
  *
  * Each call takes two limits: how deep lists and maps may nest (0 for neither, 1 for a list or a
  * map of other values, and so on), and how many values there may be (the block's own, and each item
- * of a list and each value of a map in it; SIZE_MAX is no limit). Some 60 bytes are allocated for
- * each list or map that is open, and 16 for each key of an open map. Where the bytes pass a limit
- * and have an error, what comes first decides.
+ * of a list and each value of a map in it; SIZE_MAX is no limit). If the bytes pass a limit and have
+ * an error, what comes first decides.
+ *
+ * What is open takes no memory in a block of at most 32 levels that has no more bytes than it may
+ * have values, if the keys of its maps come in canonical order and none is empty. In any other, and
+ * in kombilad_block_check_canonical, each list or map that is open takes some 60 bytes, and each key
+ * of an open map 16.
  *
  * Where a call returns TOO_DEEP, TOO_MANY, KOMBILAD_BLOCK_* or KOMBILAD_LINK_*, it writes to
  * `offset` at which byte of the block the item, the key, the byte string of a link or the bytes
