@@ -70,12 +70,18 @@ fn links(rt: HostRuntime) -> Result<(), Ended> {
 }
 
 /// The map of `a` to the list of 1.5 and the link of A.
-const FLOAT: [u8; 21] = [
+pub(crate) const FLOAT: [u8; 21] = [
     0xa1, 0x61, 0x61, 0x82, 0xfb, 0x3f, 0xf8, 0x00, 0x00, 0x00, 0x00, 0x00, 0x00, 0xd8, 0x2a, 0x45,
     0x00, 0x01, 0x55, 0x00, 0x00,
 ];
 
-fn with_floats() -> ReadOptions {
+/// The map of `b` to the same list, and of `a` to 2. Its keys are out of order, so that a loop reads it and allocates.
+const UNORDERED: [u8; 24] = [
+    0xa2, 0x61, 0x62, 0x82, 0xfb, 0x3f, 0xf8, 0x00, 0x00, 0x00, 0x00, 0x00, 0x00, 0xd8, 0x2a, 0x45,
+    0x00, 0x01, 0x55, 0x00, 0x00, 0x61, 0x61, 0x02,
+];
+
+pub(crate) fn with_floats() -> ReadOptions {
     ReadOptions {
         floats: true,
         ..ReadOptions::default()
@@ -85,16 +91,16 @@ fn with_floats() -> ReadOptions {
 #[test]
 fn measured(rt: HostRuntime) -> Result<(), Ended> {
     let options = with_floats();
-    let checked = check_block(rt.alloc(), &FLOAT, &options);
+    let checked = check_block(rt.alloc(), &UNORDERED, &options);
     reported("check_block", checked)?;
-    let count = count_links(rt.alloc(), &FLOAT, &options);
+    let count = count_links(rt.alloc(), &UNORDERED, &options);
     assert_eq!(rt; reported("count_links", count)?, 1);
     let canonical = is_canonical(rt.alloc(), &FLOAT, &options);
     assert!(rt; reported("is_canonical", canonical)?);
-    let size = measure_block(rt.alloc(), &FLOAT, &options);
+    let size = measure_block(rt.alloc(), &UNORDERED, &options);
     let expected = BlockSize {
         levels: 2,
-        values: 4,
+        values: 5,
         links: 1,
     };
     assert_eq!(rt; reported("measure_block", size)?, expected);

@@ -1,5 +1,6 @@
 //! Calls that do not allocate, on inputs that do not either: no test allocates, so all pass whichever allocation fails.
 
+mod blocks;
 mod conversions;
 mod deserializer;
 mod identifiers;
