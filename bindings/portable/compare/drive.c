@@ -43,6 +43,7 @@ enum call {
     CAR_OPEN,
     CAR_NEXT,
     VERIFY,
+    STATUS_TEXT,
     VERSION
 };
 
@@ -302,6 +303,11 @@ static uint32_t run(const input *of, size_t count, size_t *needed) {
     }
     case CAR_NEXT: status = walk(of); break;
     case VERIFY: status = kombilad_verify(first, len, of->second.at, of->second.size); break;
+    case STATUS_TEXT:
+        out = make_room(count);
+        status = kombilad_status_text((uint32_t)of->numbers[0], out.at, count, needed);
+        note_bytes(out.at, count);
+        break;
     case VERSION: status = kombilad_version(); break;
     default: abort();
     }
