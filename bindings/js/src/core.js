@@ -108,7 +108,13 @@ class Core {
   }
 }
 
-startBy(() => { if (module !== undefined) run(() => {}) })
+startBy(() => {
+  try {
+    if (module !== undefined) run(() => {})
+  } catch {
+    // The core can't be started: the error then has its name for a sentence.
+  }
+})
 
 /** The error that a status is, with its offset where it has one. */
 export function failed (core, status) {
