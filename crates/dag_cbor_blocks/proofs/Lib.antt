@@ -15,6 +15,5 @@ pub mod TapeReads
 pub mod Tapes
 pub mod Fits
 pub mod ShallowVisits
-pub mod ShallowTapes
 mod Texts
 pub mod KeyBytes

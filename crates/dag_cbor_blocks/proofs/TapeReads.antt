@@ -1,6 +1,7 @@
 -- What a writer of a tape comes to over a block are the entries of its item.
 use Rattle.std.proofs.Common.{◌≡◌, inl, inr, ℕ, suc, pos, negsuc, ◌+◌, ◌-◌, ◌^◌, ◌<◌, Bool, true, false, List, [], ◌∷◌, ◌++◌, length, Some, refl, sym, ap, subst, ◌∙◌, append_assoc, arith}
-use Rattle.std.specs.Prelude.{◌&&◌, ◌==◌, nat_lt, if◌then◌else◌, slice_set}
+use Rattle.std.specs.Prelude.{◌*◌, ◌/◌, ◌%◌, ◌&&◌, ◌==◌, nat_lt, if◌then◌else◌, slice_get, slice_set}
+use Rattle.std.proofs.Math.Nat.{div-add-mod}
 use Rattle.std.proofs.Math.Seq.{set-append_seam}
 use Rattle.std.proofs.lemmas.Bool.{lt-ltb}
 use Rattle.std.proofs.lemmas.List.{append-nil, length-append}
@@ -26,13 +27,14 @@ use Rattle.dag_cbor_format.proofs.ItemHeaders.{item_header_at-head, item_header_
 use Rattle.dag_cbor_format.proofs.Keys.{AreFresh, put_new_is, unseen, fresh_after}
 use Rattle.dag_cbor_format.proofs.Running.{trace_unwound}
 use Rattle.dag_cbor_blocks.specs.Tape.{entry, DescribesText, DescribesKey, Describes, DescribeParts, DescribePairs, IsTapeOf, all_short}
-use Rattle.dag_cbor_blocks.specs.TapeWriter.{Tape, Reading, reading, stopped, container, empty_tape, written, counted, content_after, number_after, null_after, begun, ended, event_after, read_on}
+use Rattle.dag_cbor_blocks.specs.TapeWriter.{Tape, Reading, reading, stopped, container, kept, outside, empty_tape, written, counted, content_after, number_after, null_after, begun, ended_as, ended, event_after, read_on}
+use Rattle.dag_cbor_blocks.specs.declared.tape.OpenEntry.{OpenEntry}
 use Rattle.dag_cbor_blocks.specs.declared.tape.TapeEntry.{TapeEntry}
 
 -- ---- tapes
 
 abbrev made : Tape → ℕ → ℕ → List TapeEntry → Tape
-made t left count es = record { size = t.size; left = left; innermost = container t.innermost.entry count; outer = t.outer; entries = es }
+made t left count es = record { size = t.size; left = left; innermost = container t.innermost.entry count; entries = es }
 
 -- so many values more, with these entries
 abbrev pub with_values : Tape → List TapeEntry → ℕ → ℕ → Tape
@@ -114,21 +116,33 @@ keyed t k here l0 l xs es h =
       | false ↦ stopped_on xs ∙ sym (stopped_on es)
     ]
 
+-- an entry keeps what is outside
+kept_outside : (o : OpenEntry) → outside (kept o) ≡ o
+kept_outside o = ap (λ (c : ℕ). container o.entry c) (let same : o.count / 2 ^ 32 * 2 ^ 32 + o.count % 2 ^ 32 ≡ o.count = omega (arith, div-add-mod o.count (2 ^ 32)) in same)
+
+get_seam : (xs : List TapeEntry) (y : TapeEntry) (ys : List TapeEntry) → slice_get (xs ++ y ∷ ys) (length xs) ≡ Some y
+get_seam [] y ys = refl
+get_seam (x ∷ xs) y ys = get_seam xs y ys
+
 -- what begins ends
 closed : (kind n l0 l : ℕ) (t : Tape) (inner : List TapeEntry) (step : Reading → Reading) → ((x : Tape) → step (reading x) ≡ ended kind l x) → step stopped ≡ stopped
     → step (if_short inner (with_values (begun l0 t) inner n l)) ≡ if_short (entry kind (suc (length inner)) n ∷ inner) (with_values t (entry kind (suc (length inner)) n ∷ inner) 1 l)
 closed kind n l0 l t inner step on_reading on_stopped =
     let x = with_values (begun l0 t) inner n l in
     let whole = with_values t (entry kind (suc (length inner)) n ∷ inner) 1 l in
-    let flat : x.entries ≡ t.entries ++ entry 0 0 0 ∷ inner = append_assoc t.entries (entry 0 0 0 ∷ []) inner in
-    let span : length x.entries - length t.entries ≡ suc (length inner) = omega (arith, ap length flat, length-append t.entries (entry 0 0 0 ∷ inner)) in
+    let o = container t.innermost.entry (t.innermost.count + 1) in
+    let flat : x.entries ≡ t.entries ++ kept o ∷ inner = append_assoc t.entries (kept o ∷ []) inner in
+    let span : length x.entries - length t.entries ≡ suc (length inner) = omega (arith, ap length flat, length-append t.entries (kept o ∷ inner)) in
     let none : 0 + n ≡ n = omega arith in
-    let after : ℕ → ℕ → Tape = λ s m. made t l (t.innermost.count + 1) (slice_set x.entries (length t.entries) (entry kind s m)) in
+    let here : slice_get x.entries (length t.entries) ≡ Some (kept o) = ap (λ es. slice_get es (length t.entries)) flat ∙ get_seam t.entries (kept o) inner in
+    let after : OpenEntry → ℕ → ℕ → Tape = λ c s m. record { size = t.size; left = l; innermost = c; entries = slice_set x.entries (length t.entries) (entry kind s m) } in
     let ends : ended kind l x ≡ (if nat_lt (suc (length inner)) (2 ^ 32) then reading whole else stopped) =
-    ap (λ (s : ℕ). if nat_lt s (2 ^ 32) then reading (after s (0 + n)) else stopped) span
-    ∙ ap (λ (m : ℕ). if nat_lt (suc (length inner)) (2 ^ 32) then reading (after (suc (length inner)) m) else stopped) none
+    ap (λ (s : ℕ). if nat_lt s (2 ^ 32) then reading (ended_as kind s l x (slice_get x.entries (length t.entries))) else stopped) span
+    ∙ ap (λ e. if nat_lt (suc (length inner)) (2 ^ 32) then reading (ended_as kind (suc (length inner)) l x e) else stopped) here
+    ∙ ap (λ c. if nat_lt (suc (length inner)) (2 ^ 32) then reading (after c (suc (length inner)) (0 + n)) else stopped) (kept_outside o)
+    ∙ ap (λ (m : ℕ). if nat_lt (suc (length inner)) (2 ^ 32) then reading (after o (suc (length inner)) m) else stopped) none
     ∙ ap (λ es. if nat_lt (suc (length inner)) (2 ^ 32) then reading (made t l (t.innermost.count + 1) es) else stopped)
-    (ap (λ es. slice_set es (length t.entries) (entry kind (suc (length inner)) n)) flat ∙ set-append_seam t.entries (entry 0 0 0) inner (entry kind (suc (length inner)) n)) in
+    (ap (λ es. slice_set es (length t.entries) (entry kind (suc (length inner)) n)) flat ∙ set-append_seam t.entries (kept o) inner (entry kind (suc (length inner)) n)) in
     elim (all_short inner) as (λ c. step (if c then reading x else stopped) ≡ (if nat_lt (suc (length inner)) (2 ^ 32) && c then reading whole else stopped)) [
       | true ↦ on_reading x ∙ ends ∙ one_short (nat_lt (suc (length inner)) (2 ^ 32)) (reading whole)
       | false ↦ on_stopped ∙ never_short (nat_lt (suc (length inner)) (2 ^ 32)) (reading whole)

@@ -19,5 +19,4 @@ pub mod TokensSource
 pub mod Decoded
 pub mod Measuring
 pub mod ShallowVisit
-pub mod ShallowTape
 pub mod TapeErrors

@@ -1,5 +1,5 @@
 -- What a writer of a block's tape comes to, event by event.
-use Rattle.std.specs.Prelude.{ℕ, ◌+◌, ◌-◌, ◌^◌, ◌==◌, ◌≡◌, nat_lt, if◌then◌else◌, ℤ, pos, negsuc, Bool, true, false, List, [], ◌∷◌, ◌++◌, length, reverse, slice_set, Result, Ok, Err}
+use Rattle.std.specs.Prelude.{ℕ, ◌+◌, ◌-◌, ◌*◌, ◌/◌, ◌%◌, ◌^◌, ◌==◌, ◌≡◌, nat_lt, if◌then◌else◌, ℤ, pos, negsuc, Bool, true, false, List, [], ◌∷◌, ◌++◌, length, slice_get, slice_set, Option, Some, None, Result, Ok, Err}
 use Rattle.std.specs.declared.alloc.AllocError.{AllocError}
 use Rattle.ipld_tokens.specs.Token.{TokenModel, Atom, none, boolean, integer, text, atom, bytes, link, seq, seq_end, map, map_end}
 use Rattle.dag_cbor_format.specs.Trace.{Event}
@@ -8,13 +8,12 @@ use Rattle.dag_cbor_blocks.specs.declared.tape.TapeEntry.{TapeEntry}
 use Rattle.dag_cbor_blocks.specs.declared.tape.OpenEntry.{OpenEntry}
 use Rattle.dag_cbor_blocks.specs.declared.tape.TapeWriter.{TapeWriter}
 
--- A tape of a block of so many bytes, of which so many are left behind what was read last. What is open is known by where its entry stands
--- and by how many values it has, innermost first.
+-- A tape of a block of so many bytes, of which so many are left behind what was read last. What is innermost is known by where its entry
+-- stands and by how many values it has, and its entry keeps the same of what is outside of it.
 pub record Tape : Type 0 where
   pub size : ℕ
   pub left : ℕ
   pub innermost : OpenEntry
-  pub outer : List OpenEntry
   pub entries : List TapeEntry
 
 -- a tape, or one behind the tag of a link, or an entry could not be written
@@ -27,17 +26,25 @@ pub data Reading : Type 0 where
 abbrev pub container : ℕ → ℕ → OpenEntry
 container at count = record { entry = at; count = count }
 
+-- what an open list or map is kept as by the entry of the innermost in it, until that ends
+abbrev pub kept : OpenEntry → TapeEntry
+kept o = entry (o.count / 2 ^ 32) (o.count % 2 ^ 32) o.entry
+
+-- what such an entry keeps
+abbrev pub outside : TapeEntry → OpenEntry
+outside e = container e.value (e.kind * 2 ^ 32 + e.len)
+
 -- before a block of so many bytes
 abbrev pub empty_tape : ℕ → Tape
-empty_tape size = record { size = size; left = size; innermost = container 0 0; outer = []; entries = [] }
+empty_tape size = record { size = size; left = size; innermost = container 0 0; entries = [] }
 
 -- an entry more, behind which so many bytes are left
 abbrev pub written : TapeEntry → ℕ → Tape → Tape
-written e left t = record { size = t.size; left = left; innermost = t.innermost; outer = t.outer; entries = t.entries ++ e ∷ [] }
+written e left t = record { size = t.size; left = left; innermost = t.innermost; entries = t.entries ++ e ∷ [] }
 
 -- a value more in what is innermost
 abbrev pub counted : Tape → Tape
-counted t = record { size = t.size; left = t.left; innermost = container t.innermost.entry (t.innermost.count + 1); outer = t.outer; entries = t.entries }
+counted t = record { size = t.size; left = t.left; innermost = container t.innermost.entry (t.innermost.count + 1); entries = t.entries }
 
 -- content of so many bytes
 abbrev pub content_after : ℕ → ℕ → ℕ → Tape → Reading
@@ -74,36 +81,30 @@ atom_after (integer n) left key t = integer_after n left t
 atom_after (text s) left key t = text_after key (length s) left t
 atom_after _ left key t = stopped
 
--- a list or a map begins, whose entry is written where it ends
+-- a list or a map begins, whose entry keeps what is outside of it
 abbrev pub begun : ℕ → Tape → Tape
 begun left t = record {
   size = t.size;
   left = left;
   innermost = container (length t.entries) 0;
-  outer = container t.innermost.entry (t.innermost.count + 1) ∷ t.outer;
-  entries = t.entries ++ entry 0 0 0 ∷ [];
+  entries = t.entries ++ kept (container t.innermost.entry (t.innermost.count + 1)) ∷ [];
 }
 
--- what is outside of the innermost, if anything is
-abbrev pub first_or : OpenEntry → List OpenEntry → OpenEntry
-first_or c [] = c
-first_or c (d ∷ ds) = d
-
--- and what is outside of that
-abbrev pub outside : List OpenEntry → List OpenEntry
-outside [] = []
-outside (c ∷ cs) = cs
+-- what is innermost, with this entry so far, spans so many entries and ends
+abbrev pub ended_as : ℕ → ℕ → ℕ → Tape → Option TapeEntry → Tape
+ended_as kind span left t None = record { size = t.size; left = left; innermost = t.innermost; entries = t.entries }
+ended_as kind span left t (Some e) = record {
+  size = t.size;
+  left = left;
+  innermost = outside e;
+  entries = slice_set t.entries t.innermost.entry (entry kind span t.innermost.count);
+}
 
 -- what is innermost ends
 abbrev pub ended : ℕ → ℕ → Tape → Reading
 ended kind left t =
-    if nat_lt (length t.entries - t.innermost.entry) (2 ^ 32) then reading (record {
-      size = t.size;
-      left = left;
-      innermost = first_or t.innermost t.outer;
-      outer = outside t.outer;
-      entries = slice_set t.entries t.innermost.entry (entry kind (length t.entries - t.innermost.entry) t.innermost.count);
-    }) else stopped
+    if nat_lt (length t.entries - t.innermost.entry) (2 ^ 32)
+    then reading (ended_as kind (length t.entries - t.innermost.entry) left t (slice_get t.entries t.innermost.entry)) else stopped
 
 -- a token, behind which so many bytes are left, and whether it is a key
 abbrev pub token_after : TokenModel → ℕ → Bool → Tape → Reading
@@ -136,7 +137,7 @@ read_on r (e ∷ es) = read_on (event_after r e) es
 
 -- the tape of a writer
 abbrev pub tape_of : TapeWriter → Tape
-tape_of w = record { size = w.size; left = w.left; innermost = w.innermost; outer = reverse w.outer.items; entries = w.entries.items }
+tape_of w = record { size = w.size; left = w.left; innermost = w.innermost; entries = w.entries.items }
 
 -- where a writer stands, which is stopped once an entry could not be written
 abbrev pub reading_of : TapeWriter → Reading

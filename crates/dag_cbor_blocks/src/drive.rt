@@ -35,6 +35,7 @@ pub(crate) fn visit_block<V: Visitor>(
             offset: 0,
         }),
         Err(Stop::Unread) => {
+            drop(visitor);
             let mut spare = spare;
             read_events_as(alloc, bytes, options, &mut spare)?;
             Ok(spare)

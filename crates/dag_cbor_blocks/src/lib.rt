@@ -40,7 +40,6 @@ mod position;
 mod read;
 mod reader;
 pub mod shallow;
-mod shallow_tape;
 pub mod tape;
 mod tokens;
 pub mod visit;

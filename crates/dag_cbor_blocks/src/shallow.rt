@@ -53,7 +53,7 @@ impl From<CborError> for Stop {
 // Each of these hands a value to the visitor, with all that it holds, and returns the bytes that follow it.
 
 // A float, if floats are read and the bytes begin with one.
-#[inline(never)]
+#[inline(always)]
 fn visit_float<'a, const FLOATS: bool, V: Visitor>(
     visitor: &mut V,
     bytes: &'a [u8],

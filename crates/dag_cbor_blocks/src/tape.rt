@@ -22,12 +22,11 @@ ghost use Rattle.ipld_tree.specs.Limits.{Within};
 ghost use Rattle.ipld_tree.specs.Tree.{Tree};
 ghost use Rattle.dag_cbor_format.specs.WithFloats.{EncodesTreeIn};
 ghost use Rattle.dag_cbor_blocks.specs.Tape.{entry, IsTapeOf, GivesTape, ReturnsTape, OnlyMemory};
-ghost use Rattle.dag_cbor_blocks.specs.TapeWriter.{Reading, reading, stopped, empty_tape, written, counted, null_after, bool_after, integer_after, content_after, begun, ended, reading_of, tape_with, Writes};
+ghost use Rattle.dag_cbor_blocks.specs.TapeWriter.{Reading, reading, stopped, empty_tape, written, counted, null_after, bool_after, integer_after, content_after, begun, ended, kept, outside, reading_of, tape_with, Writes};
 
-use crate::block::read_events_within;
 use crate::block_error::{BlockError, BlockErrorKind};
-use crate::shallow::Stop;
-use crate::shallow_tape::read_shallow_tape;
+use crate::drive::visit_block;
+use crate::options::ReadOptions;
 use crate::visit::{Event, Visitor};
 use dag_cbor_format::CborError;
 use ipld_tree::Limits;
@@ -62,7 +61,13 @@ pub const KEY: u32 = 11;
 // How many bytes a float takes.
 const FLOAT_SIZE: usize = 9;
 
-// For how many entries capacity is reserved at least.
+// Most blocks have about so many bytes for each entry.
+const BYTES_PER_ENTRY: usize = 8;
+
+// At most so many entries are reserved before any came.
+const RESERVED: usize = 1024;
+
+// For how many entries capacity is reserved at least if there is none.
 const SPARE_ENTRIES: usize = 32;
 
 /// A value of a block, or a key of a map. The [module](self) says what its fields are.
@@ -133,7 +138,7 @@ fn grow(entries: &mut Vec<TapeEntry>) -> Result<(), AllocError>
 
 // Puts an entry behind the others.
 #[inline(always)]
-pub(crate) fn push_entry(
+fn push_entry(
     entries: &mut Vec<TapeEntry>,
     kind: u32,
     len: u32,
@@ -157,6 +162,37 @@ struct OpenEntry {
     count: usize,
 }
 
+// The halves of a number of 64 bits have so many values.
+const HALF: usize = 0x1_0000_0000;
+
+impl OpenEntry {
+    // The entry that keeps this for the list or the map that begins in it, until that ends: the index as its value, and the
+    // halves of the count.
+    #[inline(always)]
+    fn kept(self) -> TapeEntry
+        ensures { result ≡ kept self }
+    {
+        TapeEntry {
+            kind: (self.count / HALF) as u32,
+            len: (self.count % HALF) as u32,
+            value: self.entry as u64,
+        }
+    }
+}
+
+impl TapeEntry {
+    // What the entry of an open list or map keeps.
+    #[inline(always)]
+    fn outside(self) -> OpenEntry
+        ensures { result ≡ outside self }
+    {
+        OpenEntry {
+            entry: self.value as usize,
+            count: self.kind as usize * HALF + self.len as usize,
+        }
+    }
+}
+
 // The tape of a block so far.
 #[derive(Drop)]
 struct TapeWriter {
@@ -165,24 +201,23 @@ struct TapeWriter {
     // How many of them follow what was read last.
     left: usize,
     innermost: OpenEntry,
-    // What is outside of the innermost, outermost first.
-    outer: Vec<OpenEntry>,
     // Whether each entry could be written.
     fits: bool,
+    // Those of open lists and maps keep what is outside of them.
     entries: Vec<TapeEntry>,
 }
 
 impl TapeWriter {
-    fn new(alloc: Global, size: usize) -> Self
+    fn new(entries: Vec<TapeEntry>, size: usize) -> Self
+        requires { entries.items ≡ [] }
         ensures { reading_of result ≡ reading (empty_tape size) }
     {
         TapeWriter {
             size,
             left: size,
             innermost: OpenEntry { entry: 0, count: 0 },
-            outer: Vec::new(alloc),
             fits: true,
-            entries: Vec::new(alloc),
+            entries,
         }
     }
 
@@ -226,7 +261,7 @@ impl TapeWriter {
         self.push(kind, 0, value, left)
     }
 
-    #[inline(never)]
+    #[inline(always)]
     fn push_null_or_float(&mut self, left: usize) -> Result<(), AllocError>
         ensures { Writes (null_after left) self.old result self.new }
     {
@@ -289,22 +324,22 @@ impl TapeWriter {
         self.push_content(kind, length, left)
     }
 
-    // A list or a map begins. Its entry is written at its end.
-    #[inline(never)]
+    // A list or a map begins. Its entry keeps what is outside of it, until it ends.
+    #[inline(always)]
     fn begin(&mut self, left: usize) -> Result<(), AllocError>
         ensures { Writes (λ t. reading (begun left t)) self.old result self.new }
     {
         self.count()?;
-        self.outer.push(self.innermost)?;
+        let TapeEntry { kind, len, value } = self.innermost.kept();
         self.innermost = OpenEntry {
             entry: self.entries.len(),
             count: 0,
         };
-        self.push(NULL, 0, 0, left)
+        self.push(kind, len, value, left)
     }
 
     // The innermost list or map ends.
-    #[inline(never)]
+    #[inline(always)]
     fn end(&mut self, kind: u32, left: usize) -> Result<(), AllocError>
         ensures { Writes (ended kind left) self.old result self.new }
     {
@@ -312,15 +347,15 @@ impl TapeWriter {
         let Ok(len) = u32::try_from(self.entries.len().saturating_sub(entry)) else {
             return self.stop();
         };
-        if entry < self.entries.len() {
+        self.left = left;
+        if let Some(open) = self.entries.get(entry) {
+            self.innermost = open.outside();
             self.entries[entry] = TapeEntry {
                 kind,
                 len,
                 value: count as u64,
             };
         }
-        self.left = left;
-        self.innermost = self.outer.pop().unwrap_or(self.innermost);
         Ok(())
     }
 }
@@ -381,28 +416,20 @@ pub fn read_tape(alloc: Global, bytes: &[u8], limits: &Limits) -> Result<Vec<Tap
     ensures once { (es : List TapeEntry) → IsTapeOf es bytes.now → ReturnsTape es (λ entries. entries.items) result }
     ensures only { (t : Tree) → EncodesTreeIn true t bytes.now → Within limits.now t → OnlyMemory result }
 {
-    match read_shallow_tape(alloc, bytes, limits) {
-        Ok(entries) => Ok(entries),
-        Err(Stop::Memory) => Err(TapeError::Block(BlockError {
+    let options = ReadOptions {
+        limits: *limits,
+        floats: true,
+    };
+    let expected = (bytes.len() / BYTES_PER_ENTRY).min(RESERVED);
+    let Ok(entries) = Vec::with_capacity(alloc, expected) else {
+        return Err(TapeError::Block(BlockError {
             kind: BlockErrorKind::Cbor(CborError::Memory),
             offset: 0,
-        })),
-        Err(Stop::Unread) => read_tape_by_loop(alloc, bytes, limits),
-    }
-}
-
-// The same, of a block that nests however deep, has keys in any order, passes a limit or has an error.
-fn read_tape_by_loop(
-    alloc: Global,
-    bytes: &[u8],
-    limits: &Limits,
-) -> Result<Vec<TapeEntry>, TapeError>
-    ensures exact { GivesTape limits.now bytes.now (λ entries. entries.items) result }
-    ensures once { (es : List TapeEntry) → IsTapeOf es bytes.now → ReturnsTape es (λ entries. entries.items) result }
-    ensures only { (t : Tree) → EncodesTreeIn true t bytes.now → Within limits.now t → OnlyMemory result }
-{
-    let mut writer = TapeWriter::new(alloc, bytes.len());
-    read_events_within::<true, TapeWriter>(alloc, bytes, *limits, &mut writer)?;
+        }));
+    };
+    let writer = TapeWriter::new(entries, bytes.len());
+    let spare = TapeWriter::new(Vec::new(alloc), bytes.len());
+    let writer = visit_block(alloc, bytes, &options, writer, spare)?;
     if writer.fits {
         Ok(writer.entries)
     } else {
