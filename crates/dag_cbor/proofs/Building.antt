@@ -1,5 +1,5 @@
 -- What a tree builder comes to.
-use Rattle.std.proofs.Common.{◌≡◌, ◌++◌, ℕ, ℤ, Bool, true, false, not, List, [], ◌∷◌, Option, Some, None, Result, Ok, Err, Vec, BTreeMap, String, string_bytes, Global, refl, sym, ap, subst, ◌∙◌, rules}
+use Rattle.std.proofs.Common.{◌≡◌, ℕ, ℤ, Bool, true, false, not, List, [], ◌∷◌, Option, Some, None, Result, Ok, Err, Vec, BTreeMap, String, string_bytes, Global, refl, sym, ap, subst, ◌∙◌, rules}
 use Rattle.std.specs.declared.alloc.AllocError.{AllocError}
 use Rattle.ipld_cid.specs.Cid as cid
 use Rattle.ipld_cid.specs.LinkOf.{link_of}
@@ -8,8 +8,8 @@ use Rattle.ipld_cid.specs.Bytes.{read_cid}
 use Rattle.ipld_tree.specs.Tree.{Tree, Members, no_items, no_members}
 use Rattle.ipld_tree.specs.Tree as tree
 use Rattle.ipld_tree.specs.TreeOf.{tree_of, items_of, members_of}
-use Rattle.ipld_tree.specs.declared.ipld.Ipld.{Ipld, Null, Bool as Ipld-Bool, Integer, Bytes, List as Ipld-List, Map as Ipld-Map, Link, the_lemmas}
-use Rattle.ipld_tree.proofs.Trees.{tree_of-Integer, tree_of-List, tree_of-Map, tree_of-Bytes}
+use Rattle.ipld_tree.specs.declared.ipld.Ipld.{Ipld, Null, Bool as Ipld-Bool, Bytes, List as Ipld-List, Map as Ipld-Map, Link, the_lemmas}
+use Rattle.ipld_tree.proofs.Trees.{tree_of-List, tree_of-Map, tree_of-Bytes}
 use Rattle.ipld_tokens.proofs.TreeLevels.{tree_of-Link}
 use Rattle.ipld_tokens.specs.LinkBytes.{read_link}
 use Rattle.ipld_tokens.specs.Token.{none, boolean, integer, text, TokenModel, atom, bytes, link, seq, seq_end, map, map_end}
@@ -19,7 +19,6 @@ use Rattle.ipld_tokens.specs.OpenTree as building
 use Rattle.ipld_tokens.specs.OpenTree.{map_level, around, ended, state_from, at_key, in_a_list, key_at, Builds}
 use Rattle.ipld_tokens.specs.declared.open_tree.BuildError.{BuildError}
 use Rattle.ipld_tokens.specs.declared.open_tree.BuildError.TheVariants.{Memory, Misplaced, DuplicateKey}
-use Rattle.ipld_tokens.specs.declared.open_tree.OpenTree.{OpenTree}
 use Rattle.ipld_tokens.specs.declared.open_tree.Container.{Container}
 use Rattle.ipld_tokens.specs.declared.open_tree.Container.TheVariants as container
 use Rattle.dag_cbor_blocks.specs.Visit.{Takes}

@@ -1,7 +1,7 @@
 -- A map that is collected from pairs whose keys differ.
-use Rattle.std.proofs.Common.{◌≡◌, ◌≤◌, ℕ, Bool, cond, true, false, List, [], ◌∷◌, length, map, Option, Some, None, BTreeMap, String, string_bytes, string_cmp, Global, Ordering, Less, Equal, Greater, refl, sym, ap, ap₂, ◌∙◌, bytes_eq, is_some, arith}
+use Rattle.std.proofs.Common.{◌≡◌, Bool, cond, true, false, List, [], ◌∷◌, length, map, Option, Some, None, BTreeMap, String, string_bytes, string_cmp, Global, Ordering, Less, Equal, Greater, refl, sym, ap, ap₂, ◌∙◌, is_some}
 use Rattle.std.specs.Cmp.Lexicographic.{slice_cmp}
-use Rattle.std.specs.List.{AllByRecursion, IsDistinct, list_any}
+use Rattle.std.specs.List.{AllByRecursion, IsDistinct}
 use Rattle.std.specs.List.Sorted.{IsStrictlySortedBy}
 use Rattle.std.specs.Map.{keys_of, lookup}
 use Rattle.std.specs.Set.{distinct_count}
@@ -17,8 +17,7 @@ use Rattle.std.proofs.lemmas.Map.Keys.{IsDistinct-from_sorted, IsDistinct-tail}
 use Rattle.std.proofs.lemmas.Map.Text.{is_eq-slice_cmp}
 use Rattle.std.proofs.lemmas.Map.Views.{btree_map_len-from_list}
 use Rattle.std.proofs.lemmas.Slice.Eq.{bytes_eq-Decides}
-use Rattle.ipld_tree.specs.Put.{put}
-use Rattle.ipld_tree.specs.Tree.{Members, no_members, member}
+use Rattle.ipld_tree.specs.Tree.{member}
 use Rattle.ipld_tree.specs.TreeOf.{tree_of, members_of}
 use Rattle.ipld_tree.specs.declared.ipld.Ipld.{Ipld}
 use Rattle.ipld_tree.proofs.Entries.{Entry, members_of-insert_entry}

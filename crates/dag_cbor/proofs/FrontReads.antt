@@ -1,40 +1,35 @@
 -- Values read off the front of bytes, and the lists and maps that they fill.
-use Rattle.std.proofs.Common.{◌≡◌, ◌≤◌, ◌<◌, ℕ, ℤ, pos, negsuc, suc, max, ◌+◌, Bool, cond, true, false, List, [], ◌∷◌, ◌++◌, length, map, Some, None, option_map, Result, Ok, Err, IfOk, Bor, Vec, BTreeMap, String, string_bytes, Global, refl, sym, ap, ap₂, subst, ◌∙◌, append_assoc, arith, rules}
-use Rattle.std.specs.Prelude.{◌==◌}
-use Rattle.std.proofs.lemmas.Bool.{eqb-true}
-use Rattle.std.proofs.lemmas.List.{append-nil, length-append, map-append}
+use Rattle.std.proofs.Common.{◌≡◌, ◌≤◌, ℕ, ℤ, pos, negsuc, suc, max, Bool, cond, true, false, List, [], ◌∷◌, ◌++◌, length, map, Some, None, option_map, Result, Ok, Err, IfOk, Bor, Vec, BTreeMap, String, string_bytes, Global, refl, sym, ap, ap₂, subst, ◌∙◌, append_assoc, arith, rules}
+use Rattle.std.proofs.lemmas.List.{append-nil, map-append}
 use Rattle.ipld_cid.specs.declared.cid.CidGeneric.{CidGeneric}
 use Rattle.ipld_cid.specs.Bytes.{IsCid}
 use Rattle.ipld_cid.specs.LinkOf.{link_of}
-use Rattle.ipld_tree.specs.Limits.{Within}
 use Rattle.ipld_tree.specs.Put.{put}
 use Rattle.ipld_tree.specs.Tree.{Tree, Items, no_items, Members, no_members}
 use Rattle.ipld_tree.specs.Tree as tree
 use Rattle.ipld_tree.specs.TreeOf.{tree_of, as_items, items_of, members_of}
-use Rattle.ipld_tree.specs.Walk.{preorder, items_preorder, members_preorder, nest, items_nest, members_nest}
+use Rattle.ipld_tree.specs.Walk.{nest, items_nest, members_nest}
 use Rattle.ipld_tree.specs.declared.ipld.Ipld.{Ipld, Null, Bool as Ipld-Bool, Integer, String as Ipld-String, Bytes as Ipld-Bytes, List as Ipld-List, Map as Ipld-Map, Link as Ipld-Link, the_lemmas}
-use Rattle.ipld_tree.specs.declared.limits.Limits.{Limits}
 use Rattle.ipld_tree.proofs.Trees.{tree_of-Integer, tree_of-Link, tree_of-List, tree_of-Map, tree_of-Bytes}
-use Rattle.ipld_tokens.specs.Token as token
-use Rattle.ipld_tokens.specs.Token.{Atom, none, boolean, integer, text}
-use Rattle.ipld_tokens.specs.Item.{Item, atom_item, bytes_item, some_item, variant_item, list_item, map_item, link_item, Parts, no_parts, part, Pairs, no_pairs, pair}
-use Rattle.ipld_tokens.specs.ItemTree.{tree_of_atom, key_text, has_key, put_new, tree_of_item, item_before, items_of_parts, members_of_pairs}
-use Rattle.ipld_tokens.proofs.ItemLinks.{some_tree, some_items, some_members, list_has, map_has, part_has, pair_has}
+use Rattle.ipld_tokens.specs.Token.{none, boolean, integer, text}
+use Rattle.ipld_tokens.specs.Item.{Item, atom_item, bytes_item, list_item, map_item, link_item, Parts, no_parts, part, Pairs, no_pairs, pair}
+use Rattle.ipld_tokens.specs.ItemTree.{has_key, put_new, tree_of_item, item_before, items_of_parts, members_of_pairs}
+use Rattle.ipld_tokens.proofs.ItemLinks.{some_members}
 use Rattle.ipld_tokens.proofs.TreeReading.{onto, onto_all}
 use Rattle.dag_cbor_format.specs.declared.major.Major.TheVariants.{Unsigned, Negative, Bytes, Text, List as Array, Map, Tag, Simple}
 use Rattle.dag_cbor_format.specs.declared.major.Major.{Major}
 use Rattle.dag_cbor_format.specs.Head.{head, IsArgument}
 use Rattle.dag_cbor_format.specs.HeadReading.{head_at}
 use Rattle.dag_cbor_format.specs.ItemHeader.{front, if_text, key_at}
-use Rattle.dag_cbor_format.specs.Encoding.{part_count, pair_count, atom_encoding, encoding, parts_encoding, pairs_encoding, HasAtom, HasEncoding, HaveEncodings, PairsHaveEncodings, EncodesTree}
-use Rattle.dag_cbor_format.proofs.HeadLaws.{head_encoded, head_some}
+use Rattle.dag_cbor_format.specs.Encoding.{part_count, pair_count, encoding, parts_encoding, pairs_encoding, HasEncoding, HaveEncodings, PairsHaveEncodings, EncodesTree}
+use Rattle.dag_cbor_format.proofs.HeadLaws.{head_encoded}
 use Rattle.dag_cbor_format.proofs.ItemHeaders.{key_is}
 use Rattle.dag_cbor_format.proofs.Keys.{put_new_is}
 use Rattle.dag_cbor_format.specs.ItemHeads.{BeginsWithKey}
 use Rattle.dag_cbor_format.specs.LinkBytes.{link_bytes_at}
 use Rattle.dag_cbor_blocks.specs.declared.shallow.Stop.{Stop}
 use Rattle.dag_cbor.specs.Shallow.{Begins, Continues, Adds, Enters, entry_of, all_new, AddsEntry}
-use Rattle.dag_cbor_blocks.proofs.Counting.{size, put_added}
+use Rattle.dag_cbor_blocks.proofs.Counting.{put_added}
 use Rattle.dag_cbor_format.proofs.ItemHeads.{bytes_begin, text_begins, link_begins}
 
 -- ---- scalars and links

@@ -103,10 +103,6 @@ value_shrinks ps after rest o x cs start end e b =
     let shrinks = b.shrinks in
     omega arith
 
--- an integer of the next value is out of range
-pub value_out : (ps after rest : List Pending) (o : Option (List ℕ)) (x : Ipld) → ps ≡ (o, x) ∷ after → in_range (tree_of x) ≡ false → within (ps ++ rest) ≡ false
-value_out ps after rest o x e out = ap (λ qs. within (qs ++ rest)) e ∙ ap (λ b. b && within (after ++ rest)) out
-
 -- ---- one iteration
 
 -- a cursor that has ended was dropped

@@ -13,7 +13,7 @@ ghost use Rattle.dag_cbor_format.specs.Encoding.{EncodesTree};
 ghost use Rattle.dag_cbor_format.specs.Head.{head, IsArgument};
 ghost use Rattle.dag_cbor.specs.Shallow.{Begins, Continues, Adds, Enters, AddsEntry, all_new, entry_of};
 
-use dag_cbor_blocks::shallow::Stop;
+use dag_cbor_blocks::shallow::{SHALLOW, Stop};
 use dag_cbor_format::Major;
 use dag_cbor_format::head::read_head;
 use dag_cbor_format::item_header::{
@@ -111,6 +111,7 @@ fn read_content<'a>(
     owed: usize,
     left: usize,
 ) -> Result<&'a [u8], Stop>
+    requires { levels ≤ 32 }
     ensures { IfOk result (λ rest. Continues levels major argument bytes.entry.now (tree_of value.new) rest.now) }
 {
     match major {
@@ -168,6 +169,7 @@ fn read_list<'a>(
     levels: usize,
     owed: usize,
 ) -> Result<&'a [u8], Stop>
+    requires { levels ≤ 32 }
     ensures { IfOk result (λ rest. Continues levels Major.List count bytes.entry.now (tree_of value.new) rest.now) }
 {
     let Some(inner) = levels.checked_sub(1) else {
@@ -199,6 +201,7 @@ fn add_item<'a>(
     owed: usize,
     left: usize,
 ) -> Result<&'a [u8], Stop>
+    requires { levels ≤ 32 }
     ensures { IfOk result (λ rest. Adds levels items.old.items items.new.items bytes.entry.now rest.now) }
 {
     let (major, argument, rest) = read_head(bytes)?;
@@ -228,6 +231,7 @@ fn add_content<'a>(
     owed: usize,
     left: usize,
 ) -> Result<&'a [u8], Stop>
+    requires { levels ≤ 32 }
     ensures { IfOk result (λ rest. IsArgument major argument → Adds levels items.old.items items.new.items (head major argument ++ bytes.entry.now) rest.now) }
 {
     let mut value = Ipld::Null;
@@ -260,6 +264,7 @@ fn read_map<'a>(
     levels: usize,
     owed: usize,
 ) -> Result<&'a [u8], Stop>
+    requires { levels ≤ 32 }
     ensures { IfOk result (λ rest. Continues levels Major.Map count bytes.entry.now (tree_of value.new) rest.now) }
 {
     let Some(inner) = levels.checked_sub(1) else {
@@ -288,6 +293,7 @@ fn add_entry<'a>(
     owed: usize,
     left: usize,
 ) -> Result<&'a [u8], Stop>
+    requires { levels ≤ 32 }
     ensures { IfOk result (λ rest. Enters levels members.old.entries members.new.entries bytes.entry.now rest.now) }
 {
     let (key, behind) = read_key_text(bytes)?;
@@ -322,6 +328,7 @@ fn read_large_map<'a>(
     levels: usize,
     owed: usize,
 ) -> Result<&'a [u8], Stop>
+    requires { levels ≤ 32 }
     ensures { IfOk result (λ rest. Continues levels Major.Map count bytes.entry.now (tree_of value.new) rest.now) }
 {
     let Some(inner) = levels.checked_sub(1) else {
@@ -354,6 +361,7 @@ fn push_entry<'a>(
     owed: usize,
     left: usize,
 ) -> Result<&'a [u8], Stop>
+    requires { levels ≤ 32 }
     ensures { IfOk result (λ rest. AddsEntry levels entries.old.items entries.new.items bytes.entry.now rest.now) }
 {
     let (key, behind) = read_key_text(bytes)?;
@@ -387,8 +395,8 @@ fn map_of_distinct(
     Ok(members)
 }
 
-/// The tree that the bytes begin with, which nests no deeper than so many levels, and what follows it. It recurses as deep as the tree
-/// nests, so of untrusted bytes let the levels be few, as [`SHALLOW`](dag_cbor_blocks::shallow::SHALLOW) is.
+/// Returns the tree that the bytes begin with, and what follows it, if the tree nests no deeper than so many levels, and no deeper than
+/// [`SHALLOW`](dag_cbor_blocks::shallow::SHALLOW), down to which it recurses.
 ///
 /// # Errors
 ///
@@ -402,12 +410,14 @@ pub fn read_front<'a>(
 {
     let (major, argument, more) = read_head(bytes)?;
     let mut tree = Ipld::Null;
-    let rest = read_content(alloc, &mut tree, major, argument, more, levels, 0, 0)?;
+    let within = levels.min(SHALLOW);
+    let rest = read_content(alloc, &mut tree, major, argument, more, within, 0, 0)?;
     Ok((tree, rest))
 }
 
 // The tree that the bytes of a block encode, all of the bytes, where it nests no deeper than so many levels.
 pub(crate) fn read_shallow(alloc: Global, bytes: &[u8], levels: usize) -> Result<Ipld, Stop>
+    requires { levels ≤ 32 }
     ensures found { IfOk result (λ tree. EncodesTree (tree_of tree) bytes.now) }
     ensures nested { IfOk result (λ tree. nest (tree_of tree) ≤ levels) }
 {

@@ -1,18 +1,18 @@
 -- A visitor takes a part of a block, and the rest is ahead.
-use Rattle.std.proofs.Common.{◌≡◌, inl, inr, ℕ, suc, ◌+◌, ◌<◌, ◌≤◌, Bool, true, false, List, [], ◌∷◌, length, cond, Option, Some, None, Result, Ok, Err, refl, sym, ap, subst, ◌∙◌, arith}
+use Rattle.std.proofs.Common.{◌≡◌, inl, inr, ℕ, suc, ◌+◌, ◌<◌, ◌≤◌, Bool, true, false, List, [], ◌∷◌, length, Option, Some, None, Result, Ok, Err, refl, sym, ap, subst, ◌∙◌, arith}
 use Rattle.std.proofs.lemmas.Bool.{eqb-true}
 use Rattle.std.proofs.lemmas.List.{length-append}
-use Rattle.std.specs.Prelude.{◌==◌, ◌&&◌}
+use Rattle.std.specs.Prelude.{◌==◌}
 use Rattle.ipld_tokens.specs.Token.{Atom, TokenModel, atom, none, text, bytes, some, variant, link, seq, seq_end, map, map_end}
 use Rattle.dag_cbor_format.specs.declared.error.CborError.{CborError}
-use Rattle.dag_cbor_format.specs.declared.error.CborError.TheVariants.{End, Float, TrailingBytes}
+use Rattle.dag_cbor_format.specs.declared.error.CborError.TheVariants.{TrailingBytes}
 use Rattle.dag_cbor_format.specs.declared.major.Major.{Major}
 use Rattle.dag_cbor_format.specs.declared.major.Major.TheVariants.{Bytes, Text, Tag}
 use Rattle.dag_cbor_format.specs.Head.{head}
 use Rattle.dag_cbor_format.specs.HeadReading.{head_at}
 use Rattle.dag_cbor_format.specs.ItemHeader.{front, if_text, bytes_scalar, text_scalar, item_header_of, item_header_after, item_header_at, link_at}
 use Rattle.dag_cbor_format.specs.Errors.{head_error, item_error, item_header_error_of, item_header_error, link_error}
-use Rattle.dag_cbor_format.specs.Floats.{is_finite, has_float_head, if_finite, float_at, error_of_float, float_error}
+use Rattle.dag_cbor_format.specs.Floats.{is_finite, if_finite, error_of_float}
 use Rattle.dag_cbor_format.specs.Reading.{Frame, one, mark, Out, rejected, begun, item_step_in, after_link, end_step, step_in, Ran, of_block}
 use Rattle.dag_cbor_format.specs.Trace.{Event, tokens_in, Trace, halted, led, after_a_key, traced, trace_ahead, trace_of}
 use Rattle.dag_cbor_format.proofs.HeadLaws.{head_encoded, head_some}
@@ -57,17 +57,6 @@ item_headed fs content rest major n e = ap (λ o. begun fs (item_header_error_of
 pub item_unheaded : (fs : List Frame) (content : List ℕ) → head_at content ≡ None → begun fs (item_header_error content) (item_header_at content) ≡ rejected (head_error content)
 unfolding item_header_at item_header_error
 item_unheaded fs content e = ap (λ o. begun fs (item_header_error_of content o) (item_header_of o)) e
-
--- no float, or a float
-pub plain_ahead : (floats : Bool) (p : Position) → (floats && has_float_head p.rest.now) ≡ false
-    → item_ahead floats p ≡ traced (length p.rest.now) (trace_ahead floats) (begun (frames_of p) (item_header_error p.rest.now) (item_header_at p.rest.now))
-plain_ahead floats p e =
-    ap (λ c. traced (length p.rest.now) (trace_ahead floats) (begun (frames_of p) (cond c (float_error p.rest.now) (item_header_error p.rest.now)) (cond c (float_at p.rest.now) (item_header_at p.rest.now)))) e
-
-pub float_ahead : (floats : Bool) (p : Position) → (floats && has_float_head p.rest.now) ≡ true
-    → item_ahead floats p ≡ traced (length p.rest.now) (trace_ahead floats) (begun (frames_of p) (float_error p.rest.now) (float_at p.rest.now))
-float_ahead floats p e =
-    ap (λ c. traced (length p.rest.now) (trace_ahead floats) (begun (frames_of p) (cond c (float_error p.rest.now) (item_header_error p.rest.now)) (cond c (float_at p.rest.now) (item_header_at p.rest.now)))) e
 
 -- ---- a visitor takes events
 
@@ -174,13 +163,6 @@ module _ {V A : Type 0} (floats : Bool) (answer : V → List Event → A) where
       → steps_left after < limit → Advances floats answer old kinds true Scalar tr left limit new after
   bytes_taken old new kinds tr left limit after b key same taken is begun fewer =
       token_taken old new kinds true Scalar tr left limit after (bytes b) key same taken (λ values. ap (λ ks. counts ks false (values + 1)) (sym is)) (same_place kinds Scalar left after begun) (ap length is) tt fewer
-
-  -- a list or a map begins
-  pub beginning_taken : (old new : V) (kinds : List OpenKind) (kind : OpenKind) (tr : Trace) (left limit : ℕ) (after : Position) (t : TokenModel) (key : Bool) → tr ≡ led (t, length after.rest.now, key) (ahead_of floats after)
-      → ((more : List Event) → answer new more ≡ answer old ((t, length after.rest.now, key) ∷ more)) → ((values : ℕ) → next (counts kinds true values) t ≡ counts (kind ∷ kinds) false (values + 1)) → kinds_of after ≡ kind ∷ kinds
-      → after.begun ≡ left → steps_left after < limit → Advances floats answer old kinds true Beginning tr left limit new after
-  beginning_taken old new kinds kind tr left limit after t key same taken counted is begun fewer =
-      token_taken old new kinds true Beginning tr left limit after t key same taken (λ values. counted values ∙ ap (λ ks. counts ks false (values + 1)) (sym is)) (same_place kinds Beginning left after begun) (ap length is ∙ omega arith) tt fewer
 
   -- and ends
   pub end_taken : (old new : V) (kinds : List OpenKind) (kind : OpenKind) (tr : Trace) (left limit : ℕ) (after : Position) (t : TokenModel) (key : Bool) → tr ≡ led (t, length after.rest.now, key) (ahead_of floats after)
@@ -295,13 +277,6 @@ float_by floats p o e = ap (λ x. traced p.begun (trace_ahead floats) (begun (fr
 pub finite_ahead : (floats : Bool) (p : Position) (content rest : List ℕ) → front 8 p.rest.now ≡ Some (content, rest) → is_finite content ≡ true
     → float_headed floats p ≡ led (atom none, length rest, after_a_key (frames_of p)) (trace_ahead floats (frames_of p) rest)
 finite_ahead floats p content rest e finite = float_by floats p (Some (content, rest)) e ∙ rw finite
-
-pub infinite_ahead : (floats : Bool) (p : Position) (content rest : List ℕ) → front 8 p.rest.now ≡ Some (content, rest) → is_finite content ≡ false
-    → float_headed floats p ≡ halted (Some Float) p.begun
-infinite_ahead floats p content rest e infinite = float_by floats p (Some (content, rest)) e ∙ rw infinite
-
-pub cut_ahead : (floats : Bool) (p : Position) → front 8 p.rest.now ≡ None → float_headed floats p ≡ halted (Some End) p.begun
-cut_ahead floats p e = float_by floats p None e
 
 module _ (laws : CidLaws) where
   -- a step of the machine

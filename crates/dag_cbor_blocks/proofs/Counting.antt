@@ -311,11 +311,6 @@ pub none_now : (limits : Limits) (c : Counts) (ts : List TokenModel) → excess 
 none_now limits c [] e = e
 none_now limits c (t ∷ ts) e = none_first _ _ e
 
--- the first limit is passed at once
-pub passed_now : (limits : Limits) (c : Counts) (ts : List TokenModel) (x : Excess) → beyond limits (length c.kinds) c.values ≡ Some x → excess limits c ts ≡ Some x
-passed_now limits c [] x e = e
-passed_now limits c (t ∷ ts) x e = rw e refl
-
 -- or it isn't
 pub passed_later : (limits : Limits) (c : Counts) (t : TokenModel) (ts : List TokenModel) → beyond limits (length c.kinds) c.values ≡ None → excess limits c (t ∷ ts) ≡ excess limits (next c t) ts
 passed_later limits c t ts e = rw e refl

@@ -154,14 +154,6 @@ wrote_with true false w t es short same e = absurd (cc e)
 wrote_with false true w t es short same e = absurd (cc e)
 wrote_with false false w t es short same e = short
 
--- a block has one tape, where each entry is short
-pub tape_once : (block : List ℕ) (a b : List TapeEntry) → IsTapeOf a block → IsTapeOf b block → all_short a ≡ true → a ≡ b
-tape_once block a b is_a is_b short =
-    let start = empty_tape (length block) in
-    (wrote_with true (all_short b) (with_values start a 1 0) (with_values start b 1 0) b refl refl (
-    ap (λ c. if c then reading (with_values start a 1 0) else stopped) (sym short) ∙ sym (tape_read cid_laws block a is_a) ∙ tape_read cid_laws block b is_b
-    )).0
-
 module _ (block : List ℕ) (old new : TapeWriter) (starts : reading_of old ≡ reading (empty_tape (length block))) (taken : tape_with new [] ≡ tape_with old (trace_of true block).events) where
   wrote : (es : List TapeEntry) → IsTapeOf es block → Wrote new.fits new.entries.items es
   wrote es is =

@@ -64,9 +64,6 @@ step_in_shorter laws floats (pairs (suc n) seen ∷ fs) bs = weaker (suc (2 * le
 step_in_shorter laws floats (value n seen ∷ fs) bs = item_shorter floats (pairs n seen ∷ fs) bs (beginning_error floats bs) (beginning_at floats bs) refl
 step_in_shorter laws floats (mark ∷ fs) bs = weaker (suc (2 * length bs + length fs)) _ _ (omega arith) (link_shorter laws fs bs (link_error bs) (link_at bs) refl)
 
-pub step_shorter : CidLaws → (fs : List Frame) (bs : List ℕ) → Shorter (weight fs bs) (step fs bs)
-step_shorter laws fs bs = step_in_shorter laws false fs bs
-
 -- ---- with floats or without
 
 module _ (floats : Bool) where

@@ -42,13 +42,6 @@ pub value_rejected : {C : Type 0} (reads : Tree → Option C) (why : Tree → Se
     → RejectsAs (reads t) (why t) e → NotRead reads why limits block (error_of_read e)
 value_rejected reads why limits block t e encodes within rejected = value_by_kind reads why limits block t e ((block_decodes_encoded t block).1 encodes) within (value_kept e) rejected
 
-no_read_of : (e : SerdeError) → ValueKept e → error_of_read e ≢ Read
-no_read_of e (inl memory) = subst (λ x. error_of_read x ≢ Read) (sym memory) (λ q. cc)
-no_read_of e (inr kept) = subst (λ x. x ≢ Read) (sym kept.1) (λ q. cc)
-
-pub value_no_reader : (e : SerdeError) → error_of_read e ≢ Read
-value_no_reader e = no_read_of e (value_kept e)
-
 -- ---- the block is rejected
 
 -- the reader's error is none of bytes
@@ -96,8 +89,3 @@ pub given_err : {T : Type 0} (r : Result T DecodeError) (o : Option (List ℕ)) 
     → IfErr r (λ e. (e ≡ Read) ⊎ IfSome o (P e))
 given_err (Ok v) o block P known p = tt
 given_err (Err e) o block P known p = inr (if_given o block (P e) known p)
-
-pub read_failed : {C : Type 0} (reads : Tree → Option C) (why : Tree → SerdeError → Type 0) (limits : Limits) (o : Option (List ℕ)) (e : DecodeError) → (e ≡ Memory) ⊎ (e ≡ Read) → (e ≡ Read) ⊎ IfSome o (λ b. NotRead reads why limits b e)
-read_failed reads why limits o e (inr read) = inl read
-read_failed reads why limits None e (inl memory) = inr tt
-read_failed reads why limits (Some b) e (inl memory) = inr (subst (NotRead reads why limits b) (sym memory) tt)

@@ -1,5 +1,5 @@
 -- The loops over the values of a list and the pairs of a map.
-use Rattle.std.proofs.Common.{◌≡◌, ℕ, zero, suc, ◌-◌, ◌<◌, Bool, true, false, List, length, Option, Some, Result, Ok, Err, sym, ap, ◌∙◌, arith}
+use Rattle.std.proofs.Common.{◌≡◌, ℕ, zero, suc, ◌-◌, ◌<◌, Bool, true, false, List, length, Option, Some, Result, Ok, sym, ap, ◌∙◌, arith}
 use Rattle.std.specs.Prelude.{if◌then◌else◌}
 use Rattle.dag_cbor_format.specs.KeysAscend.{follows}
 use Rattle.dag_cbor_format.specs.Reading.{and_key}
@@ -27,14 +27,6 @@ pairs_step over (suc n) seen es after rest key d whole some here new there so_fa
     ∙ sym (ap (λ (r : Result (List ℕ × List TapeEntry) Fault). r >>= λ k. is_new seen k.0 (length es) >>= λ done. after_value k.1 >>= λ rest. pairs over n (and_key k.0 seen) rest) here)
     ∙ so_far
 
--- a repeated key
-pub pairs_repeat : (over : List ℕ) (n : ℕ) (seen : List (List ℕ)) (es after : List TapeEntry) (key : List ℕ) (f : Fault) → 0 < n
-    → after_key over es ≡ Ok (key, after) → is_new seen key (length es) ≡ Err f → pairs over n seen es ≡ Err f
-pairs_repeat over zero seen es after key f some here repeated = absurd (omega arith)
-pairs_repeat over (suc n) seen es after key f some here repeated =
-    ap (λ (r : Result (List ℕ × List TapeEntry) Fault). r >>= λ k. is_new seen k.0 (length es) >>= λ done. after_value k.1 >>= λ rest. pairs over n (and_key k.0 seen) rest) here
-    ∙ ap (λ (r : Result (Unit {0}) Fault). r >>= λ done. after_value after >>= λ rest. pairs over n (and_key key seen) rest) repeated
-
 -- a pair more that ascends
 pub ascending_step : (over : List ℕ) (n : ℕ) (last : Option (List ℕ)) (es after rest : List TapeEntry) (key : List ℕ) (whole : Result Bool Fault) → 0 < n
     → after_key over es ≡ Ok (key, after) → follows last key ≡ true → after_value after ≡ Ok rest → ascending over n last es ≡ whole → ascending over (n - 1) (Some key) rest ≡ whole
@@ -46,11 +38,3 @@ ascending_step over (suc n) last es after rest key whole some here next there so
     ∙ sym (ap (λ (b : Bool). if b then (after_value after >>= λ rest. ascending over n (Some key) rest) else Ok false) next)
     ∙ sym (ap (λ (r : Result (List ℕ × List TapeEntry) Fault). r >>= λ k. if follows last k.0 then (after_value k.1 >>= λ rest. ascending over n (Some k.0) rest) else Ok false) here)
     ∙ so_far
-
--- and one that doesn't
-pub ascending_ends : (over : List ℕ) (n : ℕ) (last : Option (List ℕ)) (es after : List TapeEntry) (key : List ℕ) → 0 < n
-    → after_key over es ≡ Ok (key, after) → follows last key ≡ false → ascending over n last es ≡ Ok false
-ascending_ends over zero last es after key some here next = absurd (omega arith)
-ascending_ends over (suc n) last es after key some here next =
-    ap (λ (r : Result (List ℕ × List TapeEntry) Fault). r >>= λ k. if follows last k.0 then (after_value k.1 >>= λ rest. ascending over n (Some k.0) rest) else Ok false) here
-    ∙ ap (λ (b : Bool). if b then (after_value after >>= λ rest. ascending over n (Some key) rest) else Ok false) next

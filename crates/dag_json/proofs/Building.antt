@@ -39,41 +39,6 @@ step_null floats limits (going ls d n) = refl
 step_null floats limits (done v) = refl
 step_null floats limits (failed e) = refl
 
-pub step_boolean : (floats : Bool) (limits : Limits) (s : State) (b : Bool) → step floats limits s (json.boolean b) ≡ added limits s (Ok (tree.boolean b))
-step_boolean floats limits (going ls d n) b = refl
-step_boolean floats limits (done v) b = refl
-step_boolean floats limits (failed e) b = refl
-
-pub step_string : (floats : Bool) (limits : Limits) (s : State) (t : List ℕ) → step floats limits s (json.string t) ≡ added limits s (Ok (tree.text t))
-step_string floats limits (going ls d n) t = refl
-step_string floats limits (done v) t = refl
-step_string floats limits (failed e) t = refl
-
-pub step_begin_array : (floats : Bool) (limits : Limits) (s : State) → step floats limits s json.begin_array ≡ begun limits s (in_list no_items)
-step_begin_array floats limits (going ls d n) = refl
-step_begin_array floats limits (done v) = refl
-step_begin_array floats limits (failed e) = refl
-
-pub step_begin_object : (floats : Bool) (limits : Limits) (s : State) → step floats limits s json.begin_object ≡ begun limits s (in_key no_members)
-step_begin_object floats limits (going ls d n) = refl
-step_begin_object floats limits (done v) = refl
-step_begin_object floats limits (failed e) = refl
-
-pub step_end_array : (floats : Bool) (limits : Limits) (s : State) → step floats limits s json.end_array ≡ list_ended s
-step_end_array floats limits (going ls d n) = refl
-step_end_array floats limits (done v) = refl
-step_end_array floats limits (failed e) = refl
-
-pub step_end_object : (floats : Bool) (limits : Limits) (s : State) → step floats limits s json.end_object ≡ object_ended s
-step_end_object floats limits (going ls d n) = refl
-step_end_object floats limits (done v) = refl
-step_end_object floats limits (failed e) = refl
-
-pub step_key : (floats : Bool) (limits : Limits) (s : State) (k : List ℕ) → step floats limits s (json.key k) ≡ key_at s k
-step_key floats limits (going ls d n) k = refl
-step_key floats limits (done v) k = refl
-step_key floats limits (failed e) k = refl
-
 tree_of-Null : tree_of Null ≡ tree.null
 tree_of-Null = search (rules, the_lemmas)
 
@@ -82,10 +47,6 @@ tree_of-Bool b = search (rules, the_lemmas)
 
 pub takes_null : (floats : Bool) (limits : Limits) (s new : State) (r : Result (Unit {0}) ReadErrorKind) → Reaches (added limits s (Ok (tree_of Null))) r new → Reaches (step floats limits s json.null) r new
 takes_null floats limits s new r h = reaches _ _ new r (step_null floats limits s ∙ ap (λ t. added limits s (Ok t)) (sym tree_of-Null)) h
-
-pub takes_boolean : (floats : Bool) (limits : Limits) (s new : State) (b : Bool) (r : Result (Unit {0}) ReadErrorKind) → Reaches (added limits s (Ok (tree_of (Ipld-Bool b)))) r new
-    → Reaches (step floats limits s (json.boolean b)) r new
-takes_boolean floats limits s new b r h = reaches _ _ new r (step_boolean floats limits s b ∙ ap (λ t. added limits s (Ok t)) (sym (tree_of-Bool b))) h
 
 -- ---- whether it is unfinished
 
@@ -224,12 +185,6 @@ begins_not limits b e = λ l. begins_not_from limits b.depth b.values l b.tree.i
 few_added : (limits : Limits) (t : Tree) (ls : List Level) (d n : ℕ) → takes_value ls ≡ true → nat_lt n limits.values ≡ true → value_step limits (Ok t) ls d n ≡ completed t d (n + 1) ls
 few_added limits t ls d n e few = rw (e, few) refl
 
-many_added : (limits : Limits) (t : Tree) (ls : List Level) (d n : ℕ) → takes_value ls ≡ true → nat_lt n limits.values ≡ false → value_step limits (Ok t) ls d n ≡ failed TooMany
-many_added limits t ls d n e many = rw (e, many) refl
-
-wrong_added : (limits : Limits) (f : ReadErrorKind) (ls : List Level) (d n : ℕ) → takes_value ls ≡ true → value_step limits (Err f) ls d n ≡ failed f
-wrong_added limits f ls d n e = rw e refl
-
 module _ (limits : Limits) (old : TreeBuilder) (takes : not (is_at_key (levels_of old)) ≡ true) where
   pub adds : (mid : TreeBuilder) (t : Tree) (new : State) (r : Result (Unit {0}) ReadErrorKind) → Counted limits old mid → Reaches (completed t mid.depth mid.values (levels_of mid)) r new
       → Reaches (added limits (state_of old) (Ok t)) r new
@@ -239,17 +194,8 @@ module _ (limits : Limits) (old : TreeBuilder) (takes : not (is_at_key (levels_o
       ∙ ap (λ d. completed t d (old.values + 1) (levels_of old)) (sym counts.depth) ∙ ap (λ n. completed t mid.depth n (levels_of old)) (sym counts.values)
       ∙ ap (λ b. completed t mid.depth mid.values (building.levels_of b)) (sym counts.tree)) h
 
-  pub adds_many : (t : Tree) → nat_lt old.values limits.values ≡ false → added limits (state_of old) (Ok t) ≡ failed TooMany
-  adds_many t many = ap (λ s. added limits s (Ok t)) (goes old takes) ∙ many_added limits t (levels_of old) old.depth old.values (takes_there (levels_of old) takes) many
-
-  pub adds_wrong : (f : ReadErrorKind) → added limits (state_of old) (Err f) ≡ failed f
-  adds_wrong f = ap (λ s. added limits s (Err f)) (goes old takes) ∙ wrong_added limits f (levels_of old) old.depth old.values (takes_there (levels_of old) takes)
-
   begins_at : (l : Level) (ls : List Level) (d n : ℕ) → takes_value ls ≡ true → nat_lt d limits.levels ≡ true → nat_lt n limits.values ≡ true → begin_step limits l ls d n ≡ going (l ∷ ls) (d + 1) (n + 1)
   begins_at l ls d n e flat few = rw (e, flat, few) refl
-
-  many_at : (l : Level) (ls : List Level) (d n : ℕ) → takes_value ls ≡ true → nat_lt d limits.levels ≡ true → nat_lt n limits.values ≡ false → begin_step limits l ls d n ≡ failed TooMany
-  many_at l ls d n e flat many = rw (e, flat, many) refl
 
   deep_at : (l : Level) (ls : List Level) (d n : ℕ) → takes_value ls ≡ true → nat_lt d limits.levels ≡ false → begin_step limits l ls d n ≡ failed TooDeep
   deep_at l ls d n e deep = rw (e, deep) refl
@@ -258,9 +204,6 @@ module _ (limits : Limits) (old : TreeBuilder) (takes : not (is_at_key (levels_o
   begins mid counts flat = λ l.
       ap (λ s. begun limits s l) (goes old takes) ∙ begins_at l (levels_of old) old.depth old.values (takes_there (levels_of old) takes) flat counts.within
       ∙ ap (λ d. going (l ∷ levels_of old) (d + 1) (old.values + 1)) (sym counts.depth) ∙ ap (λ n. going (l ∷ levels_of old) (mid.depth + 1) n) (sym counts.values)
-
-  pub begins_many : nat_lt old.depth limits.levels ≡ true → nat_lt old.values limits.values ≡ false → (l : Level) → begun limits (state_of old) l ≡ failed TooMany
-  begins_many flat many = λ l. ap (λ s. begun limits s l) (goes old takes) ∙ many_at l (levels_of old) old.depth old.values (takes_there (levels_of old) takes) flat many
 
   pub begins_deep : nat_lt old.depth limits.levels ≡ false → (l : Level) → begun limits (state_of old) l ≡ failed TooDeep
   begins_deep deep = λ l. ap (λ s. begun limits s l) (goes old takes) ∙ deep_at l (levels_of old) old.depth old.values (takes_there (levels_of old) takes) deep

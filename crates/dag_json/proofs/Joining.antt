@@ -20,9 +20,6 @@ use Rattle.dag_json.specs.Cursors.{Wrote, tokens_of, trees_of, all_of, all_token
 
 -- ---- writing
 
-pub wrote_none : (w : Written) → Wrote w w []
-wrote_none w = record { before = refl; tokens = sym (append-nil w.tokens) }
-
 pub wrote_both : (a b c : Written) (f g : List Token) → Wrote a b f → Wrote b c g → Wrote a c (f ++ g)
 wrote_both a b c f g first then = record {
   before = then.before ∙ first.before;
@@ -148,9 +145,6 @@ why stop b c h (inl memory) = inl memory
 why stop b c h (inr found) = inr (found.0, h found.1)
 
 -- ---- a whole tree
-
-pub goes_nowhere : (c : JsonCursor) (cs : List JsonCursor) (w : Written) → Goes (tokens_left c cs) (trees_left c cs) w (tokens_left c cs) (trees_left c cs) w
-goes_nowhere c cs w = record { front = []; wrote = wrote_none w; same = refl; reserved = refl }
 
 -- the loop went on
 pub went_on : (b : Bool) (ts : List Token) (us : List Tree) (old middle new : Written) (c d : JsonCursor) (cs ds : List JsonCursor) → Goes ts us old (tokens_left c cs) (trees_left c cs) middle → b ≡ true

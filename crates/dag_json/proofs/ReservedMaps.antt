@@ -11,13 +11,6 @@ pub record Passed (all left : List Tree) (place : ℕ) : Type 0 where
   pub first : first_reserved all ≡ option_map (λ n. count + n) (first_reserved left)
   pub place_is : place ≡ min count (2 ^ 64 - 1)
 
-plus_none : (o : Option ℕ) → o ≡ option_map (λ n. 0 + n) o
-plus_none None = refl
-plus_none (Some n) = ap Some (omega arith)
-
-pub passed_none : (all : List Tree) → Passed all all 0
-passed_none all = record { count = 0; first = plus_none (first_reserved all); place_is = omega arith }
-
 plus_one : (k : ℕ) (o : Option ℕ) → option_map (λ n. k + n) (option_map suc o) ≡ option_map (λ n. suc k + n) o
 plus_one k None = refl
 plus_one k (Some n) = ap Some (omega arith)
@@ -32,13 +25,6 @@ passed_one all left more t place next p e none step =
           ∙ ap (λ b. option_map (λ n. p.count + n) (if b then Some 0 else option_map suc (first_reserved more))) none ∙ plus_one p.count (first_reserved more);
       place_is = omega arith;
     }
-
-pub found_here : (all left more : List Tree) (t : Tree) (place : ℕ) → Passed all left place → left ≡ t ∷ more → is_reserved t ≡ true → Counts (first_reserved all) (Some place)
-found_here all left more t place p e here =
-    let same : first_reserved all ≡ Some (p.count + 0) =
-    p.first ∙ ap (λ ts. option_map (λ n. p.count + n) (first_reserved ts)) e
-    ∙ ap (λ b. option_map (λ n. p.count + n) (if b then Some 0 else option_map suc (first_reserved more))) here in
-    subst (λ o. Counts o (Some place)) (sym same) (ap Some (p.place_is ∙ omega arith))
 
 pub none_found : (all left : List Tree) (place : ℕ) → Passed all left place → left ≡ [] → Counts (first_reserved all) None
 none_found all left place p e =

@@ -324,14 +324,6 @@ field_error strict parts names all rest ms i k t e f distinct same taken at why 
     (same e (subst (λ r. FieldsError strict parts names r e) (sym taken)
     (inr (known strict names i k at, inl (accepted.rejects-named parts names i k t e distinct at why)))))
 
--- a key may not stand there
-pub unknown_error : (strict : Bool) (parts : List {1} reading.Part) (names : List (List ℕ)) (all rest ms : Members) (k : List ℕ) (t : Tree) (e f : SerdeError)
-    → SameFieldsError strict parts names all rest → rest ≡ member k t ms → strict ≡ true → among k names ≡ false → IsCustom (codes "unknown field") e → f ≡ e
-    → FieldsError strict parts names all f
-unknown_error true parts names all rest ms k t e f same taken is none why equal =
-    subst (FieldsError true parts names all) (sym equal) (same e (subst (λ r. FieldsError true parts names r e) (sym taken) (inl (none, why))))
-unknown_error false parts names all rest ms k t e f same taken is none why equal = absurd cc
-
 -- each key may stand, and each field reads what its name holds
 pub fields_error_end : (strict : Bool) (parts : List {1} reading.Part) (names : List (List ℕ)) (all rest : Members) → SameFieldsError strict parts names all rest → rest ≡ no_members
     → RejectsEntries strict parts names all None

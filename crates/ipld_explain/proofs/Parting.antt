@@ -25,10 +25,6 @@ pub end_read : (ts : Items) → Ok tt ≡ ended (count_items ts) → IsSome (rea
 end_read no_items is = refl
 end_read (item t ts) is = absurd cc
 
-pub end_error : (ts : Items) (e f : SerdeError) → Err e ≡ ended (count_items ts) → f ≡ e → LeftoverError ts f
-end_error no_items e f is same = absurd cc
-end_error (item t ts) e f is same = same ∙ cc
-
 module _ (expected found n : ℕ) (f : Failure) (start : f.path ≡ []) (kind : f.found ≡ OfList) (expects : f.expected ≡ AList) (wrong : f.wrong ≡ other_length expected found) where
   -- the list goes on
   pub end_left : (ts : Items) (e : SerdeError) → Err e ≡ ended (count_items ts) → f.error ≡ e → ExplainsParts read_end [] expected found n ts (Some f)
@@ -36,12 +32,6 @@ module _ (expected found n : ℕ) (f : Failure) (start : f.path ≡ []) (kind : 
   end_left (item t ts) e is same =
       let error : e ≡ Leftover (count_items (item t ts)) = cc in
       (refl, inl (start, kind), (start, expects, same ∙ error, wrong))
-
-  -- the list has ended
-  pub too_few : {C D : Type 0} (reads : Tree → Option C) (others : Items → Option D) (p : Part) (parts : List {1} Part) (ts : Items) → ts ≡ no_items → f.error ≡ WrongLength
-      → ExplainsParts (read_part reads others) (p ∷ parts) expected found n ts (Some f)
-  too_few reads others p parts ts is error =
-      subst (λ us. ExplainsParts (read_part reads others) (p ∷ parts) expected found n us (Some f)) (sym is) (refl, inl (start, kind), (start, expects, error, wrong))
 
 -- ---- the next part
 
@@ -87,9 +77,6 @@ module _ {C : Type 0} (reads : Tree → Option C) (error : Tree → SerdeError �
   pub few_error : all ≡ no_items → (e : SerdeError) → e ≡ WrongLength → PartError reads error others all e
   few_error is e same = subst (λ us. PartError reads error others us e) (sym is) same
 
-  pub part_error : (t : Tree) (e f : SerdeError) → all ≡ item t ts → reads t ≡ None → error t e → f ≡ e → PartError reads error others all f
-  part_error t e f is none why same = subst (λ us. PartError reads error others us f) (sym is) (inl (none, subst (error t) (sym same) why))
-
   pub later_error : (t : Tree) → all ≡ item t ts → IsSome (reads t) → (r : Result (Option Explanation) AllocError) → IfOk r (λ o. IfSome o (λ x. others ts x.error))
       → IfOk r (λ o. IfSome o (λ x. PartError reads error others all x.error))
   later_error t is read (Err e) why = why
@@ -109,11 +96,3 @@ module _ {C : Type 0} (reads : Items → Option C) (parts : List {1} Part) (t : 
   whole : (o : Option Failure) → ExplainsParts reads parts (length parts) (count_items ts) 0 ts o → Explains (tuple_reading reads) (TupleFails parts) (list ts) o
   whole None why = why
   whole (Some f) why = (why.0, at_index f why.1, inr (ts, refl, why.2))
-
-  pub tuple_explained : (expected found : ℕ) → expected ≡ length parts → found ≡ count_items ts → (r : Result (Option Explanation) AllocError)
-      → IfOk r (λ o. ExplainsParts reads parts expected found 0 ts (option_map failure_of o)) → IfOk r (λ o. Explains (tuple_reading reads) (TupleFails parts) t (option_map failure_of o))
-  tuple_explained expected found long many (Err e) why = why
-  tuple_explained expected found long many (Ok o) why =
-      subst (λ u. Explains (tuple_reading reads) (TupleFails parts) u (option_map failure_of o)) (sym there)
-      (whole (option_map failure_of o) (subst (λ m. ExplainsParts reads parts (length parts) m 0 ts (option_map failure_of o)) many
-      (subst (λ m. ExplainsParts reads parts m found 0 ts (option_map failure_of o)) long why)))

@@ -6,10 +6,6 @@ use Rattle.ipld_explain.specs.Path.{Step, at_path}
 use Rattle.ipld_explain.specs.Failures.{step_of}
 use Rattle.ipld_explain.specs.declared.explanation.Segment.{Segment}
 
--- a segment that is kept last comes first on the path
-pub kept_last : (segments : List Segment) (s : Segment) → map step_of (reverse (segments ++ s ∷ [])) ≡ step_of s ∷ map step_of (reverse segments)
-kept_last segments s = ap (map step_of) (reverse-append segments (s ∷ []))
-
 pub none_of : {C : Type 0} (o : Option C) → is_some o ≡ false → o ≡ None
 none_of None is = refl
 none_of (Some c) is = absurd cc

@@ -71,24 +71,3 @@ module _ {C : Type 0} (reads : List ℕ → Option Tree → Option C) (fails : L
     subst (λ u. Leads u f) (sym (whole_is t v is)) why.1,
     subst (λ r. VariantFails fails r f) (sym is) why.2,
   )
-
-  pub variant_explained : (r : Result (Option Explanation) AllocError) → IfOk r (λ o. ExplainsVariant reads fails v.0 v.1 (option_map failure_of o))
-      → IfOk r (λ o. Explains (enum_reading reads) (EnumFails fails) t (option_map failure_of o))
-  variant_explained (Err e) why = why
-  variant_explained (Ok o) why = variant_one (option_map failure_of o) why
-
-  pub variant_error : (error : List ℕ → Option Tree → SerdeError → Type 0) (r : Result (Option Explanation) AllocError) → IfOk r (λ o. IfSome o (λ x. error v.0 v.1 x.error))
-      → IfOk r (λ o. IfSome o (λ x. EnumReadError error t x.error))
-  variant_error error (Err e) why = why
-  variant_error error (Ok None) why = why
-  variant_error error (Ok (Some x)) why = subst (λ r. VariantError error r x.error) (sym is) why
-
--- a tree that is no variant
-pub no_variant : {C : Type 0} (reads : List ℕ → Option Tree → Option C) (fails : List ℕ → Option Tree → Failure → Type 0) (t : Tree) (e : SerdeError) (f : Failure)
-    → variant_in t ≡ Err e → f.error ≡ e → f.path ≡ [] → kind_of t ≡ f.found → f.expected ≡ Rattle.ipld_explain.specs.declared.explanation.Expected.TheVariants.Variant → f.wrong ≡ value
-    → Explains (enum_reading reads) (EnumFails fails) t (Some f)
-no_variant reads fails t e f is error path kind expects wrong = (
-  ap (λ r. option_and_then (λ w. reads w.0 w.1) (result_ok r)) is,
-  subst (λ p. IsSomeAnd (at_path p t) (λ v. kind_of v ≡ f.found)) (sym path) kind,
-  subst (λ r. VariantFails fails r f) (sym is) (path, expects, error, wrong),
-)

@@ -64,9 +64,6 @@ pub record Gathers (digits out : List ℕ) (i seen : ℕ) : Type 0 where
   pub bytes : seen < 16 → decode_pairs 0 digits ≡ prepend (take i out) (decode_pairs (2 * i) (drop (2 * i) digits))
   pub other : 16 ≤ seen → (error : FromHexError) × (decode_pairs 0 digits ≡ Err error)
 
-pub gathers_start : (digits out : List ℕ) → Gathers digits out 0 0
-gathers_start digits out = record { bytes = λ _. decode_start digits out; other = λ large. absurd (omega arith) }
-
 -- a pair more
 pub gathers_more : (digits out : List ℕ) (i seen : ℕ) → Gathers digits out i seen → 2 * i + 1 < length digits → i < length out
     → get_or digits (2 * i) 0 < 256 → get_or digits (2 * i + 1) 0 < 256

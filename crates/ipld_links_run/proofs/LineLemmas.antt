@@ -168,12 +168,6 @@ last_taken (Some input) b c line more found so_far taken is =
 
 -- ---- what is read to its end
 
--- two buffers, one after the other
-pub still_known : (a b c : Option (List ℕ)) → IfSome a (λ _. IsSome b) → IfSome b (λ _. IsSome c) → IfSome a (λ _. IsSome c)
-still_known None b c p q = tt
-still_known (Some x) None c p q = absurd (false≢true p)
-still_known (Some x) (Some y) c p q = q
-
 pub read_out : (a b c : Option (List ℕ)) → IfSome a (λ _. IsSome b) → IsReadOut b c → IsReadOut a c
 read_out None b c p q = tt
 read_out (Some x) None c p q = absurd (false≢true p)

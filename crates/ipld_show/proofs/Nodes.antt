@@ -67,46 +67,6 @@ links_more ls l held mid new a b = record {
 
 -- ---- entries
 
--- one that isn't
-entry_none : (key : List ℕ) (block : List ℕ) → Adds (written_entry key None) block block
-entry_none key block = record { bytes = []; is = refl; appended = sym (append-nil block) }
-
--- an entry that is there
-entry_some : (key : List ℕ) (t : Tree) (held mid new : List ℕ) → Adds (written_text key) held mid → Adds (canonical t) mid new → Adds (written_entry key (Some t)) held new
-entry_some key t held mid new a b = record {
-  bytes = a.bytes ++ b.bytes;
-  is = joined_are (written_text key) (canonical t) a.bytes b.bytes a.is b.is;
-  appended = b.appended ∙ ap (λ (s : List ℕ). s ++ b.bytes) a.appended ∙ append_assoc held a.bytes b.bytes;
-}
-
-pub text_entry : (key : List ℕ) (o : Option (List ℕ)) (s held mid new : List ℕ) → o ≡ Some s → Adds (canonical (text key)) held mid → Adds (canonical (text s)) mid new
-    → Adds (written_entry key (option_map text o)) held new
-text_entry key o s held mid new e a b = rw e (entry_some key (text s) held mid new a b)
-
-pub bytes_entry : (key : List ℕ) (o : Option (List ℕ)) (s held mid new : List ℕ) → o ≡ Some s → Adds (canonical (text key)) held mid → Adds (canonical (bytes s)) mid new
-    → Adds (written_entry key (option_map bytes o)) held new
-bytes_entry key o s held mid new e a b = rw e (entry_some key (bytes s) held mid new a b)
-
-number_adds : (n : ℕ) (mid new : List ℕ) → n < 2 ^ 64 → new ≡ mid ++ head Unsigned n → Adds (canonical (integer (pos n))) mid new
-number_adds n mid new few e = record {
-  bytes = head Unsigned n;
-  is = ap (λ (b : Bool). cond b (Some (head Unsigned n)) None) (lt-ltb n (2 ^ 64) few);
-  appended = e;
-}
-
-pub number_entry : (key : List ℕ) (o : Option ℕ) (n : ℕ) (held mid new : List ℕ) → o ≡ Some n → n < 2 ^ 64 → Adds (canonical (text key)) held mid
-    → new ≡ mid ++ head Unsigned n → Adds (written_entry key (option_map (λ x. integer (pos x)) o)) held new
-number_entry key o n held mid new e few a b = rw e (entry_some key (integer (pos n)) held mid new a (number_adds n mid new few b))
-
-pub no_text_entry : (key : List ℕ) (o : Option (List ℕ)) (block : List ℕ) → o ≡ None → Adds (written_entry key (option_map text o)) block block
-no_text_entry key o block e = rw e (entry_none key block)
-
-pub no_bytes_entry : (key : List ℕ) (o : Option (List ℕ)) (block : List ℕ) → o ≡ None → Adds (written_entry key (option_map bytes o)) block block
-no_bytes_entry key o block e = rw e (entry_none key block)
-
-pub no_number_entry : (key : List ℕ) (o : Option ℕ) (block : List ℕ) → o ≡ None → Adds (written_entry key (option_map (λ x. integer (pos x)) o)) block block
-no_number_entry key o block e = rw e (entry_none key block)
-
 -- ---- parts of what was joined
 
 some_same : (a b : List ℕ) → ◌≡◌ {A = Option (List ℕ)} (Some a) (Some b) → b ≡ a

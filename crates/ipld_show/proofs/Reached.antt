@@ -55,9 +55,6 @@ container_ends d place mid post x h c e =
       listed = take_rest place.containers.now x.count ∙ ap (drop x.count) l.2 ∙ drop_at (l.0 ∷ l.1) post x.count (sym count);
     }
 
-pub some_listed : (d : DataItem) (place : Place) (mid : List ℕ) (post : List Extent) → HoldsItem d place mid post → IsContainer d → 0 < length place.containers.now
-some_listed d place mid post h c = let l = container_listed d place.containers.now post c h.listed in omega (arith, ap length l.2)
-
 pub is_container : (h : ItemHead) (d : DataItem) (rest behind : List ℕ) (n : ℕ) → h ≡ begin.List n → IsHeadOf h d rest behind → IsContainer d
 is_container h d rest behind n e i =
     let l : IsHeadOf (begin.List n) d rest behind = subst (λ x. IsHeadOf x d rest behind) e i in
@@ -322,6 +319,3 @@ not_reserved whole total known x same f key e =
 pub no_behind : (o : Option Place) (mid : List ℕ) (post : List Extent) → IsBehind o mid post → ((p : Place) → o ≡ Some p → ⊥) → ⊥
 no_behind None mid post b shut = b
 no_behind (Some p) mid post b shut = shut p refl
-
-pub is_behind : (o : Option Place) (p : Place) (mid : List ℕ) (post : List Extent) → IsBehind o mid post → o ≡ Some p → IsBehind (Some p) mid post
-is_behind o p mid post b e = subst (λ x. IsBehind x mid post) e b

@@ -200,11 +200,6 @@ module _ (xs ys : List Level) (l : Level) (bytes : List ℕ) (lines todo : List 
   goes_into zs k old new pushed some same less e =
       (reverse ys, todo, reverse_pop zs ys k pushed, goes_on l (reverse ys) bytes todo k (subst (λ ls. Open ls bytes todo) (reverse_pop xs ys l popped) o) some same less, e)
 
-pub nothing_left : (xs : List Level) (bytes : List ℕ) (lines todo : List Line) (old new : Option (List ℕ)) → xs ≡ [] → Open (reverse xs) bytes todo → Ended lines todo old new → Ended lines [] old new
-nothing_left xs bytes lines todo old new none o e =
-    let empty : todo ≡ [] = subst (λ ls. Open (reverse ls) bytes todo) none o in
-    subst (λ ts. Ended lines ts old new) empty e
-
 -- ---- what comes next
 
 next_item : (n left : ℕ) (bytes mid : List ℕ) (own : List Line) → Holds false n (suc left) bytes own mid
@@ -277,19 +272,6 @@ pub record Going (d : DataItem) (rest : List ℕ) (key : Option (List ℕ)) (ls 
   pub left : List Line
   pub is_open : Open ls more left
   pub ended : Ended (lines_of 0 None d) (lines_of (length ls) key next ++ left) old new
-
-pub going_first : (d : DataItem) (block behind : List ℕ) (old : Option (List ℕ)) → BeginsWithItem d block behind → Going d block None [] old old
-going_first d block behind old b = record {
-  next = d;
-  more = behind;
-  begins = b;
-  left = [];
-  is_open = refl;
-  ended = record { ended = []; text = []; is_text = refl; written = Appends-nil old; all = sym (append-nil (lines_of 0 None d)) };
-}
-
-pub going_start : (d : DataItem) (block behind : List ℕ) (xs : List Level) (old : Option (List ℕ)) → xs ≡ [] → BeginsWithItem d block behind → Going d block None (reverse xs) old old
-going_start d block behind xs old e b = subst (λ ls. Going d block None (reverse ls) old old) (sym e) (going_first d block behind old b)
 
 module _ (d : DataItem) (rest : List ℕ) (key : Option (List ℕ)) (ls : List Level) (old new : Option (List ℕ)) (g : Going d rest key ls old new) where
   -- its first line was written

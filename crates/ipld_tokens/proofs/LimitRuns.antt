@@ -31,10 +31,6 @@ run_spent : (p : List TokenModel) → limit_run spent p ≡ spent
 run_spent [] = refl
 run_spent (t ∷ p) = run_spent p
 
--- after a limit was exceeded nothing may come
-run_beyond : (e : limit.Excess) (t : TokenModel) (p : List TokenModel) → limit_run (beyond e) (t ∷ p) ≡ spent
-run_beyond e t p = run_spent p
-
 -- ---- what tokens within the limits lead to
 
 record IsWithin (limits : Limits) (s : ReadState) (p : Position) (ts : List TokenModel) (limits' : Limits) (s' : ReadState) (p' : Position) : Type 0 where

@@ -19,10 +19,6 @@ pub run_rejected : (S : ℕ) (p : List TokenModel) → run S rejected p ≡ reje
 run_rejected S [] = refl
 run_rejected S (t ∷ p) = run_rejected S p
 
--- after an item nothing may come
-pub run_done : (S : ℕ) (out : List Link) (t : TokenModel) (p : List TokenModel) → run S (done out) (t ∷ p) ≡ rejected
-run_done S out t p = run_rejected S p
-
 kept_none : (keeps : Bool) (out : List Link) → out ++ kept keeps [] ≡ out
 kept_none true out = append-nil out
 kept_none false out = append-nil out

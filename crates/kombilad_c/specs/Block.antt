@@ -10,14 +10,14 @@ use Rattle.dag_cbor_blocks.specs.declared.block_error.BlockErrorKind.{BlockError
 use Rattle.kombilad_c.specs.declared.cid_record.CidBytes.{CidBytes}
 use Rattle.kombilad_c.specs.declared.positions.Span.{Span}
 use Rattle.kombilad_c.specs.Status.{limit_status}
-use Rattle.kombilad_c.specs.Fill.{Fills, IsUntouched}
+use Rattle.kombilad_c.specs.Fill.{Variable, Fills, IsUntouched}
 use Rattle.kombilad_c.specs.CidRecord.{record_of}
 
--- True if reading the bytes, with floats or without, stopped at a limit, at their first error or
--- where memory failed. The status is the number of that, and the offset is the byte.
-pub record IsStopped (floats : Bool) (limits : Limits) (block : List ℕ) (status offset : ℕ) : Type 0 where
+-- True if reading the bytes stopped at a limit, at their first error or where memory failed. The
+-- status is the number of that, and the offset is the byte.
+pub record IsStopped (limits : Limits) (block : List ℕ) (status offset : ℕ) : Type 0 where
   pub kind : BlockErrorKind
-  pub stops : StopsAt floats limits block kind offset
+  pub stops : StopsAt true limits block kind offset
   pub failed : status ≡ limit_status kind
 
 -- True if the bytes pass no limit, and the offset is as before.
@@ -28,20 +28,25 @@ pub record IsWithin (limits : Limits) (block : List ℕ) (before after : ℕ) : 
 -- True if the bytes are a block, or reading them stopped.
 abbrev pub Checks : Limits → List ℕ → ℕ → ℕ → ℕ → Type 0
 Checks limits block status before after =
-    (IsWithin limits block before after × (error_in true block ≡ None) × (status ≡ 0)) ⊎ IsStopped true limits block status after
+    (IsWithin limits block before after × (error_in true block ≡ None) × (status ≡ 0)) ⊎ IsStopped limits block status after
 
 -- True if the links of the block are counted, or reading it stopped and nothing is written.
-abbrev pub CountsLinks : Limits → List ℕ → ℕ → ℕ → ℕ → ℕ → ℕ → Type 0
-CountsLinks limits block status count_before count before after =
-    (IsWithin limits block before after × (option_map length (links_read true block) ≡ Some count) × (status ≡ 0))
-    ⊎ (IsStopped true limits block status after × (count ≡ count_before))
+abbrev pub CountsLinks : Limits → List ℕ → (status : ℕ) → (count offset : Variable ℕ) → Type 0
+CountsLinks limits block status count offset =
+    (IsWithin limits block offset.before offset.after
+    × (option_map length (links_read true block) ≡ Some count.after) × (status ≡ 0))
+    ⊎ (IsStopped limits block status offset.after × (count.after ≡ count.before))
 
 -- True if the records of the CIDs of the block's links go to the buffer, or reading it stopped and
 -- nothing is written.
-abbrev pub ListsLinks : Limits → List ℕ → ℕ → List CidBytes → List CidBytes → ℕ → ℕ → ℕ → ℕ → Type 0
-ListsLinks limits block status buffer_before buffer needed_before needed before after =
-    (IsWithin limits block before after × (links : List Link) × (links_read true block ≡ Some links) × Fills (map record_of links) status buffer_before buffer needed)
-    ⊎ (IsStopped true limits block status after × IsUntouched buffer_before buffer needed_before needed)
+abbrev pub ListsLinks :
+    Limits → List ℕ → (status : ℕ) → Variable (List CidBytes) → (needed offset : Variable ℕ) → Type 0
+ListsLinks limits block status buffer needed offset =
+    (IsWithin limits block offset.before offset.after × (links : List Link)
+    × (links_read true block ≡ Some links)
+    × Fills (map record_of links) status buffer.before buffer.after needed.after)
+    ⊎ (IsStopped limits block status offset.after
+    × IsUntouched buffer.before buffer.after needed.before needed.after)
 
 -- The position of a CID as the struct that crosses to C.
 abbrev pub span_of : Position → Span
@@ -49,10 +54,14 @@ span_of p = record { offset = p.0; len = p.1 }
 
 -- True if the positions of the CIDs of the block's links go to the buffer, or reading it stopped
 -- and nothing is written.
-abbrev pub ListsPositions : Limits → List ℕ → ℕ → List Span → List Span → ℕ → ℕ → ℕ → ℕ → Type 0
-ListsPositions limits block status buffer_before buffer needed_before needed before after =
-    (IsWithin limits block before after × (positions : List Position) × (positions_read true block ≡ Some positions) × Fills (map span_of positions) status buffer_before buffer needed)
-    ⊎ (IsStopped true limits block status after × IsUntouched buffer_before buffer needed_before needed)
+abbrev pub ListsPositions :
+    Limits → List ℕ → (status : ℕ) → Variable (List Span) → (needed offset : Variable ℕ) → Type 0
+ListsPositions limits block status buffer needed offset =
+    (IsWithin limits block offset.before offset.after × (positions : List Position)
+    × (positions_read true block ≡ Some positions)
+    × Fills (map span_of positions) status buffer.before buffer.after needed.after)
+    ⊎ (IsStopped limits block status offset.after
+    × IsUntouched buffer.before buffer.after needed.before needed.after)
 
 -- The status of keys: 0 if they are in order, and otherwise 3.
 abbrev pub order_status : Bool → ℕ
@@ -64,4 +73,4 @@ order_status false = 3
 abbrev pub ChecksOrder : Limits → List ℕ → ℕ → ℕ → ℕ → Type 0
 ChecksOrder limits block status before after =
     (IsWithin limits block before after × (sorted : Bool) × (is_sorted true block ≡ Some sorted) × (status ≡ order_status sorted))
-    ⊎ IsStopped true limits block status after
+    ⊎ IsStopped limits block status after

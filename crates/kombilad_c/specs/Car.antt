@@ -13,7 +13,7 @@ use Rattle.kombilad_c.specs.declared.car_open.CarBounds.{CarBounds}
 use Rattle.kombilad_c.specs.declared.cid_record.CidBytes.{CidBytes}
 use Rattle.kombilad_c.specs.declared.positions.Span.{Span}
 use Rattle.kombilad_c.specs.CidRecord.{record_of}
-use Rattle.kombilad_c.specs.Fill.{Fills, IsUntouched}
+use Rattle.kombilad_c.specs.Fill.{Variable, Fills, IsUntouched}
 use Rattle.kombilad_c.specs.Status.{car_status}
 
 abbrev pub version_number : CarVersion → ℕ
@@ -24,6 +24,12 @@ version_number V2 = 2
 abbrev pub bounds_end : CarVersion → (len end : ℕ) → ℕ
 bounds_end V1 len end = len
 bounds_end V2 len end = end
+
+-- The version, the byte of the first section, and where the sections end, of a CAR of so many bytes
+-- (CARv1, CARv2).
+abbrev pub bounds : CarVersion → (sections end len : ℕ) → CarBounds
+bounds version sections end len =
+    record { version = version_number version; sections = sections; end = bounds_end version len end }
 
 -- True if the part before the sections of a CAR was read, and these are its version, its roots and
 -- where its sections are (CARv1, CARv2).
@@ -39,43 +45,61 @@ pub record IsOpened (limit : ℕ) (car : List ℕ) (roots : List Link) (opened :
 -- True if the part before the sections of a CAR was read, and the roots go to the buffer, also if
 -- that is too short. Or the status and the offset are those of the error, and nothing else is
 -- written (CARv1, CARv2).
-abbrev pub OpensCar : (limit : ℕ) → List ℕ → (status : ℕ) → (opened_before opened : CarBounds) → (buffer_before buffer : List CidBytes)
-    → (needed_before needed before after : ℕ) → Type 0
-OpensCar limit car status opened_before opened buffer_before buffer needed_before needed before after =
-    ((roots : List Link) × IsOpened limit car roots opened × Fills (map record_of roots) status buffer_before buffer needed × (after ≡ before))
-    ⊎ ((error : CarError) × FaultOf limit (Some car) error × (status ≡ car_status error.kind) × (after ≡ error.offset)
-    × (opened ≡ opened_before) × IsUntouched buffer_before buffer needed_before needed)
+abbrev pub OpensCar :
+    (limit : ℕ) → List ℕ → (status : ℕ) → Variable CarBounds → Variable (List CidBytes)
+    → (needed offset : Variable ℕ) → Type 0
+OpensCar limit car status opened buffer needed offset =
+    ((roots : List Link) × IsOpened limit car roots opened.after
+    × Fills (map record_of roots) status buffer.before buffer.after needed.after
+    × (offset.after ≡ offset.before))
+    ⊎ ((error : CarError) × FaultOf limit (Some car) error × (status ≡ car_status error.kind)
+    × (offset.after ≡ error.offset) × (opened.after ≡ opened.before)
+    × IsUntouched buffer.before buffer.after needed.before needed.after)
 
--- True if of bytes that begin with the part before the sections the bounds are returned, and the
--- roots go to the buffer if it holds them; or memory failed (CARv1, CARv2).
-abbrev pub OpensAs : CarVersion → List Link → (sections end len status : ℕ) → CarBounds → (buffer_before buffer : List CidBytes) → (needed : ℕ) → Type 0
-OpensAs version roots sections end len status opened buffer_before buffer needed =
+-- True if memory failed. Or these bounds are returned, and the roots go to the buffer if it holds
+-- them.
+abbrev pub OpensAs :
+    List Link → (bounds : CarBounds) → (status : ℕ) → CarBounds → Variable (List CidBytes)
+    → (needed : ℕ) → Type 0
+OpensAs roots bounds status opened buffer needed =
     (status ≡ 1)
-    ⊎ ((opened ≡ record { version = version_number version; sections = sections; end = bounds_end version len end })
-    × Fills (map record_of roots) status buffer_before buffer needed)
+    ⊎ ((opened ≡ bounds) × Fills (map record_of roots) status buffer.before buffer.after needed)
+
+-- The sections of a CAR from a byte on, up to a byte.
+pub record Sections : Type 0 where
+  pub car : List ℕ
+  pub at : ℕ
+  pub end : ℕ
+
+-- The places of a section's CID and of its block, and the byte at which the next section begins.
+pub record SectionSpans : Type 0 where
+  pub cid : Span
+  pub block : Span
+  pub next : ℕ
 
 -- True if the section of the block begins at the byte, its CID and its bytes are at these places,
 -- and the next section begins after it (CARv1, "Data").
-abbrev pub StandsAt : List ℕ → (at end : ℕ) → Block → Span → Span → ℕ → Type 0
-StandsAt car at end block cid place next =
-    SpansSection (between at end car) at block (record { cid = cid.offset; block = place.offset; end = next })
-    × (cid.offset + cid.len ≡ place.offset) × (place.offset + place.len ≡ next)
-
--- True if nothing but the offset is written.
-pub record KeepsSpans (cid_before cid place_before place : Span) (next_before next : ℕ) : Type 0 where
-  pub same_cid : cid ≡ cid_before
-  pub same_place : place ≡ place_before
-  pub same_next : next ≡ next_before
+abbrev pub StandsAt : Sections → Block → SectionSpans → Type 0
+StandsAt s block spans =
+    SpansSection (between s.at s.end s.car) s.at block
+    (record { cid = spans.cid.offset; block = spans.block.offset; end = spans.next })
+    × (spans.cid.offset + spans.cid.len ≡ spans.block.offset)
+    × (spans.block.offset + spans.block.len ≡ spans.next)
 
 -- True if the error is why no section begins at the byte, and at which byte that is.
-abbrev pub HasNoSection : List ℕ → (at end : ℕ) → CarError → Type 0
-HasNoSection car at end error = (size found : ℕ) × Fails at (SpanFault (between at end car) (end - at) size found) error
+abbrev pub HasNoSection : Sections → CarError → Type 0
+HasNoSection s error =
+    (size found : ℕ) × Fails s.at (SpanFault (between s.at s.end s.car) (s.end - s.at) size found) error
 
 -- True if a section begins at the byte, with status 0; or the sections end there, with status 96;
 -- or the status and the offset are those of the error. Nothing else is written.
-abbrev pub FindsSection : List ℕ → (at end status : ℕ) → (cid_before cid place_before place : Span) → (next_before next before after : ℕ) → Type 0
-FindsSection car at end status cid_before cid place_before place next_before next before after =
-    ((status ≡ 0) × (at < end) × ((block : Block) × StandsAt car at end block cid place next) × (after ≡ before))
-    ⊎ ((status ≡ 96) × (end ≤ at) × KeepsSpans cid_before cid place_before place next_before next × (after ≡ before))
-    ⊎ ((error : CarError) × (at < end) × HasNoSection car at end error × (status ≡ car_status error.kind) × (after ≡ error.offset)
-    × KeepsSpans cid_before cid place_before place next_before next)
+abbrev pub FindsSection :
+    Sections → (status : ℕ) → Variable SectionSpans → (offset : Variable ℕ) → Type 0
+FindsSection s status spans offset =
+    ((status ≡ 0) × (s.at < s.end) × ((block : Block) × StandsAt s block spans.after)
+    × (offset.after ≡ offset.before))
+    ⊎ ((status ≡ 96) × (s.end ≤ s.at) × (spans.after ≡ spans.before)
+    × (offset.after ≡ offset.before))
+    ⊎ ((error : CarError) × (s.at < s.end) × HasNoSection s error
+    × (status ≡ car_status error.kind) × (offset.after ≡ error.offset)
+    × (spans.after ≡ spans.before))

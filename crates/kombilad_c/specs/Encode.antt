@@ -7,7 +7,7 @@ use Rattle.dag_cbor_tape.specs.Canonical.{Orders}
 use Rattle.dag_cbor_tape.specs.Describes.{Describes}
 use Rattle.dag_cbor_tape.specs.Encoding.{block_of}
 use Rattle.dag_cbor_tape.specs.Memory.{IsOutOfMemory}
-use Rattle.kombilad_c.specs.Fill.{Fills, IsUntouched}
+use Rattle.kombilad_c.specs.Fill.{Variable, Fills, IsUntouched}
 use Rattle.kombilad_c.specs.Status.{encode_status}
 
 -- the entries have no block: the first of them at fault, or an allocation failed
@@ -17,13 +17,18 @@ pub record IsAtFault (over : List ℕ) (entries : List TapeEntry) (status at : �
   pub failed : status ≡ encode_status error.kind
   pub place : at ≡ error.entry
 
--- The canonical block of the item that the entries describe goes to a buffer; or an entry is at fault, or an allocation failed, and nothing else is
--- written than which entry that is.
-abbrev pub WritesTape : (over : List ℕ) → (entries : List TapeEntry) → (status : ℕ) → (buffer_before buffer : List ℕ) → (needed_before needed before after : ℕ) → Type 0
-WritesTape over entries status buffer_before buffer needed_before needed before after =
-    ((item : Item 64) × (written : List ℕ) × (block : List ℕ) × Describes over item entries written × Orders item written block × Fills block status buffer_before buffer needed × (after ≡ before))
-    ⊎ (IsAtFault over entries status after × IsUntouched buffer_before buffer needed_before needed)
+-- True if the canonical block of the item that the entries describe goes to the buffer. Or an entry
+-- is at fault, or an allocation failed, and only that entry's number is written.
+abbrev pub WritesTape :
+    (over : List ℕ) → List TapeEntry → (status : ℕ) → Variable (List ℕ) → (needed at : Variable ℕ) → Type 0
+WritesTape over entries status buffer needed at =
+    ((item : Item 64) × (written : List ℕ) × (block : List ℕ)
+    × Describes over item entries written × Orders item written block
+    × Fills block status buffer.before buffer.after needed.after × (at.after ≡ at.before))
+    ⊎ (IsAtFault over entries status at.after
+    × IsUntouched buffer.before buffer.after needed.before needed.after)
 
 -- the canonical block of this item, of which these are the bytes in the order of the tape, goes to the buffer; or an allocation failed
-abbrev pub WritesItem : (item : Item 64) → (written : List ℕ) → (status : ℕ) → (before after : List ℕ) → (needed : ℕ) → Type 0
-WritesItem item written status before after needed = ((block : List ℕ) × Orders item written block × Fills block status before after needed) ⊎ (status ≡ 1)
+abbrev pub WritesItem : Item 64 → (written : List ℕ) → (status : ℕ) → (before after : List ℕ) → (needed : ℕ) → Type 0
+WritesItem item written status before after needed =
+    ((block : List ℕ) × Orders item written block × Fills block status before after needed) ⊎ (status ≡ 1)

@@ -1,6 +1,11 @@
 -- What a call that fills a buffer of the caller leaves in it.
 use Rattle.std.specs.Prelude.{◌≡◌, ◌⊎◌, ◌<◌, ◌≤◌, ◌++◌, ℕ, List, length, drop}
 
+-- A variable of the caller: its value before the call, and after it.
+pub record Variable (A : Type 0) : Type 0 where
+  pub before : A
+  pub after : A
+
 -- the content stands at the buffer's beginning, and the rest of the buffer is as before
 pub record IsFilled {A : Type 0} (content before after : List A) : Type 0 where
   pub holds : length content ≤ length before

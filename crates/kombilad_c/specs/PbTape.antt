@@ -13,7 +13,7 @@ use Rattle.dag_pb.specs.NodeReading.{read_node}
 use Rattle.dag_pb.specs.Spans.{AreSpansOf}
 use Rattle.dag_pb.specs.Views.{IsOutOfMemory}
 use Rattle.kombilad_c.specs.declared.pb_tape.NodeTape.{NodeTape}
-use Rattle.kombilad_c.specs.Fill.{Fills, IsUntouched}
+use Rattle.kombilad_c.specs.Fill.{Variable, Fills, IsUntouched}
 use Rattle.kombilad_c.specs.Status.{pb_status}
 
 -- an entry of the kind, of content that may be missing
@@ -98,9 +98,9 @@ node_at spans = joined (links_at spans.links.items) (content_where 7 spans.data)
 
 -- ---- what is listed
 
--- The bytes are a node, and the entries of its parts go to a buffer: each refers to the content of its own field, also where the same bytes stand
--- elsewhere.
-pub record ListsNode (block : List ℕ) (status : ℕ) (buffer_before buffer : List TapeEntry) (needed before after : ℕ) : Type 0 where
+-- The bytes are a node, and the entries of its parts go to the buffer: each refers to the content of
+-- its own field, also if the same bytes stand elsewhere.
+pub record ListsNode (block : List ℕ) (status : ℕ) (buffer : Variable (List TapeEntry)) (needed : ℕ) (offset : Variable ℕ) : Type 0 where
   pub node : NodeParts
   pub is_node : IsNode node block
   pub entries : List TapeEntry
@@ -108,8 +108,8 @@ pub record ListsNode (block : List ℕ) (status : ℕ) (buffer_before buffer : L
   pub spans : PbNodeSpans
   pub are : AreSpansOf spans block
   pub refer : node_at spans ≡ Some entries
-  pub fills : Fills entries status buffer_before buffer needed
-  pub same : after ≡ before
+  pub fills : Fills entries status buffer.before buffer.after needed
+  pub same : offset.after ≡ offset.before
 
 -- the bytes are a node of which a name or the data are too long for an entry
 pub record HasLongPart (block : List ℕ) (status before after : ℕ) : Type 0 where
@@ -129,11 +129,14 @@ pub record IsNoNode (block : List ℕ) (status after : ℕ) : Type 0 where
 -- True if the entries of the node's links and data go to a buffer. Or a name or the data are too
 -- long for an entry, or the bytes are not a node, and nothing else is written than the byte of the
 -- error (DAG-PB specification).
-abbrev pub ListsPbTape : List ℕ → ℕ → List TapeEntry → List TapeEntry → ℕ → ℕ → ℕ → ℕ → Type 0
-ListsPbTape block status buffer_before buffer needed_before needed before after =
-    ListsNode block status buffer_before buffer needed before after
-    ⊎ (HasLongPart block status before after × IsUntouched buffer_before buffer needed_before needed)
-    ⊎ (IsNoNode block status after × IsUntouched buffer_before buffer needed_before needed)
+abbrev pub ListsPbTape :
+    List ℕ → (status : ℕ) → Variable (List TapeEntry) → (needed offset : Variable ℕ) → Type 0
+ListsPbTape block status buffer needed offset =
+    ListsNode block status buffer needed.after offset
+    ⊎ (HasLongPart block status offset.before offset.after
+    × IsUntouched buffer.before buffer.after needed.before needed.after)
+    ⊎ (IsNoNode block status offset.after
+    × IsUntouched buffer.before buffer.after needed.before needed.after)
 
 -- the status of the bytes of a node
 abbrev pub IsOfNode : ℕ → Type 0

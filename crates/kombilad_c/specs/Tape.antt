@@ -4,7 +4,7 @@ use Rattle.ipld_tree.specs.declared.limits.Limits.{Limits}
 use Rattle.dag_cbor_blocks.specs.Tape.{IsTapeOf, all_short}
 use Rattle.dag_cbor_blocks.specs.declared.tape.TapeEntry.{TapeEntry}
 use Rattle.kombilad_c.specs.Block.{IsWithin, IsStopped}
-use Rattle.kombilad_c.specs.Fill.{Fills, IsUntouched}
+use Rattle.kombilad_c.specs.Fill.{Variable, Fills, IsUntouched}
 
 -- a length of one of the block's entries has more than 32 bits, and nothing is written
 pub record IsTooLong (limits : Limits) (block : List ℕ) (status before after : ℕ) : Type 0 where
@@ -14,13 +14,18 @@ pub record IsTooLong (limits : Limits) (block : List ℕ) (status before after :
   pub within : IsWithin limits block before after
   pub failed : status ≡ 8
 
--- The entries of the block's values and keys, of which none is too long, go to a buffer; or one of them would be too long, or reading the block
--- stopped, and nothing is written.
-abbrev pub ListsTape : Limits → List ℕ → ℕ → List TapeEntry → List TapeEntry → ℕ → ℕ → ℕ → ℕ → Type 0
-ListsTape limits block status buffer_before buffer needed_before needed before after =
-    (IsWithin limits block before after × (entries : List TapeEntry) × IsTapeOf entries block × (all_short entries ≡ true) × Fills entries status buffer_before buffer needed)
-    ⊎ (IsTooLong limits block status before after × IsUntouched buffer_before buffer needed_before needed)
-    ⊎ (IsStopped true limits block status after × IsUntouched buffer_before buffer needed_before needed)
+-- True if the entries of the block's values and keys, of which none is too long, go to the buffer.
+-- Or one of them would be too long, or reading the block stopped, and nothing is written.
+abbrev pub ListsTape :
+    Limits → List ℕ → (status : ℕ) → Variable (List TapeEntry) → (needed offset : Variable ℕ) → Type 0
+ListsTape limits block status buffer needed offset =
+    (IsWithin limits block offset.before offset.after × (entries : List TapeEntry)
+    × IsTapeOf entries block × (all_short entries ≡ true)
+    × Fills entries status buffer.before buffer.after needed.after)
+    ⊎ (IsTooLong limits block status offset.before offset.after
+    × IsUntouched buffer.before buffer.after needed.before needed.after)
+    ⊎ (IsStopped limits block status offset.after
+    × IsUntouched buffer.before buffer.after needed.before needed.after)
 
 -- the status of a call that lists a block's values
 abbrev pub IsListed : ℕ → Type 0

@@ -20,9 +20,16 @@ pub extern "C" fn kombilad_car_next(
     next: &mut usize,
     offset: &mut usize,
 ) -> u32
-    ensures exact { FindsSection car.now at end result cid.old cid.new block.old block.new next.old next.new offset.old offset.new }
-    ensures only { (found : Block) (section rest : List ℕ) → at < end → between at end car.now ≡ section ++ rest → IsSection section found
-        → (result ≡ 0) × StandsAt car.now at end found cid.new block.new next.new }
+    ensures exact { FindsSection (record { car = car.now; at = at; end = end }) result
+        (record {
+          before = record { cid = cid.old; block = block.old; next = next.old };
+          after = record { cid = cid.new; block = block.new; next = next.new };
+        })
+        (record { before = offset.old; after = offset.new }) }
+    ensures only { (found : Block) (section rest : List ℕ) → at < end
+        → between at end car.now ≡ section ++ rest → IsSection section found
+        → (result ≡ 0) × StandsAt (record { car = car.now; at = at; end = end }) found
+        (record { cid = cid.new; block = block.new; next = next.new }) }
 {
     match section_at(car, 0, at, end) {
         Ok(Some(span)) => {

@@ -5,7 +5,7 @@ ghost use Rattle.ipld_cid.specs.Cid.{Link};
 ghost use Rattle.ipld_cid.specs.LinkOf.{link_of};
 ghost use Rattle.ipld_car.specs.Opening.{IsFront};
 ghost use Rattle.ipld_car.specs.declared.version.CarVersion as versions;
-ghost use Rattle.kombilad_c.specs.Car.{OpensCar, OpensAs, version_number};
+ghost use Rattle.kombilad_c.specs.Car.{OpensCar, OpensAs, version_number, bounds};
 ghost use Rattle.kombilad_c.specs.CidRecord.{record_of};
 ghost use Rattle.kombilad_c.specs.Fill.{Fills};
 
@@ -63,10 +63,14 @@ pub extern "C" fn kombilad_car_open(
     needed: &mut usize,
     offset: &mut usize,
 ) -> u32
-    ensures exact { OpensCar limit car.now result opened.old opened.new roots.old roots.new needed.old needed.new offset.old offset.new }
-    ensures only { (version : versions.CarVersion) (front rest : List ℕ) (links : List Link) (start end : ℕ) → car.now ≡ front ++ rest
+    ensures exact { OpensCar limit car.now result
+        (record { before = opened.old; after = opened.new }) (record { before = roots.old; after = roots.new })
+        (record { before = needed.old; after = needed.new }) (record { before = offset.old; after = offset.new }) }
+    ensures only { (version : versions.CarVersion) (front rest : List ℕ) (links : List Link)
+        (start end : ℕ) → car.now ≡ front ++ rest
         → IsFront limit version front links start end → length front ≤ end → end < 2 ^ 64
-        → OpensAs version links (length front) end (length car.now) result opened.new roots.old roots.new needed.new }
+        → OpensAs links (bounds version (length front) end (length car.now)) result opened.new
+        (record { before = roots.old; after = roots.new }) needed.new }
 {
     match CarReader::new(alloc, car, limit as u64) {
         Ok(reader) => {

@@ -21,8 +21,12 @@ pub extern "C" fn kombilad_encode(
     needed: &mut usize,
     at: &mut usize,
 ) -> u32
-    ensures exact { WritesTape contents.now entries.now result buffer.old buffer.new needed.old needed.new at.old at.new }
-    ensures only { (item : Item 64) (written : List ℕ) → Describes contents.now item entries.now written → WritesItem item written result buffer.old buffer.new needed.new }
+    ensures exact { WritesTape contents.now entries.now result
+        (record { before = buffer.old; after = buffer.new }) (record { before = needed.old; after = needed.new })
+        (record { before = at.old; after = at.new }) }
+    ensures only { (item : Item 64) (written : List ℕ)
+        → Describes contents.now item entries.now written
+        → WritesItem item written result buffer.old buffer.new needed.new }
 {
     match encode_tape(alloc, entries, contents) {
         Ok(block) => fill(&block, buffer, needed),

@@ -54,7 +54,9 @@ pub extern "C" fn kombilad_links(
     needed: &mut usize,
     offset: &mut usize,
 ) -> u32
-    ensures { ListsLinks (record { levels = levels; values = values }) block.now result links.old links.new needed.old needed.new offset.old offset.new }
+    ensures { ListsLinks (record { levels = levels; values = values }) block.now result
+        (record { before = links.old; after = links.new }) (record { before = needed.old; after = needed.new })
+        (record { before = offset.old; after = offset.new }) }
 {
     let options = ReadOptions {
         limits: Limits { levels, values },

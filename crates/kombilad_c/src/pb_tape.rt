@@ -105,7 +105,9 @@ pub extern "C" fn kombilad_pb_tape(
     needed: &mut usize,
     offset: &mut usize,
 ) -> u32
-    ensures exact { ListsPbTape block.now result entries.old entries.new needed.old needed.new offset.old offset.new }
+    ensures exact { ListsPbTape block.now result
+        (record { before = entries.old; after = entries.new }) (record { before = needed.old; after = needed.new })
+        (record { before = offset.old; after = offset.new }) }
     ensures only { (n : NodeParts) → IsNode n block.now → IsOfNode result }
 {
     match node_spans(alloc, block) {

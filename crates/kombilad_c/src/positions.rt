@@ -57,7 +57,9 @@ pub extern "C" fn kombilad_link_positions(
     needed: &mut usize,
     offset: &mut usize,
 ) -> u32
-    ensures { ListsPositions (record { levels = levels; values = values }) block.now result positions.old positions.new needed.old needed.new offset.old offset.new }
+    ensures { ListsPositions (record { levels = levels; values = values }) block.now result
+        (record { before = positions.old; after = positions.new }) (record { before = needed.old; after = needed.new })
+        (record { before = offset.old; after = offset.new }) }
 {
     let options = ReadOptions {
         limits: Limits { levels, values },

@@ -20,7 +20,9 @@ pub extern "C" fn kombilad_block_canonicalize(
     needed: &mut usize,
     offset: &mut usize,
 ) -> u32
-    ensures { Rewrites (record { levels = levels; values = values }) block.now result buffer.old buffer.new needed.old needed.new offset.old offset.new }
+    ensures { Rewrites (record { levels = levels; values = values }) block.now result
+        (record { before = buffer.old; after = buffer.new }) (record { before = needed.old; after = needed.new })
+        (record { before = offset.old; after = offset.new }) }
 {
     match canonicalize(alloc, block, &Limits { levels, values }) {
         Ok(written) => fill(&written, buffer, needed),

@@ -66,7 +66,8 @@ pub extern "C" fn kombilad_links_count(
     count: &mut usize,
     offset: &mut usize,
 ) -> u32
-    ensures { CountsLinks (record { levels = levels; values = values }) block.now result count.old count.new offset.old offset.new }
+    ensures { CountsLinks (record { levels = levels; values = values }) block.now result
+        (record { before = count.old; after = count.new }) (record { before = offset.old; after = offset.new }) }
 {
     let options = ReadOptions {
         limits: Limits { levels, values },

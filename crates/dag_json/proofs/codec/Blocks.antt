@@ -126,17 +126,3 @@ pub text_error : (limits : Limits) (s : List ℕ) (e : ReadError) (f : DagJsonCo
 text_error limits s e f of_length exact stopped (inl gone) = inl gone.1
 text_error limits s e f of_length exact stopped (inr other) =
     inr (subst (IsTextError s) (sym other.1) (other.0, subst (λ l. ReadsBytes false l s (Err e)) of_length exact, subst (λ l. SaysWhere false l s e) of_length stopped))
-
-text_error_of : (o : Option (List ℕ)) (block : List ℕ) (f : DagJsonCodecError) → IfSome o (λ b. b ≡ block) → IsTextError block f → IsTextErrorOf o f
-text_error_of None block f known h = (block, h)
-text_error_of (Some b) block f known h = subst (λ s. IsTextError s f) (sym known) h
-
-reader_error : (f : DagJsonCodecError) (o : Option (List ℕ)) (block : List ℕ) → IfSome o (λ b. b ≡ block) → (f ≡ Memory) ⊎ IsTextError block f
-    → (f ≡ Memory) ⊎ ((f ≡ Read) ⊎ IsTextErrorOf o f)
-reader_error f o block known (inl gone) = inl gone
-reader_error f o block known (inr other) = inr (inr (text_error_of o block f known other))
-
-pub reader_errors : (r : Result Ipld DagJsonCodecError) (o : Option (List ℕ)) (block : List ℕ) → IfSome o (λ b. b ≡ block)
-    → IfErr r (λ f. (f ≡ Memory) ⊎ IsTextError block f) → IfErr r (λ f. (f ≡ Memory) ⊎ ((f ≡ Read) ⊎ IsTextErrorOf o f))
-reader_errors (Ok v) o block known h = tt
-reader_errors (Err f) o block known h = reader_error f o block known h

@@ -1,4 +1,4 @@
-use Rattle.std.proofs.Common.{sym, ◌∙◌, rules}
+use Rattle.std.proofs.Common.{rules}
 use Rattle.dag_cbor.proofs.Collected.{collected}
 use Rattle.dag_cbor.proofs.shallow.map_of_distinct.Goals as goal
 

@@ -1,4 +1,4 @@
-use Rattle.std.proofs.Common.{◌≤◌, ◌-◌, suc, false, true, pos, negsuc, Some, refl, ap, ◌∙◌, rules, arith}
+use Rattle.std.proofs.Common.{◌≤◌, suc, false, pos, negsuc, Some, refl, ap, ◌∙◌, rules, arith}
 use Rattle.ipld_tokens.specs.Token.{integer, text}
 use Rattle.dag_cbor_format.specs.declared.major.Major.{Major}
 use Rattle.dag_cbor_format.specs.declared.major.Major.TheVariants.{Unsigned, Negative, Bytes, Text, List, Map, Tag, Simple}

@@ -1,4 +1,4 @@
-use Rattle.std.proofs.Common.{◌∷◌, sym, ◌∙◌}
+use Rattle.std.proofs.Common.{sym, ◌∙◌}
 use Rattle.ipld_tree.specs.Tree.{no_items}
 use Rattle.ipld_tokens.specs.ReadMachine.{in_list}
 use Rattle.ipld_tokens.specs.Token.{seq}

@@ -1,4 +1,4 @@
-use Rattle.std.proofs.Common.{◌∷◌, sym, ◌∙◌}
+use Rattle.std.proofs.Common.{sym, ◌∙◌}
 use Rattle.ipld_tree.specs.Tree.{no_members}
 use Rattle.ipld_tokens.specs.ReadMachine.{in_key}
 use Rattle.ipld_tokens.specs.Token.{map}
