@@ -1,11 +1,10 @@
 //! Base32 in lower case and without padding.
 
-ghost use Rattle.std.specs.Prelude.{◌≡◌, ◌≤◌, ◌<◌, ◌+◌, ◌*◌, ◌/◌, ◌%◌, ◌++◌, length, take, OnOk, IsAscii};
+ghost use Rattle.std.specs.Prelude.{◌≡◌, ◌≤◌, ◌<◌, ◌+◌, ◌*◌, ◌/◌, ◌%◌, ◌++◌, length, take, IsAscii};
 ghost use Rattle.std.specs.Fmt.{WritesOnOk};
 ghost use Rattle.ipld_cid.specs.Base32 as encoded;
 
 use crate::byte_buffer::ByteBuffer;
-use std::alloc::AllocError;
 use std::{fmt, str};
 
 const ALPHABET: &[u8; 32] = b"abcdefghijklmnopqrstuvwxyz234567";
@@ -65,18 +64,6 @@ fn last_letters(bytes: &[u8]) -> ([u8; 8], usize)
     let mut block = [0; 5];
     block[..bytes.len()].copy_from_slice(bytes);
     (letters_of(&block), (8 * bytes.len()).div_ceil(5))
-}
-
-// Writes the letters of the bytes at the end.
-pub(crate) fn push_base32(text: &mut Vec<u8>, bytes: &[u8]) -> Result<(), AllocError>
-    ensures { OnOk result (text.new.items ≡ text.old.items ++ encoded.base32 bytes.now) }
-{
-    let (blocks, rest) = bytes.as_chunks::<5>();
-    for block in blocks {
-        text.extend_from_slice(&letters_of(block))?;
-    }
-    let (letters, count) = last_letters(rest);
-    text.extend_from_slice(&letters[..count])
 }
 
 // The letters as text.

@@ -11,7 +11,6 @@
 #![tactic(auto)]
 
 mod base;
-mod blocks;
 mod convert;
 mod digits;
 mod encode;
