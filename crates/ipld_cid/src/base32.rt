@@ -78,16 +78,26 @@ pub(crate) fn as_text(letters: &[u8]) -> &str
     text
 }
 
+// Writes the letters of at most 60 bytes at once.
+#[inline(always)]
+fn write_piece<W: fmt::Write>(f: &mut fmt::Formatter<W>, bytes: &[u8]) -> fmt::Result
+    requires { length bytes.now ≤ 60 }
+    ensures { WritesOnOk W.write_str_gives f.old result (encoded.base32 bytes.now) f.new }
+{
+    let mut letters = ByteBuffer::<96>::new();
+    letters.push_base32(bytes);
+    f.write_str(as_text(letters.as_slice()))
+}
+
 // Writes the letters of the bytes.
 pub(crate) fn write_base32<W: fmt::Write>(f: &mut fmt::Formatter<W>, bytes: &[u8]) -> fmt::Result
     ensures { WritesOnOk W.write_str_gives f.old result (encoded.base32 bytes.now) f.new }
 {
-    let (blocks, rest) = bytes.as_chunks::<5>();
-    for block in blocks {
-        f.write_str(as_text(&letters_of(block)))?;
+    let (pieces, rest) = bytes.as_chunks::<60>();
+    for piece in pieces {
+        write_piece(f, piece)?;
     }
-    let (letters, count) = last_letters(rest);
-    f.write_str(as_text(&letters[..count]))
+    write_piece(f, rest)
 }
 
 impl<const CAPACITY: usize> ByteBuffer<CAPACITY> {
