@@ -7,3 +7,4 @@ pub mod Lettering
 pub mod Reading
 pub mod Writing
 pub mod Base32Texts
+pub mod UsualTexts
