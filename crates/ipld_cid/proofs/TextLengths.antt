@@ -56,22 +56,6 @@ pub length-byte_bits : (bytes : List ℕ) → length (byte_bits bytes) ≡ 8 * l
 length-byte_bits [] = refl
 length-byte_bits (b ∷ bytes) = let others = length-byte_bits bytes in omega arith
 
--- the text of a CID with a digest of at most 64 bytes
-pub text_short : (link : Link) (text : List ℕ) → IsText 64 link text → length text ≤ 155
-text_short link text is =
-    omega (
-      arith,
-      ap length is.letters,
-      length-map is.groups letter,
-      length-groups is.groups,
-      ap length is.joined,
-      length-append (byte_bits is.bytes) (replicate is.fill 0),
-      length-byte_bits is.bytes,
-      length-replicate {A = ℕ} is.fill 0,
-      is.short,
-      cid_short is.bytes link is.encoded,
-    )
-
 same_link : (a b : Link) → ◌≡◌ {A = Result Link CidError} (Ok a) (Ok b) → a ≡ b
 same_link a b e = cc
 

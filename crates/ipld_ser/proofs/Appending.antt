@@ -8,9 +8,6 @@ use Rattle.ipld_ser.specs.Image.{both}
 use Rattle.ipld_ser.specs.ImageWriter.{Appends, written_image, one_after_another, comes_first, filed, filed_from, indexed, names_of, written_at, fields_filed, entry_written, entry_at, ListsInTurn, FieldsInTurn}
 use Rattle.ipld_ser.specs.Names.{AreDistinct}
 
-pub appends_nothing : (a : List ℕ) → Appends (Some []) a a
-appends_nothing a = record { bytes = []; is = refl; appended = sym (append-nil a) }
-
 -- one and then the other
 pub appends_both : (o p : Option (List ℕ)) (s a b : List ℕ) → Appends o s a → Appends p a b → Appends (both ◌++◌ o p) s b
 appends_both o p s a b first second = record {
