@@ -1,19 +1,19 @@
 -- How long the bytes and the text of a CID are at most, and what reading a text without memory returns.
 use Rattle.std.proofs.Common.{◌≡◌, ℕ, zero, suc, ◌*◌, ◌/◌, ◌≤◌, ◌<◌, List, [], ◌∷◌, ◌++◌, length, Result, Ok, Err, inl, inr, refl, sym, ap, ◌∙◌, arith}
-use Rattle.std.specs.Prelude.{replicate, MatchResult, IfOk, IsOkAnd}
+use Rattle.std.specs.Prelude.{MatchResult, IfOk, IsOkAnd}
 use Rattle.std.proofs.lemmas.Bool.{cases_lt, lt-ltb, le-ltb}
-use Rattle.std.proofs.lemmas.List.{length-append, length-map, length-replicate}
+use Rattle.std.proofs.lemmas.List.{length-append}
 use Rattle.ipld_cid.specs.declared.cid.CidGeneric.{CidGeneric}
 use Rattle.ipld_cid.specs.declared.error.CidError.{CidError}
 use Rattle.ipld_cid.specs.Varint.{groups_of, varint_of}
 use Rattle.ipld_cid.specs.Cid.{Link}
 use Rattle.ipld_cid.specs.LinkOf.{link_of}
 use Rattle.ipld_cid.specs.Bytes.{IsCid}
-use Rattle.ipld_cid.specs.Base32.{byte_bits, letter}
+use Rattle.ipld_cid.specs.Base32.{byte_bits}
 use Rattle.ipld_cid.specs.ReadsText.{ReadsText}
 use Rattle.ipld_cid.specs.TextReading.{IsText, read_text}
 use Rattle.ipld_cid.proofs.Encodings.{v1_encoded}
-use Rattle.ipld_cid.proofs.TextReadings.{text_is_encoded, text_is_read, length-groups}
+use Rattle.ipld_cid.proofs.TextReadings.{text_is_encoded, text_is_read}
 
 -- at most so many groups
 groups_few : (more n : ℕ) → length (groups_of more n) ≤ suc more
