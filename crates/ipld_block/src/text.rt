@@ -3,7 +3,8 @@
 ghost use Rattle.std.specs.Prelude.{◌≡◌, ◌<◌, map, OnOk};
 ghost use Rattle.std.specs.Io.KnownBytes.{Appends};
 ghost use Rattle.ipld_cid.specs.LinkOf.{link_of};
-ghost use Rattle.ipld_block.specs.Texts.{usual_text, lines_of};
+ghost use Rattle.ipld_block.specs.Texts.{lines_of};
+ghost use Rattle.ipld_cid_text.specs.UsualText.{usual_text};
 
 use ipld_cid::{Cid, Version};
 use ipld_cid_text::usual_text;
