@@ -76,7 +76,10 @@ fn written_in_bases(rt: HostRuntime) -> Result<(), Ended> {
 #[test]
 fn written_as_usual(rt: HostRuntime) -> Result<(), Ended> {
     let text = reported("usual_text", usual_text(rt.alloc(), &cid(&V0)?))?;
-    assert_eq!(rt; text.as_str(), "QmNLei78zWmzUdbeRB3CiUfAizWUrbeeZh5K1rhAQKCh51");
+    assert_eq!(rt;
+        text.as_str(),
+        "QmNLei78zWmzUdbeRB3CiUfAizWUrbeeZh5K1rhAQKCh51"
+    );
     let text = reported("usual_text", usual_text(rt.alloc(), &cid(&V1)?))?;
     assert_eq!(rt; text.as_str(), V1_TEXT);
     Ok(())
