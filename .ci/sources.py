@@ -388,6 +388,8 @@ def clauses(library):
 OWN_USE = re.compile(
     r"^\s*(?:ghost )?use Rattle\.(\w+)\.specs\.(\w+)(?:\.\{([^}]*)\}| as (\w+));?$", re.S | re.M
 )
+# The words that a file of definitions hands on.
+HANDED_ON = re.compile(r"^pub use Rattle\.(\w+)\.specs\.(\w+)\.\{([^}]*)\}$", re.M)
 CITED = re.compile(r"(?<![\w.])(?:[^\W\d]\w*\.)?[^\W\d][\w'-]*")
 
 
@@ -431,6 +433,15 @@ def definitions(crate, file):
     return {word: said for _, word, said in defining(crate, file)}
 
 
+def home_of(crate, file, word):
+    """The crate, the file and the name of a word that a file defines, or hands on by `pub use`."""
+    path = CRATES / crate / "specs" / f"{file}.antt"
+    for other, home, group in HANDED_ON.findall(path.read_text()) if path.exists() else []:
+        if word in map(str.strip, group.split(",")):
+            return home_of(other, home, word)
+    return crate, file, word
+
+
 def uses_of(text):
     """The definitions that a file of sources or of definitions imports: each by its name there."""
     uses = {}
@@ -443,7 +454,8 @@ def uses_of(text):
             )
         for word in (it.strip() for it in group.split(",")):
             if word:
-                uses[word.split(" as ")[-1].strip()] = (crate, file, word.split(" as ")[0].strip())
+                named, _, given = (it.strip() for it in word.partition(" as "))
+                uses[given or named] = home_of(crate, file, named)
     return uses
 
 

@@ -1,4 +1,3 @@
-mod LinkTexts
 mod Integers
 mod Joining
 mod ReservedMaps

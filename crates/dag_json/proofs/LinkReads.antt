@@ -25,9 +25,9 @@ use Rattle.ipld_cid_text.specs.Encodes.{Encodes}
 use Rattle.ipld_cid_text.specs.Text.{Form, IsText, IsTextAt, has_path, path_len, begins_qm, form_of, multibase_form}
 use Rattle.ipld_cid_text.proofs.Places.{digits-are, below-cons, below-drop}
 use Rattle.ipld_cid_text.proofs.Writing.{written_reads}
-use Rattle.dag_json.specs.LinkText.{base58, link_text}
+use Rattle.ipld_cid_text.specs.UsualText.{base58, usual_text}
 use Rattle.dag_json.specs.LinkRead.{value58, v0_of_number, if_written, v0_of, begins_b, cid_of}
-use Rattle.dag_json.proofs.LinkTexts.{text_v0, text_v1}
+use Rattle.ipld_cid_text.proofs.UsualTexts.{usual_v0, usual_v1}
 
 -- ---- digits of base58btc
 
@@ -76,9 +76,9 @@ is_v0 l v valid =
 abbrev number : Link → ℕ
 number l = number_from_digits 256 (0x12 ∷ 0x20 ∷ l.digest)
 
-text_is : (l : Link) → l.version ≡ V0 → IsV0 l → link_text l ≡ map (letter Base58Btc) (digits_of 58 (number l))
+text_is : (l : Link) → l.version ≡ V0 → IsV0 l → usual_text l ≡ map (letter Base58Btc) (digits_of 58 (number l))
 unfolding base58
-text_is l v is = text_v0 l v ∙ ap base58 is.bytes
+text_is l v is = usual_v0 l v ∙ ap base58 is.bytes
 
 digits_are : (l : Link) → IsV0 l → 0x12 ∷ 0x20 ∷ l.digest ≡ digits_of 256 (number l)
 digits_are l is = digits-are 256 (0x12 ∷ 0x20 ∷ l.digest) (lit≤ tt) is.below
@@ -93,12 +93,12 @@ same_link l v is =
 same_bytes : (xs : List ℕ) → bytes_eq xs xs ≡ true
 same_bytes xs = (bytes_eq-Decides xs xs).1 refl
 
-written_so : (l : Link) (s : List ℕ) → length l.digest ≡ 32 → s ≡ link_text l → if_written l s ≡ Some l
+written_so : (l : Link) (s : List ℕ) → length l.digest ≡ 32 → s ≡ usual_text l → if_written l s ≡ Some l
 written_so l s size e =
-    ap (λ (b : Bool). if b && bytes_eq (link_text l) s then Some l else None) (eq-eqb (length l.digest) 32 size)
-    ∙ ap (λ (b : Bool). if b then Some l else None) (ap (bytes_eq (link_text l)) e ∙ same_bytes (link_text l))
+    ap (λ (b : Bool). if b && bytes_eq (usual_text l) s then Some l else None) (eq-eqb (length l.digest) 32 size)
+    ∙ ap (λ (b : Bool). if b then Some l else None) (ap (bytes_eq (usual_text l)) e ∙ same_bytes (usual_text l))
 
-pub v0_read : (l : Link) (s : List ℕ) → l.version ≡ V0 → IsValid 64 l → s ≡ link_text l → v0_of s ≡ Some l
+pub v0_read : (l : Link) (s : List ℕ) → l.version ≡ V0 → IsValid 64 l → s ≡ usual_text l → v0_of s ≡ Some l
 unfolding v0_of
 v0_read l s v valid e =
     let is = is_v0 l v valid in
@@ -109,31 +109,31 @@ v0_read l s v valid e =
 
 record IsWritten (l : Link) (s : List ℕ) : Type 0 where
   size : length l.digest ≡ 32
-  text : s ≡ link_text l
+  text : s ≡ usual_text l
 
-if_written-some : (l m : Link) (s : List ℕ) (b c : Bool) → eqb (length l.digest) 32 ≡ b → bytes_eq (link_text l) s ≡ c → (if b && c then Some l else None) ≡ Some m → (l ≡ m) × IsWritten l s
+if_written-some : (l m : Link) (s : List ℕ) (b c : Bool) → eqb (length l.digest) 32 ≡ b → bytes_eq (usual_text l) s ≡ c → (if b && c then Some l else None) ≡ Some m → (l ≡ m) × IsWritten l s
 if_written-some l m s false c size text e = absurd cc
 if_written-some l m s true false size text e = absurd cc
-if_written-some l m s true true size text e = (cc, record { size = eqb-true (length l.digest) 32 size; text = sym ((bytes_eq-Decides (link_text l) s).0 text) })
+if_written-some l m s true true size text e = (cc, record { size = eqb-true (length l.digest) 32 size; text = sym ((bytes_eq-Decides (usual_text l) s).0 text) })
 
 pub record ReadV0 (l : Link) (s : List ℕ) : Type 0 where
   pub version : l.version ≡ V0
   pub valid : IsValid 64 l
-  pub text : s ≡ link_text l
+  pub text : s ≡ usual_text l
 
 pub v0_found : (l : Link) (s : List ℕ) → v0_of s ≡ Some l → ReadV0 l s
 unfolding v0_of
 v0_found l s e =
     let n = number_from_digits 58 (map value58 s) in
     let m = v0_of_number n in
-    let found = if_written-some m l s (eqb (length m.digest) 32) (bytes_eq (link_text m) s) refl refl e in
+    let found = if_written-some m l s (eqb (length m.digest) 32) (bytes_eq (usual_text m) s) refl refl e in
     let size = found.1.size in
     let below = below-drop 256 2 (digits_of 256 n) (lit< tt) (below_at 256 (digits_of 256 n) (lit< tt) (all_below_base_digits_of 256 n (lit≤ tt))) in
     subst (λ (k : Link). ReadV0 k s) found.0
     (record { version = refl; valid = (lit< tt, (lit< tt, omega (arith, size), below), (refl, (refl, size))); text = found.1.text })
 
 -- its text is that of the CID
-pub v0_text : (l : Link) (s : List ℕ) → l.version ≡ V0 → IsValid 64 l → s ≡ link_text l → IsText l s
+pub v0_text : (l : Link) (s : List ℕ) → l.version ≡ V0 → IsValid 64 l → s ≡ usual_text l → IsText l s
 v0_text l s v valid e =
     let is = is_v0 l v valid in
     let n = number l in
@@ -157,7 +157,7 @@ none_or s None e h = refl
 none_or s (Some l) e h = absurd (h l e)
 
 -- a text that is none
-pub no_v0 : (s : List ℕ) → ((l : Link) → l.version ≡ V0 → s ≡ link_text l → IsText l s → ⊥) → None ≡ v0_of s
+pub no_v0 : (s : List ℕ) → ((l : Link) → l.version ≡ V0 → s ≡ usual_text l → IsText l s → ⊥) → None ≡ v0_of s
 no_v0 s h = sym (none_or s (v0_of s) refl (λ l e. let is = v0_found l s e in h l is.version is.text (v0_text l s is.version is.valid is.text)))
 
 -- ---- either version
@@ -165,14 +165,14 @@ no_v0 s h = sym (none_or s (v0_of s) refl (λ l e. let is = v0_found l s e in h 
 -- a text is that of the CID that it is read as
 pub record ReadLink (l : Link) (s : List ℕ) : Type 0 where
   pub valid : IsValid 64 l
-  pub text : s ≡ link_text l
+  pub text : s ≡ usual_text l
 
 ok_from : (r : Result Link CidError) (l : Link) → result_ok r ≡ Some l → r ≡ Ok l
 ok_from (Ok x) l e = ap Ok cc
 ok_from (Err x) l e = absurd cc
 
 v1_found : (l : Link) (s : List ℕ) → reading.IsText 64 l s → ReadLink l s
-v1_found l s is = record { valid = encoded_is_valid 64 is.bytes l is.encoded; text = one_text 64 s l is ∙ sym (text_v1 l is.is_v1) }
+v1_found l s is = record { valid = encoded_is_valid 64 is.bytes l is.encoded; text = one_text 64 s l is ∙ sym (usual_v1 l is.is_v1) }
 
 pub link_found : (s : List ℕ) (l : Link) → cid_of s ≡ Some l → ReadLink l s
 unfolding cid_of
@@ -247,12 +247,12 @@ v1_cid : (l : Link) → l.version ≡ V1 → IsValid 64 l → cid_of (98 ∷ bas
 unfolding cid_of
 v1_cid l v valid = ap (λ (s : List ℕ). result_ok (read_text 64 s)) (sym (text_of_v1 l v)) ∙ ap result_ok (read_text-text_of 64 l (lit< tt) v valid)
 
-cid_by : (w : Version) (l : Link) → l.version ≡ w → IsValid 64 l → cid_of (link_text l) ≡ Some l
-cid_by V0 l v valid = v0_cid (link_text l) l v (v0_text l (link_text l) v valid refl) (v0_read l (link_text l) v valid refl)
-cid_by V1 l v valid = ap cid_of (text_v1 l v ∙ text_of_v1 l v) ∙ v1_cid l v valid
+cid_by : (w : Version) (l : Link) → l.version ≡ w → IsValid 64 l → cid_of (usual_text l) ≡ Some l
+cid_by V0 l v valid = v0_cid (usual_text l) l v (v0_text l (usual_text l) v valid refl) (v0_read l (usual_text l) v valid refl)
+cid_by V1 l v valid = ap cid_of (usual_v1 l v ∙ text_of_v1 l v) ∙ v1_cid l v valid
 
 -- the text of a CID is read as it
-pub link_read : (l : Link) → IsValid 64 l → cid_of (link_text l) ≡ Some l
+pub link_read : (l : Link) → IsValid 64 l → cid_of (usual_text l) ≡ Some l
 link_read l valid = cid_by l.version l refl valid
 
 -- a text that was compared to the one that is written

@@ -28,7 +28,7 @@ use Rattle.ipld_tree.specs.Tree.{Tree, null, boolean, integer, text, bytes, list
 use Rattle.ipld_tree.specs.Walk.{preorder, items_preorder, members_preorder}
 use Rattle.dag_json.specs.Encodes.{EncodesIn, EncodesItemsIn, EncodesMembersIn, EncodesTree, EncodesWithin, IsJson, JsonWithin}
 use Rattle.dag_json.specs.Form.{json_of, items_json, members_json, text_of}
-use Rattle.dag_json.specs.LinkText.{link_text}
+use Rattle.ipld_cid_text.specs.UsualText.{usual_text}
 use Rattle.dag_json.specs.Numbers.{integer_of, is_integral, number_or_error}
 use Rattle.dag_json.specs.Objects.{object_tree, bytes_or_error, link_or_error}
 use Rattle.dag_json.specs.Reserved.{is_reserved, any_reserved, has_reserved}
@@ -145,7 +145,7 @@ mutual
   encodes_written (entries ms) h w r =
       let parts = none_first (entries ms) (members_preorder ms) r in
       (ms, members_written ms no_members h w.1 w.0 (below-none (keys_in ms)) parts.1, map_is ms parts.0)
-  encodes_written (link l) h w r = (member (codes "/") (text (link_text l)) no_members, (text (link_text l), refl, refl, refl), ap link_or_error (link_read l h))
+  encodes_written (link l) h w r = (member (codes "/") (text (usual_text l)) no_members, (text (usual_text l), refl, refl, refl), ap link_or_error (link_read l h))
 
   items_written : (ts : Items) → AreTrees ts → AreWhole ts → any_reserved (items_preorder ts) ≡ false → EncodesItemsIn false (items_json ts) ts
   items_written no_items h w r = refl

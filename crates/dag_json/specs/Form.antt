@@ -7,7 +7,7 @@ use Rattle.ipld_tree.specs.Tree.{Tree, null, boolean, integer, text, bytes, list
 use Rattle.json.specs.Json as json
 use Rattle.json.specs.Print.{print}
 use Rattle.json.specs.Tree.{json_tokens}
-use Rattle.dag_json.specs.LinkText.{link_text}
+use Rattle.ipld_cid_text.specs.UsualText.{usual_text}
 
 -- an object of one member
 abbrev pub only : List ℕ → json.Json → json.Json
@@ -26,7 +26,7 @@ abbrev mutual
   json_of (bytes b) = only (codes "/") (only (codes "bytes") (json.string (encode_of standard_no_pad b)))
   json_of (list ts) = json.array (items_json ts)
   json_of (entries ms) = json.object (members_json ms)
-  json_of (link cid) = only (codes "/") (json.string (link_text cid))
+  json_of (link cid) = only (codes "/") (json.string (usual_text cid))
 
   pub items_json : Items → json.Items
   items_json no_items = json.no_items

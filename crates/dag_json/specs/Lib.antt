@@ -1,4 +1,3 @@
-pub mod LinkText
 pub mod LinkRead
 pub mod Numbers
 pub mod Floats

@@ -9,7 +9,7 @@ use Rattle.ipld_cid.specs.Cid.{Link}
 use Rattle.ipld_cid.specs.TextReading.{read_text}
 use Rattle.ipld_cid_text.specs.declared.base.Base.TheVariants.{Base58Btc}
 use Rattle.ipld_cid_text.specs.Base.{alphabet}
-use Rattle.dag_json.specs.LinkText.{link_text}
+use Rattle.ipld_cid_text.specs.UsualText.{usual_text}
 
 -- the digit that a letter of base58btc stands for
 abbrev pub value58 : ℕ → ℕ
@@ -21,7 +21,7 @@ v0_of_number n = record { version = V0; codec = 0x70; code = 0x12; digest = drop
 
 -- the CID, where it has 32 bytes of a digest and is written as the text
 abbrev pub if_written : Link → List ℕ → Option Link
-if_written link text = if length link.digest == 32 && bytes_eq (link_text link) text then Some link else None
+if_written link text = if length link.digest == 32 && bytes_eq (usual_text link) text then Some link else None
 
 -- of version 0: the text of a CID is its number in base58btc
 unfoldable pub v0_of : List ℕ → Option Link

@@ -10,7 +10,6 @@ ghost use Rattle.ipld_tree.specs.TreeOf.{tree_of, items_of, members_of};
 ghost use Rattle.ipld_tree.specs.Walk.{preorder};
 ghost use Rattle.json.specs.Token.{number};
 ghost use Rattle.json.specs.Tree.{json_tokens};
-ghost use Rattle.dag_json.specs.LinkText.{link_text};
 ghost use Rattle.dag_json.specs.Form.{json_of, text_of};
 ghost use Rattle.dag_json.specs.Written.{written, IsReserved};
 ghost use Rattle.dag_json.specs.Reserved.{has_reserved, any_reserved, first_reserved, Counts};
@@ -19,8 +18,8 @@ ghost use Rattle.dag_json.specs.Cursors.{Wrote, Advances, Opens, StepOf, trees_l
 use crate::error::DagJsonError;
 use crate::reserved::{find_reserved, is_reserved};
 use base64::engine::general_purpose::STANDARD_NO_PAD;
-use ipld_cid::{Cid, Version};
-use ipld_cid_text::{Base, ToStringError, to_string_of_base};
+use ipld_cid::Cid;
+use ipld_cid_text::usual_text;
 use ipld_tree::Ipld;
 use json::Writer;
 use std::alloc::{AllocError, Global};
@@ -84,26 +83,12 @@ fn advance<'a>(
     }
 }
 
-// The text of a CID.
-pub(crate) fn text_of_link(alloc: Global, cid: &Cid) -> Result<String, AllocError>
-    ensures { IfOk result (λ text. string_bytes text ≡ link_text (link_of cid.now)) }
-{
-    match cid.version() {
-        Version::V0 => match to_string_of_base(alloc, cid, Base::Base58Btc) {
-            Ok(text) => Ok(text),
-            Err(ToStringError::Memory) => Err(AllocError),
-            Err(ToStringError::InvalidCidV0Base) => unreachable!(),
-        },
-        Version::V1 => cid.to_text(alloc),
-    }
-}
-
 // Writes a link.
 #[inline(never)]
 fn write_link(alloc: Global, writer: &mut Writer, cid: &Cid) -> Result<(), AllocError>
     ensures { OnOk result (Wrote writer.old writer.new (json_tokens (json_of (tree.link (link_of cid.now))))) }
 {
-    let text = text_of_link(alloc, cid)?;
+    let text = usual_text(alloc, cid)?;
     writer.begin_object()?;
     writer.key("/")?;
     writer.string(&text)?;

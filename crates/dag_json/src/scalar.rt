@@ -10,13 +10,12 @@ ghost use Rattle.dag_json.specs.Numbers.{is_integral, number_read};
 ghost use Rattle.dag_json.specs.Objects.{only_tree, reserved_bytes, reserved_value, object_tree, bytes_or_error, link_or_error};
 ghost use Rattle.dag_json.specs.ReadContract.{Makes};
 
-use crate::encode::text_of_link;
 use crate::read_error::ReadErrorKind;
 use crate::reserved::is_reserved;
 use base64::DecodeAllocError;
 use base64::engine::general_purpose::STANDARD_NO_PAD;
 use ipld_cid::{Cid, Version};
-use ipld_cid_text::parse_any;
+use ipld_cid_text::{parse_any, usual_text};
 use ipld_tree::Ipld;
 use std::alloc::{AllocError, Global};
 use std::collections::BTreeMap;
@@ -51,7 +50,7 @@ fn read_v0(alloc: Global, text: &str) -> Result<Option<Cid>, AllocError>
     };
     match cid.version() {
         Version::V0 => {
-            let written = text_of_link(alloc, &cid)?;
+            let written = usual_text(alloc, &cid)?;
             if written.as_str() == text {
                 Ok(Some(cid))
             } else {

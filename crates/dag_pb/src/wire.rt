@@ -13,7 +13,8 @@ fn overflows(place: usize, byte: u8) -> bool
     place == 9 && byte > 1
 }
 
-// The varint at the front, and the bytes after it.
+// The varint at the front, and the bytes after it. It isn't that of `ipld_cid`: a varint of Protocol Buffers may have more bytes than
+// its number needs.
 #[inline(always)]
 pub(crate) fn read_varint(bytes: &[u8]) -> Result<(u64, &[u8]), PbErrorKind>
     ensures exact { MatchResult result

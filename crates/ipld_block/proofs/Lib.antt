@@ -1,2 +1,1 @@
 mod Faults
-pub mod UsualTexts

@@ -1,25 +1,8 @@
 -- The texts of CIDs as people know them.
-use Rattle.std.specs.Prelude.{ℕ, List, [], ◌∷◌, ◌++◌, map, replicate}
-use Rattle.std.specs.Int.Digits.{digits_of, number_from_digits}
+use Rattle.std.specs.Prelude.{ℕ, List, [], ◌∷◌, ◌++◌}
 use Rattle.std.specs.List.{flat_map}
-use Rattle.ipld_cid.specs.declared.cid.Version.TheVariants.{V0, V1}
-use Rattle.ipld_cid.specs.Bytes.{bytes_of}
 use Rattle.ipld_cid.specs.Cid.{Link}
-use Rattle.ipld_cid.specs.Text.{text_of}
-use Rattle.ipld_cid_text.specs.declared.base.Base.TheVariants.{Base58Btc}
-use Rattle.ipld_cid_text.specs.Base.{letter}
-use Rattle.ipld_cid_text.specs.Digits.{leading_zeros}
-
--- bytes in base58btc: the digits of the number that they are, behind a zero for each zero byte in front
-unfoldable pub base58 : List ℕ → List ℕ
-base58 bytes = map (letter Base58Btc) (replicate (leading_zeros bytes) 0 ++ digits_of 58 (number_from_digits 256 bytes))
-
--- the text of a CID as people know it: of version 0 in base58btc, of version 1 the printed text
-unfoldable pub usual_text : Link → List ℕ
-usual_text link = elim link.version [
-  | V0 ↦ base58 (bytes_of link)
-  | V1 ↦ text_of link
-]
+pub use Rattle.ipld_cid_text.specs.UsualText.{usual_text}
 
 -- the texts of CIDs, a line each
 abbrev pub lines_of : List Link → List ℕ

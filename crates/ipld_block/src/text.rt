@@ -3,11 +3,12 @@
 ghost use Rattle.std.specs.Prelude.{◌≡◌, ◌<◌, map, OnOk};
 ghost use Rattle.std.specs.Io.KnownBytes.{Appends};
 ghost use Rattle.ipld_cid.specs.LinkOf.{link_of};
-ghost use Rattle.ipld_block.specs.Texts.{usual_text, lines_of};
+ghost use Rattle.ipld_block.specs.Texts.{lines_of};
+ghost use Rattle.ipld_cid_text.specs.UsualText.{usual_text};
 
 use ipld_cid::{Cid, Version};
-use ipld_cid_text::{Base, ToStringError, to_string_of_base};
-use std::alloc::Global;
+use ipld_cid_text::usual_text;
+use std::alloc::{AllocError, Global};
 use std::io::{self, ErrorKind, Write};
 
 /// Writes the text of a CID as people know it: base32 of version 1, and base58 of version 0. That of version 0 is allocated.
@@ -15,18 +16,17 @@ use std::io::{self, ErrorKind, Write};
 /// # Errors
 ///
 /// That of the writer, and `OutOfMemory` where the allocation failed.
-#[tactic(auto, using(crate::proofs::UsualTexts::printed, crate::proofs::UsualTexts::in_base58))]
+#[tactic(auto, using(ipld_cid_text::proofs::UsualTexts::usual_v1))]
 pub fn write_cid<W: Write>(alloc: Global, writer: &mut W, cid: &Cid) -> io::Result<()>
     ensures { OnOk result (Appends (W.contents writer.old) (W.contents writer.new) (usual_text (link_of cid.now))) }
 {
     match cid.version() {
-        Version::V0 => match to_string_of_base(alloc, cid, Base::Base58Btc) {
+        Version::V0 => match usual_text(alloc, cid) {
             Ok(text) => {
                 writer.write_all(text.as_bytes())?;
                 Ok(())
             }
-            Err(ToStringError::Memory) => Err(io::Error::from(ErrorKind::OutOfMemory)),
-            Err(ToStringError::InvalidCidV0Base) => unreachable!(),
+            Err(AllocError) => Err(io::Error::from(ErrorKind::OutOfMemory)),
         },
         Version::V1 => {
             write!(writer, "{cid}")?;

@@ -12,7 +12,7 @@ use crate::error::CarWriteError;
 use crate::header::header_of;
 use crate::write_all::write_all;
 use dag_cbor::DagCborCodec;
-use ipld_cid::Cid;
+use ipld_cid::{ByteBuffer, Cid};
 use ipld_codec::Codec;
 use std::alloc::{AllocError, Global};
 use std::io::{ErrorKind, Write};
@@ -26,17 +26,12 @@ pub struct CarWriter<W> {
 }
 
 // Appends a varint.
-#[tactic(auto, using(ipld_cid::proofs::VarintWriting::starts, ipld_cid::proofs::VarintWriting::goes_on, ipld_cid::proofs::VarintWriting::ends, ipld_cid::proofs::VarintWriting::group_written))]
 fn push_varint(bytes: &mut Vec<u8>, number: u64) -> Result<(), AllocError>
     ensures { OnOk result (bytes.new.items ≡ bytes.old.items ++ varint_of number) }
 {
-    let mut rest = number;
-    while rest >= 0x80 {
-        bytes.push((rest & 0x7f) as u8 | 0x80)?;
-        rest >>= 7;
-    }
-    bytes.push(rest as u8)?;
-    Ok(())
+    let mut varint = ByteBuffer::<10>::new();
+    varint.push_varint(number);
+    bytes.extend_from_slice(varint.as_slice())
 }
 
 // The bytes of the header with these roots.

@@ -1,8 +1,9 @@
 -- Bits in groups of five.
-use Rattle.std.proofs.Common.{◌≡◌, ℕ, zero, suc, ◌+◌, ◌*◌, ◌/◌, ◌%◌, ◌^◌, ◌<◌, ◌≤◌, List, [], ◌∷◌, ◌++◌, length, refl, sym, ap, ◌∙◌, arith, pow-suc, add-zero, true, ltb}
+use Rattle.std.proofs.Common.{◌≡◌, ℕ, zero, suc, ◌+◌, ◌*◌, ◌/◌, ◌%◌, ◌^◌, ◌<◌, ◌≤◌, ◌-◌, ◌⊎◌, inl, inr, List, [], ◌∷◌, ◌++◌, length, refl, sym, ap, ◌∙◌, append_assoc, arith, pow-suc, add-zero, true, ltb}
 use Rattle.std.proofs.lemmas.Nat.{shr-shr, pow_pos}
 use Rattle.std.proofs.Math.Nat.{mul-add-div_right}
 use Rattle.std.specs.Prelude.{map, take, drop, replicate}
+use Rattle.std.proofs.lemmas.List.{append-nil, drop-drop, length-drop, length-take, take-append-drop}
 use Rattle.std.specs.List.{flat_map, list_all}
 use Rattle.std.specs.Str.{IsAscii}
 use Rattle.std.proofs.lemmas.Str.Ascii.{IsAscii-nil, IsAscii-cons}
@@ -71,18 +72,40 @@ base32-block n a b c d e fits_b fits_c fits_d fits_e is =
     ap (λ (bs : List ℕ). map letter (quintets bs)) (sym (bits-block a b c d e fits_b fits_c fits_d fits_e) ∙ ap (bits 40) (sym is))
     ∙ ap (map letter) (quintets-block n)
 
--- the letters of blocks of five bytes, and then those of the rest
-pub base32-blocks : (k : ℕ) (xs : List ℕ) → k * 5 ≤ length xs → base32 xs ≡ flat_map base32 (first_chunks 5 k xs) ++ base32 (drop (k * 5) xs)
+-- whole blocks of five bytes, and then others
+base32-append_blocks : (front rest : List ℕ) → length front % 5 ≡ 0 → base32 (front ++ rest) ≡ base32 front ++ base32 rest
 unfolding base32
-base32-blocks zero xs h = refl
-base32-blocks (suc k) (a ∷ b ∷ c ∷ d ∷ e ∷ xs) h =
-    let more : suc k * 5 ≡ suc (suc (suc (suc (suc (k * 5))))) = omega arith in
-    rw more (ap (λ (letters : List ℕ). base32 (a ∷ b ∷ c ∷ d ∷ e ∷ []) ++ letters) (base32-blocks k xs (omega arith)))
-base32-blocks (suc k) [] h = absurd (omega arith)
-base32-blocks (suc k) (a ∷ []) h = absurd (omega arith)
-base32-blocks (suc k) (a ∷ b ∷ []) h = absurd (omega arith)
-base32-blocks (suc k) (a ∷ b ∷ c ∷ []) h = absurd (omega arith)
-base32-blocks (suc k) (a ∷ b ∷ c ∷ d ∷ []) h = absurd (omega arith)
+base32-append_blocks [] rest h = refl
+base32-append_blocks (a ∷ b ∷ c ∷ d ∷ e ∷ front) rest h =
+    ap (λ (letters : List ℕ). base32 (a ∷ b ∷ c ∷ d ∷ e ∷ []) ++ letters) (base32-append_blocks front rest (omega arith))
+base32-append_blocks (a ∷ []) rest h = absurd (omega arith)
+base32-append_blocks (a ∷ b ∷ []) rest h = absurd (omega arith)
+base32-append_blocks (a ∷ b ∷ c ∷ []) rest h = absurd (omega arith)
+base32-append_blocks (a ∷ b ∷ c ∷ d ∷ []) rest h = absurd (omega arith)
+
+nothing_more : (front rest : List ℕ) → rest ≡ [] → base32 (front ++ rest) ≡ base32 front ++ base32 rest
+unfolding base32
+nothing_more front rest none =
+    ap (λ (bytes : List ℕ). base32 (front ++ bytes)) none ∙ ap base32 (append-nil front) ∙ sym (append-nil (base32 front)) ∙ ap (λ (bytes : List ℕ). base32 front ++ base32 bytes) (sym none)
+
+pub base32-append : (front rest : List ℕ) → (length front % 5 ≡ 0) ⊎ (rest ≡ []) → base32 (front ++ rest) ≡ base32 front ++ base32 rest
+base32-append front rest even = elim even [
+  | inl whole ↦ base32-append_blocks front rest whole
+  | inr none ↦ nothing_more front rest none
+]
+
+-- the letters of pieces of whole blocks, and then those of the rest
+pub base32-pieces : (w k : ℕ) (xs : List ℕ) → w % 5 ≡ 0 → k * w ≤ length xs → base32 xs ≡ flat_map base32 (first_chunks w k xs) ++ base32 (drop (k * w) xs)
+base32-pieces w zero xs even h = let none : 0 * w ≡ 0 = omega arith in ap (λ (n : ℕ). base32 (drop n xs)) (sym none)
+base32-pieces w (suc k) xs even h =
+    let more : suc k * w ≡ w + k * w = omega arith in
+    let left : length (drop w xs) ≡ length xs - w = length-drop w xs in
+    let front : length (take w xs) ≡ w = omega (arith, length-take w xs, h, more) in
+    ap base32 (sym (take-append-drop w xs))
+    ∙ base32-append_blocks (take w xs) (drop w xs) (ap (λ (n : ℕ). n % 5) front ∙ even)
+    ∙ ap (λ (letters : List ℕ). base32 (take w xs) ++ letters) (base32-pieces w k (drop w xs) even (omega (arith, h, more, left)))
+    ∙ sym (append_assoc (base32 (take w xs)) (flat_map base32 (first_chunks w k (drop w xs))) (base32 (drop (k * w) (drop w xs))))
+    ∙ ap (λ (rest : List ℕ). flat_map base32 (first_chunks w (suc k) xs) ++ base32 rest) (drop-drop (k * w) w xs ∙ ap (λ (n : ℕ). drop n xs) (sym more))
 
 -- the letters of fewer than five bytes are the first of those of a block that zeros fill
 pub base32-last : (xs : List ℕ) → length xs < 5 → take ((8 * length xs + 4) / 5) (base32 (xs ++ drop (length xs) (replicate 5 0))) ≡ base32 xs

@@ -1,19 +1,19 @@
 -- How long the bytes and the text of a CID are at most, and what reading a text without memory returns.
 use Rattle.std.proofs.Common.{◌≡◌, ℕ, zero, suc, ◌*◌, ◌/◌, ◌≤◌, ◌<◌, List, [], ◌∷◌, ◌++◌, length, Result, Ok, Err, inl, inr, refl, sym, ap, ◌∙◌, arith}
-use Rattle.std.specs.Prelude.{replicate, MatchResult, IfOk, IsOkAnd}
+use Rattle.std.specs.Prelude.{MatchResult, IfOk, IsOkAnd}
 use Rattle.std.proofs.lemmas.Bool.{cases_lt, lt-ltb, le-ltb}
-use Rattle.std.proofs.lemmas.List.{length-append, length-map, length-replicate}
+use Rattle.std.proofs.lemmas.List.{length-append}
 use Rattle.ipld_cid.specs.declared.cid.CidGeneric.{CidGeneric}
 use Rattle.ipld_cid.specs.declared.error.CidError.{CidError}
 use Rattle.ipld_cid.specs.Varint.{groups_of, varint_of}
 use Rattle.ipld_cid.specs.Cid.{Link}
 use Rattle.ipld_cid.specs.LinkOf.{link_of}
 use Rattle.ipld_cid.specs.Bytes.{IsCid}
-use Rattle.ipld_cid.specs.Base32.{byte_bits, letter}
+use Rattle.ipld_cid.specs.Base32.{byte_bits}
 use Rattle.ipld_cid.specs.ReadsText.{ReadsText}
 use Rattle.ipld_cid.specs.TextReading.{IsText, read_text}
 use Rattle.ipld_cid.proofs.Encodings.{v1_encoded}
-use Rattle.ipld_cid.proofs.TextReadings.{text_is_encoded, text_is_read, length-groups}
+use Rattle.ipld_cid.proofs.TextReadings.{text_is_encoded, text_is_read}
 
 -- at most so many groups
 groups_few : (more n : ℕ) → length (groups_of more n) ≤ suc more
@@ -55,22 +55,6 @@ cid_short bytes link (inr cid) =
 pub length-byte_bits : (bytes : List ℕ) → length (byte_bits bytes) ≡ 8 * length bytes
 length-byte_bits [] = refl
 length-byte_bits (b ∷ bytes) = let others = length-byte_bits bytes in omega arith
-
--- the text of a CID with a digest of at most 64 bytes
-pub text_short : (link : Link) (text : List ℕ) → IsText 64 link text → length text ≤ 155
-text_short link text is =
-    omega (
-      arith,
-      ap length is.letters,
-      length-map is.groups letter,
-      length-groups is.groups,
-      ap length is.joined,
-      length-append (byte_bits is.bytes) (replicate is.fill 0),
-      length-byte_bits is.bytes,
-      length-replicate {A = ℕ} is.fill 0,
-      is.short,
-      cid_short is.bytes link is.encoded,
-    )
 
 same_link : (a b : Link) → ◌≡◌ {A = Result Link CidError} (Ok a) (Ok b) → a ≡ b
 same_link a b e = cc

@@ -1,11 +1,10 @@
 //! Base32 in lower case and without padding.
 
-ghost use Rattle.std.specs.Prelude.{◌≡◌, ◌≤◌, ◌<◌, ◌+◌, ◌*◌, ◌/◌, ◌%◌, ◌++◌, length, take, OnOk, IsAscii};
+ghost use Rattle.std.specs.Prelude.{◌≡◌, ◌≤◌, ◌<◌, ◌+◌, ◌*◌, ◌/◌, ◌%◌, ◌++◌, length, take, IsAscii};
 ghost use Rattle.std.specs.Fmt.{WritesOnOk};
 ghost use Rattle.ipld_cid.specs.Base32 as encoded;
 
 use crate::byte_buffer::ByteBuffer;
-use std::alloc::AllocError;
 use std::{fmt, str};
 
 const ALPHABET: &[u8; 32] = b"abcdefghijklmnopqrstuvwxyz234567";
@@ -67,18 +66,6 @@ fn last_letters(bytes: &[u8]) -> ([u8; 8], usize)
     (letters_of(&block), (8 * bytes.len()).div_ceil(5))
 }
 
-// Writes the letters of the bytes at the end.
-pub(crate) fn push_base32(text: &mut Vec<u8>, bytes: &[u8]) -> Result<(), AllocError>
-    ensures { OnOk result (text.new.items ≡ text.old.items ++ encoded.base32 bytes.now) }
-{
-    let (blocks, rest) = bytes.as_chunks::<5>();
-    for block in blocks {
-        text.extend_from_slice(&letters_of(block))?;
-    }
-    let (letters, count) = last_letters(rest);
-    text.extend_from_slice(&letters[..count])
-}
-
 // The letters as text.
 #[inline(always)]
 pub(crate) fn as_text(letters: &[u8]) -> &str
@@ -91,16 +78,26 @@ pub(crate) fn as_text(letters: &[u8]) -> &str
     text
 }
 
+// Writes the letters of at most 60 bytes at once.
+#[inline(always)]
+fn write_piece<W: fmt::Write>(f: &mut fmt::Formatter<W>, bytes: &[u8]) -> fmt::Result
+    requires { length bytes.now ≤ 60 }
+    ensures { WritesOnOk W.write_str_gives f.old result (encoded.base32 bytes.now) f.new }
+{
+    let mut letters = ByteBuffer::<96>::new();
+    letters.push_base32(bytes);
+    f.write_str(as_text(letters.as_slice()))
+}
+
 // Writes the letters of the bytes.
 pub(crate) fn write_base32<W: fmt::Write>(f: &mut fmt::Formatter<W>, bytes: &[u8]) -> fmt::Result
     ensures { WritesOnOk W.write_str_gives f.old result (encoded.base32 bytes.now) f.new }
 {
-    let (blocks, rest) = bytes.as_chunks::<5>();
-    for block in blocks {
-        f.write_str(as_text(&letters_of(block)))?;
+    let (pieces, rest) = bytes.as_chunks::<60>();
+    for piece in pieces {
+        write_piece(f, piece)?;
     }
-    let (letters, count) = last_letters(rest);
-    f.write_str(as_text(&letters[..count]))
+    write_piece(f, rest)
 }
 
 impl<const CAPACITY: usize> ByteBuffer<CAPACITY> {

@@ -41,9 +41,9 @@ pub(crate) fn read_varint(bytes: &[u8]) -> Result<(u64, &[u8]), CidError>
 }
 
 impl<const CAPACITY: usize> ByteBuffer<CAPACITY> {
-    // The bytes of a varint more.
+    /// Adds the unsigned varint of this number (multiformats unsigned-varint), of at most ten bytes.
     #[inline(always)]
-    pub(crate) fn push_varint(&mut self, number: u64)
+    pub fn push_varint(&mut self, number: u64)
         requires { length self.old + 10 ≤ CAPACITY }
         ensures written { self.new ≡ self.old ++ varint.varint_of number }
         ensures short { length self.new ≤ length self.old + 10 }

@@ -112,12 +112,3 @@ pub one_bytes : (base : Base) (xs ys letters : List ℕ) → Encodes base xs let
 one_bytes base xs ys letters a b =
     let same : a.digits ≡ b.digits = one_digits base letters b.digits (record { below = encoded_below base ys b.digits b.encoded; letters_are = b.letters_are }) xs a in
     one_encoded base xs ys b.digits (subst (λ (ds : List ℕ). IsEncoded base xs ds) same a.encoded) b.encoded
-
--- the bytes are bytes
-pub encoded_bytes : (base : Base) (bytes digits : List ℕ) → IsEncoded base bytes digits → IsBelow 256 bytes
-encoded_bytes Base16Lower bytes digits e = e.digits
-encoded_bytes Base32Lower bytes digits e = e.digits
-encoded_bytes Base32Upper bytes digits e = e.digits
-encoded_bytes Base36Lower bytes digits e = e.below
-encoded_bytes Base58Btc bytes digits e = e.below
-encoded_bytes Base64Url bytes digits e = e.digits

@@ -2,8 +2,9 @@ pub mod Multiplying
 pub mod Places
 pub mod Converting
 pub mod Regrouping
-pub mod EightLetters
 pub mod Tables
 pub mod Lettering
 pub mod Reading
 pub mod Writing
+pub mod Base32Texts
+pub mod UsualTexts

@@ -191,7 +191,7 @@ length-cid bytes link is = rw (one_encoding 64 bytes link is) (length-bytes_of l
 
 -- ---- one CID, and no error beside it
 
-pub length-letters : (base : Base) (bytes letters : List ℕ) (link : Link) → Encodes base bytes letters → IsCid 64 bytes link → length letters ≤ 190
+length-letters : (base : Base) (bytes letters : List ℕ) (link : Link) → Encodes base bytes letters → IsCid 64 bytes link → length letters ≤ 190
 length-letters base bytes letters link e is =
     let len : length letters ≡ length e.digits = ap length e.letters_are ∙ length-map e.digits (letter base) in
     omega (arith, len, few_digits base bytes e.digits e.encoded, length-cid bytes link is)

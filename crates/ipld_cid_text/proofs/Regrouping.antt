@@ -20,9 +20,6 @@ pub record Regroups (from to : ℕ) (items : List ℕ) (i : ℕ) (groups : List 
   pub below : IsBelow (2 ^ to) groups
   pub joined : flat_map (bits from) (take i items) ≡ flat_map (bits to) groups ++ bits count rest
 
-pub regroups_none : (from to : ℕ) (items : List ℕ) → Regroups from to items 0 [] 0 0
-regroups_none from to items = record { size = omega arith; small = omega arith; below = λ i. pow_pos to; joined = refl }
-
 -- an item more
 pub regroups_item : (from to : ℕ) (items : List ℕ) (i : ℕ) (groups : List ℕ) (rest count : ℕ) → Regroups from to items i groups rest count → i < length items → IsBelow (2 ^ from) items
     → Regroups from to items (i + 1) groups (rest * 2 ^ from + get_or items i 0) (count + from)
@@ -154,16 +151,6 @@ grouped_filled w bytes groups news rest count are narrow below some few small jo
           ∙ sym (append_assoc (flat_map (bits w) groups) (bits count rest) (replicate (w - count) 0))
           ∙ ap (λ (bs : List ℕ). bs ++ replicate (w - count) 0) (sym joined);
     }
-
-pub grouped_whole : (w : ℕ) (bytes groups : List ℕ) (rest count : ℕ) → IsBytes bytes → IsBelow (2 ^ w) groups → 0 < w → count ≡ 0
-    → flat_map (bits 8) bytes ≡ flat_map (bits w) groups ++ bits count rest → IsGrouped w bytes groups
-grouped_whole w bytes groups rest count are below some none joined = record {
-  digits = are;
-  below = below;
-  fill = 0;
-  short = some;
-  joined = sym (append-nil (flat_map (bits w) groups)) ∙ sym (joined ∙ ap (λ (k : ℕ). flat_map (bits w) groups ++ bits k rest) none) ∙ sym (append-nil (byte_bits bytes));
-}
 
 -- ---- groups in bytes
 

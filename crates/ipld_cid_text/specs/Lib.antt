@@ -4,3 +4,4 @@ pub mod Base
 pub mod Encodes
 pub mod Text
 pub mod Error
+pub mod UsualText

@@ -1,12 +1,11 @@
 //! Bytes as digits of a base, digits as letters, and back.
 
-ghost use Rattle.std.specs.Prelude.{◌≡◌, ◌≤◌, ◌<◌, length, take, IfSome, MatchResult};
+ghost use Rattle.std.specs.Prelude.{◌≤◌, length, MatchResult};
 ghost use Rattle.ipld_cid_text.specs.Base.{size};
 ghost use Rattle.ipld_cid_text.specs.Digits.{IsBelow};
-ghost use Rattle.ipld_cid_text.specs.Encodes.{Encodes, IsEncoded, IsUnencoded, AreDigits, IsFirstOther};
+ghost use Rattle.ipld_cid_text.specs.Encodes.{IsEncoded, IsUnencoded, AreDigits, IsFirstOther};
 
 use crate::base::Base;
-use crate::blocks::read_groups;
 use crate::convert::convert_base;
 use crate::digits::Digits;
 use crate::error::TextError;
@@ -40,23 +39,6 @@ pub(crate) fn decode_digits(base: Base, digits: &[u8]) -> Result<Digits, TextErr
         Base::Base36Lower => Ok(convert_base::<36, 6, 4294967296, 256, 4>(digits)),
         Base::Base58Btc => Ok(convert_base::<58, 5, 4294967296, 256, 4>(digits)),
         Base::Base64Url => bytes_of_groups::<6>(digits),
-    }
-}
-
-// Writes the bytes that letters of a base of groups of bits encode, and returns how many they are. `None` where the base is another,
-// and where the letters encode none.
-#[inline(always)]
-pub(crate) fn decode_groups(base: Base, letters: &[u8], bytes: &mut [u8; 192]) -> Option<usize>
-    requires { length letters.now ≤ 184 }
-    ensures { IfSome result (λ len. (len ≤ 192) × Encodes base (take len bytes.new) letters.now) }
-{
-    match base {
-        Base::Base16Lower => read_groups::<16, 4>(base, letters, bytes),
-        Base::Base32Lower => read_groups::<32, 5>(base, letters, bytes),
-        Base::Base32Upper => read_groups::<32, 5>(base, letters, bytes),
-        Base::Base36Lower => None,
-        Base::Base58Btc => None,
-        Base::Base64Url => read_groups::<64, 6>(base, letters, bytes),
     }
 }
 

@@ -11,7 +11,6 @@
 #![tactic(auto)]
 
 mod base;
-mod blocks;
 mod convert;
 mod digits;
 mod encode;
@@ -26,4 +25,4 @@ mod write;
 pub use base::Base;
 pub use error::{TextError, ToStringError};
 pub use parse::parse_any;
-pub use write::to_string_of_base;
+pub use write::{to_string_of_base, usual_text};

@@ -1,6 +1,6 @@
 //! Content identifiers from any of their texts.
 
-ghost use Rattle.std.specs.Prelude.{◌≡◌, ◌≤◌, ◌<◌, ◌+◌, ℕ, List, Some, None, Err, length, drop, MatchResult, MatchOption, IfOk, IfErr, IfSome, IsOkAnd};
+ghost use Rattle.std.specs.Prelude.{◌≡◌, ◌≤◌, ◌<◌, ◌+◌, ℕ, List, Some, None, Err, length, drop, MatchResult, MatchOption, IfOk, IfErr, IsOkAnd};
 ghost use Rattle.ipld_cid.specs.Cid.{Link};
 ghost use Rattle.ipld_cid.specs.Bytes.{IsCid};
 ghost use Rattle.ipld_cid.specs.LinkOf.{link_of};
@@ -8,15 +8,12 @@ ghost use Rattle.ipld_cid_text.specs.Encodes.{Encodes};
 ghost use Rattle.ipld_cid_text.specs.Text as texts;
 
 use crate::base::Base;
-use crate::encode::{decode_digits, decode_groups, digits_of_letters};
+use crate::encode::{decode_digits, digits_of_letters};
 use crate::error::TextError;
 use ipld_cid::{Cid, Version};
 
 // More letters than these encode more bytes than any CID has.
 const MOST: usize = 190;
-
-// So many letters are read eight at a time; no CID has more.
-const FAST: usize = 184;
 
 // How many characters stand before the CID.
 #[inline(always)]
@@ -58,9 +55,8 @@ fn form_of(text: &[u8]) -> Option<(Base, Version, usize)>
     Some((base, Version::V1, 1))
 }
 
-// The CID whose bytes the letters encode, which stand from `place` on in the text, and if they don't, why.
-#[inline(never)]
-fn explain_letters(
+// The CID whose bytes the letters encode, which are at `place` and after it in the text.
+fn read_letters(
     base: Base,
     version: Version,
     place: usize,
@@ -95,45 +91,7 @@ fn explain_letters(
     }
 }
 
-// The CID whose bytes the letters encode, where the base is one of groups of bits and they encode one.
-#[inline(always)]
-fn try_read_letters(base: Base, version: Version, letters: &[u8]) -> Option<Cid>
-    ensures found { IfSome result (λ cid. ((link_of cid).version ≡ version) × (bytes : List ℕ) × Encodes base bytes letters.now × IsCid 64 bytes (link_of cid)) }
-    ensures few { IfSome result (λ _. length letters.now ≤ 190) }
-{
-    if letters.len() > FAST {
-        return None;
-    }
-    let mut bytes = [0; 192];
-    let len = decode_groups(base, letters, &mut bytes)?;
-    match Cid::try_from(&bytes[..len]) {
-        Ok(cid) if cid.version() == version => Some(cid),
-        _ => None,
-    }
-}
-
-// The CID whose bytes the letters encode, which stand from `place` on in the text.
-#[inline(always)]
-fn read_letters(
-    base: Base,
-    version: Version,
-    place: usize,
-    letters: &[u8],
-) -> Result<Cid, TextError>
-    requires { place ≤ 7 }
-    ensures why { MatchResult result
-        (λ cid. ((link_of cid).version ≡ version) × (bytes : List ℕ) × Encodes base bytes letters.now × IsCid 64 bytes (link_of cid))
-        (λ error. texts.IsLettersError base version place letters.now error) }
-    ensures long { 190 < length letters.now → result ≡ Err TextError.InvalidLength }
-{
-    match try_read_letters(base, version, letters) {
-        Some(cid) => Ok(cid),
-        None => explain_letters(base, version, place, letters),
-    }
-}
-
-// The CID of a text.
-#[inline(always)]
+// The CID of a text, in any base.
 fn read_text(text: &[u8]) -> Result<Cid, TextError>
     ensures why { MatchResult result (λ cid. texts.IsText (link_of cid) text.now) (λ error. texts.IsTextError text.now error) }
     ensures long { texts.IsTooLong text.now → result ≡ Err TextError.InvalidLength }
@@ -165,5 +123,9 @@ pub fn parse_any(text: &str) -> Result<Cid, TextError>
     ensures error { IfErr result (λ error. texts.IsTextError text.now error) }
     ensures long { texts.IsTooLong text.now → result ≡ Err TextError.InvalidLength }
 {
-    read_text(text.as_bytes())
+    // Most texts are in base32, which `ipld_cid` reads eight letters at a time.
+    match Cid::try_from(text) {
+        Ok(cid) => Ok(cid),
+        Err(_) => read_text(text.as_bytes()),
+    }
 }

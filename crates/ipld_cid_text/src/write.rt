@@ -8,6 +8,7 @@ ghost use Rattle.ipld_cid_text.specs.Base.{letter, prefix, size};
 ghost use Rattle.ipld_cid_text.specs.Digits.{IsBelow};
 ghost use Rattle.ipld_cid_text.specs.Encodes.{Encodes};
 ghost use Rattle.ipld_cid_text.specs.Text.{IsTextIn, IsText, IsPrefixed};
+ghost use Rattle.ipld_cid_text.specs.UsualText.{usual_text};
 
 use crate::base::Base;
 use crate::encode::encode_digits;
@@ -93,4 +94,21 @@ pub fn to_string_of_base(alloc: Global, cid: &Cid, base: Base) -> Result<String,
     ensures round_trip { IfOk result (λ text. IsText (link_of cid.now) (string_bytes text)) }
 {
     write_text(alloc, cid, base)
+}
+
+/// Returns the text of a CID as people know it: of version 1 the multibase prefix `b` and base32, of version 0 base58btc.
+///
+/// [`parse_any`](crate::parse_any) reads it as that CID. Allocates once, at most the text's length and a few characters more.
+///
+/// # Errors
+///
+/// `AllocError` if the allocation fails.
+pub fn usual_text(alloc: Global, cid: &Cid) -> Result<String, AllocError>
+    ensures exact { IfOk result (λ text. string_bytes text ≡ usual_text (link_of cid.now)) }
+    ensures round_trip { IfOk result (λ text. IsText (link_of cid.now) (string_bytes text)) }
+{
+    match cid.version() {
+        Version::V0 => text_of(alloc, cid, Base::Base58Btc, false),
+        Version::V1 => cid.to_text(alloc),
+    }
 }

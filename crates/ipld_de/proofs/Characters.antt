@@ -12,9 +12,6 @@ empty_text : (bs : List ℕ) → length bs ≡ 0 → bs ≡ []
 empty_text [] is = refl
 empty_text (b ∷ bs) is = cc
 
-pub no_char : (bs : List ℕ) → length bs ≡ 0 → only_char (chars bs) ≡ None
-no_char bs is = rw (empty_text bs is, chars-nil) refl
-
 pub one_char : (bs rest : List ℕ) (c : ℕ) → IsUtf8 bs → bs ≡ encode_utf8 c ++ rest → length rest ≡ 0 → only_char (chars bs) ≡ Some c
 one_char bs rest c utf8 is ended =
     ap only_char (chars_past_char bs rest c utf8 is ∙ ap (λ r. c ∷ chars r) (empty_text rest ended) ∙ ap (λ r. c ∷ r) chars-nil)

@@ -4,13 +4,12 @@ ghost use Rattle.std.specs.Prelude.{◌≡◌, ◌≢◌, ◌∷◌, ℕ, false,
 ghost use Rattle.ipld_de.specs.Fields.{strings, struct_reading, accepts_named, StructReadError};
 ghost use Rattle.ipld_de.specs.ImageFields.{ValueRead, EntryRead, EntriesRead};
 ghost use Rattle.ipld_de.specs.ImageReader.{BeginsRead, BeginsMissing};
-ghost use Rattle.ipld_ser.specs.ImageWriter.{comes_first};
 ghost use Rattle.ipld_ser.specs.Names.{AreDistinct};
 
 use crate::fields::{Fields, position_of};
 use crate::image_reader::{ImageReader, Unread};
+use ipld_ser::key_precedes;
 use std::alloc::Global;
-use std::cmp::Ordering;
 
 /// What the fields of a struct are in a Map that nests no deeper than so many levels, under these names, read part by part; other
 /// entries are read past. It allocates what the fields do, and the tree of a list or a map that no field reads.
@@ -95,7 +94,7 @@ fn read_entry<F: Fields, R: ImageReader>(
     let key = reader.read_key()?;
     let name = R::key_text(&key);
     if let Some(last) = last {
-        if !precedes(R::key_text(&last), name) {
+        if !key_precedes(R::key_text(&last), name) {
             return Err(Unread::Rejected);
         }
     }
@@ -122,17 +121,5 @@ fn read_field<F: Fields, R: ImageReader>(
     match position_of(names, name) {
         Some(index) => fields.read_value(alloc, index, reader, levels),
         None => reader.skip_tree(alloc, levels),
-    }
-}
-
-// Whether a key comes before another: by length, and by bytes where the lengths are the same.
-#[inline(always)]
-fn precedes(first: &str, second: &str) -> bool
-    ensures { result ≡ comes_first first.now second.now }
-{
-    match first.len().cmp(&second.len()) {
-        Ordering::Less => true,
-        Ordering::Equal => first.cmp(second) == Ordering::Less,
-        Ordering::Greater => false,
     }
 }

@@ -194,7 +194,7 @@ fn place_of(order: &[(&str, usize)], name: &str) -> usize
 {
     let mut place = 0;
     for entry in order {
-        if !precedes(entry, name) {
+        if !key_precedes(entry.0, name) {
             return place;
         }
         place += 1;
@@ -202,15 +202,15 @@ fn place_of(order: &[(&str, usize)], name: &str) -> usize
     place
 }
 
-// Whether the name of an entry comes before another: by length, and by bytes where the lengths are the same.
+/// Returns whether a key comes before another in length-first key order (RFC 8949, section 4.2.3): by length, and by bytes if the
+/// lengths are the same.
 #[inline(always)]
-fn precedes(entry: &(&str, usize), name: &str) -> bool
-    ensures { result ≡ comes_first entry.now.0.now name.now }
+pub fn key_precedes(first: &str, second: &str) -> bool
+    ensures { result ≡ comes_first first.now second.now }
 {
-    let first = entry.0;
-    match first.len().cmp(&name.len()) {
+    match first.len().cmp(&second.len()) {
         Ordering::Less => true,
-        Ordering::Equal => first.cmp(name) == Ordering::Less,
+        Ordering::Equal => first.cmp(second) == Ordering::Less,
         Ordering::Greater => false,
     }
 }

@@ -29,7 +29,7 @@ mod variants;
 pub use bytes::ByteBuf;
 pub use error::{SerdeError, SerializeError};
 pub use fields::SerializeFields;
-pub use image_writer::{ImageWriter, Unwritten, write_fields};
+pub use image_writer::{ImageWriter, Unwritten, key_precedes, write_fields};
 pub use key::SerializeKey;
 pub use map::SerializeMap;
 pub use sequence::SerializeVec;

@@ -5,13 +5,14 @@ ghost use Rattle.std.specs.Iterator.{YieldsFirstBy, MakesProgress, item_count};
 ghost use Rattle.ipld_cid.specs.Multihash.{IsBytes};
 ghost use Rattle.ipld_tree.specs.IsWhole.{IsWhole};
 ghost use Rattle.ipld_tree.specs.TreeOf.{tree_of};
-ghost use Rattle.ipld_tree.specs.Levels.{deepest, slots, held, rest, NextCall};
+ghost use Rattle.ipld_tree.specs.Levels.{slots, held, rest, NextCall};
 ghost use Rattle.ipld_tree.specs.Walk.{preorder, nest, container, containers};
 ghost use Rattle.ipld_tree.specs.Cursors.{left_of, levels_of, cursors_in, values_in, AllWhole, Opens, Holds, TakesNext, IterationOf};
 
 use crate::growing::slots_needed;
 use crate::ipld::Ipld;
 use crate::iterations::Iterations;
+use crate::nesting::nesting_within;
 use std::alloc::{AllocError, Global};
 use std::collections::btree_map;
 use std::marker::Model;
@@ -122,7 +123,7 @@ impl Ipld {
         ensures nested { MatchOption result (2 ^ 64 ≤ nest (tree_of self.now)) (λ n. n ≡ nest (tree_of self.now)) }
         ensures whole { OnSome result (IsWhole (tree_of self.now)) }
     {
-        nesting(self)
+        nesting_within(self, usize::MAX)
     }
 
     /// Walks the whole tree, and returns the walk at its end, where it returns `None` always. The walk takes an iteration for each value,
@@ -138,31 +139,6 @@ impl Ipld {
         while let Some(_) = walk.next() {}
         Ok(walk)
     }
-}
-
-// How deep lists and maps nest in a value.
-#[cycle(nesting)]
-fn nesting(value: &Ipld) -> Option<usize>
-    ensures nested { MatchOption result (2 ^ 64 ≤ nest (tree_of value.now)) (λ n. n ≡ nest (tree_of value.now)) }
-    ensures whole { OnSome result (IsWhole (tree_of value.now)) }
-{
-    match cursor_into(value) {
-        None => Some(0),
-        Some(level) => deepest_level(level)?.checked_add(1),
-    }
-}
-
-// How deep they nest in the deepest of what a cursor has left.
-#[cycle(nesting)]
-fn deepest_level(mut level: Cursor) -> Option<usize>
-    ensures nested { MatchOption result (2 ^ 64 ≤ deepest (left_of level.entry)) (λ n. n ≡ deepest (left_of level.entry)) }
-    ensures whole { OnSome result (AllWhole (left_of level.entry)) }
-{
-    let mut greatest = 0;
-    while let Some(value) = advance(&mut level) {
-        greatest = greatest.max(nesting(value)?);
-    }
-    Some(greatest)
 }
 
 // Lends bytes for what the type of a slice says of them.

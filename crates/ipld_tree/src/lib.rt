@@ -25,9 +25,9 @@
 //! call stack limits how deep a tree may nest: call [`Ipld::discard`] in place of dropping a tree from untrusted input,
 //! [`Ipld::same_tree`] in place of `==`, and [`Ipld::try_nesting`] in place of [`Ipld::nesting`].
 //!
-//! Measured in a program for x86-64 with a stack of 8 MiB, for lists in one another: trees of 58,000 levels are measured, of
-//! 52,000 dropped and of 37,000 compared by `==`. Of maps in one another 17,000 levels are dropped, and the rest is as for
-//! lists.
+//! Measured in a program for x86-64 with a stack of 8 MiB, for lists in one another: trees of 52,000 levels are dropped, and of
+//! 37,000 compared by `==`. Of maps in one another 17,000 levels are dropped, and the comparison is as for lists.
+//! [`Ipld::nesting`] takes 48 bytes of the stack for a list, and 160 for a map.
 #![tactic(auto)]
 
 mod capacity;

@@ -1,6 +1,5 @@
 pub mod Records
 pub mod AsciiTexts
-pub mod Base32Texts
 pub mod Answering
 pub mod Listing
 pub mod LinkRecords

@@ -1,10 +1,10 @@
 //! CIDs checked, taken apart, written as text and read from it.
 
-ghost use Rattle.std.specs.Prelude.{◌≡◌, ◌⊎◌, MatchResult, MatchOption, IfOk, IfErr, IsOkAnd, Ok, Err};
+ghost use Rattle.std.specs.Prelude.{◌≡◌, ◌⊎◌, MatchResult, MatchOption, Ok, Err};
 ghost use Rattle.ipld_cid.specs.Cid.{Link};
 ghost use Rattle.ipld_cid.specs.LinkOf.{link_of};
 ghost use Rattle.ipld_cid.specs.Bytes.{read_cid};
-ghost use Rattle.ipld_cid_text.specs.Text.{IsText, IsTextError};
+ghost use Rattle.ipld_cid_text.specs.Text.{IsText};
 ghost use Rattle.kombilad_c.specs.Status as numbers;
 ghost use Rattle.kombilad_c.specs.Fill.{IsUntouched};
 ghost use Rattle.kombilad_c.specs.CidRecord.{parts_of, record_of};
@@ -133,25 +133,12 @@ pub extern "C" fn kombilad_cid_to_text(
     }
 }
 
-// The CID of a text. One in base32, which most are, is read by the call that reads these alone.
-#[inline(always)]
-fn cid_of(text: &str) -> Result<Cid, TextError>
-    ensures found { IfOk result (λ cid. IsText (link_of cid) text.now) }
-    ensures only { (link : Link) → IsText link text.now → IsOkAnd result (λ cid. link_of cid ≡ link) }
-    ensures error { IfErr result (λ error. IsTextError text.now error) }
-{
-    match Cid::try_from(text) {
-        Ok(cid) => Ok(cid),
-        Err(_) => parse_any(text),
-    }
-}
-
 // The CID of a text, or the place of the letter that is none.
 fn parse_text(text: &str, cid: &mut CidBytes, place: &mut usize) -> u32
     ensures read { IsParsed text.now result cid.new place.old place.new ⊎ IsRejected text.now result cid.old cid.new place.old place.new }
     ensures only { (link : Link) → IsText link text.now → (result ≡ 0) × (cid.new ≡ record_of link) }
 {
-    match cid_of(text) {
+    match parse_any(text) {
         Ok(parsed) => {
             *cid = CidBytes::of(&parsed);
             OK

@@ -3,7 +3,7 @@
 use crate::ended::{Ended, reported};
 use crate::samples::cid;
 use ipld_cid::{CidGeneric, IDENTITY, Multihash, RAW};
-use ipld_cid_text::{Base, to_string_of_base};
+use ipld_cid_text::{Base, to_string_of_base, usual_text};
 use std::alloc::Global;
 use std::process::Abort;
 
@@ -70,6 +70,18 @@ fn written_in_bases(rt: HostRuntime) -> Result<(), Ended> {
                 .starts_with(base.code())
         );
     }
+    Ok(())
+}
+
+#[test]
+fn written_as_usual(rt: HostRuntime) -> Result<(), Ended> {
+    let text = reported("usual_text", usual_text(rt.alloc(), &cid(&V0)?))?;
+    assert_eq!(rt;
+        text.as_str(),
+        "QmNLei78zWmzUdbeRB3CiUfAizWUrbeeZh5K1rhAQKCh51"
+    );
+    let text = reported("usual_text", usual_text(rt.alloc(), &cid(&V1)?))?;
+    assert_eq!(rt; text.as_str(), V1_TEXT);
     Ok(())
 }
 

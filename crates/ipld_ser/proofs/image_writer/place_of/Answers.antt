@@ -9,14 +9,14 @@ loop-entry-preserved c =
     let l = c.loop-entry in
     record {
       same = ap (λ n. n + 1) l.invariant.same;
-      before = one_more_first c.args.name.now c.args.order.now l.entry-index _ l.invariant.before (sym c.precedes.ensures ∙ c.if-not-precedes.false);
+      before = one_more_first c.args.name.now c.args.order.now l.entry-index _ l.invariant.before (sym c.key_precedes.ensures ∙ c.if-not-key_precedes.false);
     }
 
-pub returns-then-not-precedes-clause-filed : goal.returns-then-not-precedes-clause-filed
-returns-then-not-precedes-clause-filed c = λ index.
+pub returns-then-not-key_precedes-clause-filed : goal.returns-then-not-key_precedes-clause-filed
+returns-then-not-key_precedes-clause-filed c = λ index.
     let l = c.loop-entry in
     placed_at c.args.name.now index c.args.order.now l.entry-index (omega arith) l.invariant.before
-    (one_behind c.args.name.now c.args.order.now l.entry-index _ (sym c.precedes.ensures ∙ c.if-not-precedes.true))
+    (one_behind c.args.name.now c.args.order.now l.entry-index _ (sym c.key_precedes.ensures ∙ c.if-not-key_precedes.true))
     ∙ ap (λ i. insert (indexed c.args.order.now) i (c.args.name.now, index)) (sym l.invariant.same)
 
 pub returns-clause-filed : goal.returns-clause-filed

@@ -11,7 +11,7 @@ use Rattle.ipld_cid_text.specs.declared.base.Base.TheVariants.{Base32Lower}
 use Rattle.ipld_cid_text.specs.Text.{IsTextIn}
 use Rattle.kombilad_c.specs.Fill.{Fills, IsUntouched}
 use Rattle.kombilad_c.specs.Cid.{WritesText}
-use Rattle.kombilad_c.proofs.Base32Texts.{text_of-is}
+use Rattle.ipld_cid_text.proofs.Base32Texts.{text_of-is}
 use Rattle.kombilad_c.proofs.cid.write_base32.Goals as goal
 
 -- what is written is a text of the CID

@@ -1,4 +1,4 @@
--- The text of a CID in DAG-JSON (IPLD's DAG-JSON specification, "Links"): of version 0 base58btc, of version 1 the multibase prefix `b` and base32.
+-- The text of a CID as people know it: of version 0 base58btc, of version 1 the multibase prefix `b` and base32.
 use Rattle.std.specs.Prelude.{ℕ, List, ◌++◌, map, replicate}
 use Rattle.std.specs.Int.Digits.{digits_of, number_from_digits}
 use Rattle.ipld_cid.specs.declared.cid.Version.TheVariants.{V0, V1}
@@ -13,9 +13,10 @@ use Rattle.ipld_cid_text.specs.Digits.{leading_zeros}
 unfoldable pub base58 : List ℕ → List ℕ
 base58 bytes = map (letter Base58Btc) (replicate (leading_zeros bytes) 0 ++ digits_of 58 (number_from_digits 256 bytes))
 
--- The text of a CID: of version 0 base58btc, of version 1 `b` and base32 (IPLD DAG-JSON, links).
-unfoldable pub link_text : Link → List ℕ
-link_text link = elim link.version [
+-- The text of a CID as people know it: of version 0 in base58btc, of version 1 the printed text, `b`
+-- and base32 (multiformats CID; IPLD DAG-JSON, links).
+unfoldable pub usual_text : Link → List ℕ
+usual_text link = elim link.version [
   | V0 ↦ base58 (bytes_of link)
   | V1 ↦ printed.text_of link
 ]
