@@ -45,7 +45,8 @@ impl CarIndex {
     /// The index that has these entries, but for those whose digest is empty: a row without a digest names no block, and readers of indexes
     /// reject it. Such a digest is that of an empty block under the identity hash. Allocates for all of them; `AllocError` where that fails.
     pub fn new(alloc: Global, entries: Vec<IndexEntry>) -> Result<CarIndex, AllocError>
-        ensures same { IfOk result (λ index. IsPermutation (indexed entries.items) (entries_in index)) }
+        ensures same { IfOk result (λ index.
+            IsPermutation (indexed entries.items) (entries_in index)) }
         ensures sorted { IfOk result (λ index. AreSorted (entries_in index)) }
         ensures grouped { IfOk result AreGrouped }
     {
@@ -87,7 +88,8 @@ impl HashBuckets {
     fn push(&mut self, alloc: Global, entry: &IndexEntry) -> Result<(), AllocError>
         requires { entry.now.hash.code ≡ self.old.code }
         ensures code { self.new.code ≡ self.old.code }
-        ensures behind { OnOk result (entries_of_hash self.new ≡ entries_of_hash self.old ++ entry.now ∷ []) }
+        ensures behind { OnOk result
+            (entries_of_hash self.new ≡ entries_of_hash self.old ++ entry.now ∷ []) }
         ensures grouped { OnOk result (AreGroupedHash self.old → AreGroupedHash self.new) }
     {
         let digest = entry.hash.digest();
