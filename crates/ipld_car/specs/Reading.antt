@@ -1,5 +1,5 @@
 -- What reading a section takes from a reader, and what it returns.
-use Rattle.std.specs.Prelude.{◌≡◌, ◌+◌, ◌-◌, ◌≤◌, ◌<◌, ℕ, Bool, true, false, List, [], length, drop, Option, Result, Ok, Err}
+use Rattle.std.specs.Prelude.{◌≡◌, ◌+◌, ◌≤◌, ◌<◌, ℕ, Bool, true, false, List, [], length, drop, Option, Result, Ok, Err}
 use Rattle.ipld_cid.specs.Bytes.{read_cid}
 use Rattle.ipld_cid.specs.Cid.{Link}
 use Rattle.ipld_cid.specs.declared.error.CidError.{CidError}

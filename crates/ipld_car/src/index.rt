@@ -1,9 +1,9 @@
 //! The index of a CAR of version 2, and the header that says where it stands; here the index that is to be written: its entries by the hash
 //! function and by the length of the digest.
 
-ghost use Rattle.std.specs.Prelude.{◌≡◌, ◌∷◌, ◌++◌, [], IfOk, OnOk};
+ghost use Rattle.std.specs.Prelude.{◌≡◌, ◌<◌, ◌∷◌, ◌++◌, [], length, IfOk, OnOk};
 ghost use Rattle.std.specs.List.Sorted.{IsPermutation};
-ghost use Rattle.ipld_car.specs.IndexGrouping.{entries_in, entries_of_hash, AreGrouped, AreGroupedHash, indexed};
+ghost use Rattle.ipld_car.specs.IndexGrouping.{entries_in, entries_of_hash, AreGrouped, AreGroupedHash, IsSplit, IsSplitHash, indexed};
 ghost use Rattle.ipld_car.specs.IndexOrder.{AreSorted};
 
 mod entry;
@@ -49,6 +49,7 @@ impl CarIndex {
             IsPermutation (indexed entries.items) (entries_in index)) }
         ensures sorted { IfOk result (λ index. AreSorted (entries_in index)) }
         ensures grouped { IfOk result AreGrouped }
+        ensures split { IfOk result IsSplit }
     {
         let mut entries = entries;
         entries.retain(|entry| entry.hash.size() > 0);
@@ -66,6 +67,7 @@ impl CarIndex {
     fn push(&mut self, alloc: Global, entry: &IndexEntry) -> Result<(), AllocError>
         ensures behind { OnOk result (entries_in self.new ≡ entries_in self.old ++ entry.now ∷ []) }
         ensures grouped { OnOk result (AreGrouped self.old → AreGrouped self.new) }
+        ensures split { OnOk result (IsSplit self.old → IsSplit self.new) }
     {
         let code = entry.hash.code();
         match self.hashes.last_mut() {
@@ -91,6 +93,8 @@ impl HashBuckets {
         ensures behind { OnOk result
             (entries_of_hash self.new ≡ entries_of_hash self.old ++ entry.now ∷ []) }
         ensures grouped { OnOk result (AreGroupedHash self.old → AreGroupedHash self.new) }
+        ensures split { OnOk result (IsSplitHash self.old → IsSplitHash self.new) }
+        ensures some { OnOk result (0 < length self.new.buckets.items) }
     {
         let digest = entry.hash.digest();
         let digest_len = digest.len() as u8;
