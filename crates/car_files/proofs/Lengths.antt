@@ -7,6 +7,7 @@ use Rattle.ipld_car.specs.declared.reader.CarReader.{CarReader}
 use Rattle.ipld_car.specs.Section.{Block, AreSections, IsSection, content_of}
 use Rattle.car_files.specs.Reading.{Reads}
 use Rattle.car_files.specs.Written.{section_len, sections_len}
+use Rattle.car_files.proofs.Streams.{read_from}
 
 section_is : (bytes : List ℕ) (block : Block) → IsSection bytes block → length bytes ≡ section_len block
 section_is bytes block s =
@@ -21,6 +22,6 @@ sections_are bytes (block ∷ blocks) s =
     ap length s.2 ∙ length-append s.0 s.1 ∙ ap (λ (n : ℕ). n + length s.1) (section_is s.0 block s.3) ∙ ap (λ (n : ℕ). section_len block + n) (sections_are s.1 blocks s.4)
 
 -- behind the sections of the blocks begins the next
-pub begins_behind : {R : Type 0} (before after : Option (List ℕ)) (old new : CarReader R) (blocks : List Block) → Reads before after old new blocks
+pub begins_behind : {R : Type 0} (before after : Option (List ℕ)) (old new : CarReader R) (blocks : List Block) → Reads (read_from before after old new) blocks
     → new.offset ≡ old.offset + sections_len blocks
 begins_behind before after old new blocks r = r.moves.offset ∙ ap (λ (n : ℕ). old.offset + n) (sections_are r.bytes blocks r.sections)

@@ -1,3 +1,4 @@
+pub mod Streams
 pub mod Indexing
 pub mod Taking
 pub mod Sections

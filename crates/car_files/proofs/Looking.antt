@@ -12,11 +12,12 @@ use Rattle.car_files.specs.Missing.{cids_of}
 use Rattle.car_files.specs.Reading.{Reads, ReadsNext}
 use Rattle.car_files.proofs.Sections.{reads_none, reads_more, reads_all, stops_later}
 use Rattle.car_files.proofs.Naming.{cids_more}
+use Rattle.car_files.proofs.Streams.{read_from}
 
 -- these blocks were read, and none has the CID
 pub record LookedSoFar {R : Type 0} (before after : Option (List ℕ)) (old new : CarReader R) (cid : Link) : Type 0 where
   pub blocks : List Block
-  pub reads : Reads before after old new blocks
+  pub reads : Reads (read_from before after old new) blocks
   pub none : has cid (cids_of blocks) ≡ false
 
 pub looked_none : {R : Type 0} (bytes : Option (List ℕ)) (car : CarReader R) (cid : Link) → LookedSoFar bytes bytes car car cid
@@ -28,7 +29,7 @@ apart a b true is not = let same = (link_decides b a).0 is in let yes = (link_de
 apart a b false is not = refl
 
 pub looked_more : {R : Type 0} (before between after : Option (List ℕ)) (old mid new : CarReader R) (cid : Link) (block : Block)
-    → LookedSoFar before between old mid cid → ReadsNext between after mid new block (Ok true) → link_eq block.cid cid ≡ false → LookedSoFar before after old new cid
+    → LookedSoFar before between old mid cid → ReadsNext (read_from between after mid new) block (Ok true) → link_eq block.cid cid ≡ false → LookedSoFar before after old new cid
 looked_more before between after old mid new cid block s r other = record {
   blocks = s.blocks ++ block ∷ [];
   reads = reads_more before between after old mid new s.blocks (block ∷ []) s.reads r;
@@ -36,8 +37,8 @@ looked_more before between after old mid new cid block s r other = record {
 }
 
 pub looked_found : {R : Type 0} (before between after : Option (List ℕ)) (old mid new : CarReader R) (cid : Link) (block : Block)
-    → LookedSoFar before between old mid cid → ReadsNext between after mid new block (Ok true) → link_eq block.cid cid ≡ true
-    → LooksFor before after old new cid block (Ok true)
+    → LookedSoFar before between old mid cid → ReadsNext (read_from between after mid new) block (Ok true) → link_eq block.cid cid ≡ true
+    → LooksFor (read_from before after old new) cid block (Ok true)
 looked_found before between after old mid new cid block s r same = record {
   others = s.blocks;
   reads = reads_more before between after old mid new s.blocks (block ∷ []) s.reads r;
@@ -46,10 +47,10 @@ looked_found before between after old mid new cid block s r same = record {
 }
 
 pub looked_all : {R : Type 0} (before between after : Option (List ℕ)) (old mid new : CarReader R) (cid : Link) (block : Block)
-    → LookedSoFar before between old mid cid → ReadsNext between after mid new block (Ok false) → LooksFor before after old new cid block (Ok false)
+    → LookedSoFar before between old mid cid → ReadsNext (read_from between after mid new) block (Ok false) → LooksFor (read_from before after old new) cid block (Ok false)
 looked_all before between after old mid new cid block s r =
     record { blocks = s.blocks; reads = reads_all before between after old mid new s.blocks s.reads r; none = s.none }
 
 pub looked_until : {R : Type 0} (before between after : Option (List ℕ)) (old mid new : CarReader R) (cid : Link) (block : Block) (error : CarFileError)
-    → LookedSoFar before between old mid cid → ReadsNext between after mid new block (Err error) → LooksFor before after old new cid block (Err error)
+    → LookedSoFar before between old mid cid → ReadsNext (read_from between after mid new) block (Err error) → LooksFor (read_from before after old new) cid block (Err error)
 looked_until before between after old mid new cid block error s r = stops_later before between after old mid new s.blocks error s.reads r

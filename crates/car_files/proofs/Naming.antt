@@ -10,7 +10,7 @@ use Rattle.car_files.specs.Has.{has}
 use Rattle.car_files.specs.Carried.{carrier, AreCarried, CarriesFaults}
 use Rattle.car_files.specs.Names.{Names}
 use Rattle.car_files.specs.Reached.{Reaches, stands, inlined}
-use Rattle.car_files.specs.declared.index.MissingBlocks.{MissingBlocks}
+use Rattle.car_files.specs.Index.{Search}
 use Rattle.car_files.proofs.Taking.{has_append}
 use Rattle.car_files.specs.declared.adding.CarriedFault.{CarriedFault}
 use Rattle.car_files.specs.Missing.{links_of_block, links_of_blocks, cids_of, Exactly}
@@ -30,7 +30,7 @@ or_right : (a b : Bool) → b ≡ true → (a || b) ≡ true
 or_right true b e = refl
 or_right false b e = e
 
-or_comm : (a b : Bool) → (a || b) ≡ (b || a)
+pub or_comm : (a b : Bool) → (a || b) ≡ (b || a)
 or_comm true true = refl
 or_comm true false = refl
 or_comm false true = refl
@@ -59,15 +59,15 @@ reaches_either xs ys l (inlined m k r same here) = elim (reaches_either xs ys m 
 ]
 
 -- links of both
-pub exactly_both : (xs ys from more : List Link) → Exactly xs from → Exactly ys more → Exactly (ys ++ xs) (from ++ more)
+pub exactly_both : (xs ys from more : List Link) → Exactly xs from → Exactly ys more → Exactly (xs ++ ys) (from ++ more)
 exactly_both xs ys from more p q = λ l. (
-  (λ here. elim (or_either (has l ys) (has l xs) (sym (has_append l ys xs) ∙ here)) [
-    | inl late ↦ let r = (q l).0 late in (reaches_from more (from ++ more) l (in_right from more) r.0, r.1)
-    | inr early ↦ let r = (p l).0 early in (reaches_from from (from ++ more) l (in_left from more) r.0, r.1)
+  (λ here. elim (or_either (has l xs) (has l ys) (sym (has_append l xs ys) ∙ here)) [
+    | inl early ↦ let r = (p l).0 early in (reaches_from from (from ++ more) l (in_left from more) r.0, r.1)
+    | inr late ↦ let r = (q l).0 late in (reaches_from more (from ++ more) l (in_right from more) r.0, r.1)
   ]),
   (λ r. elim (reaches_either from more l r.0) [
-    | inl early ↦ in_right ys xs l ((p l).1 (early, r.1))
-    | inr late ↦ in_left ys xs l ((q l).1 (late, r.1))
+    | inl early ↦ in_left xs ys l ((p l).1 (early, r.1))
+    | inr late ↦ in_right xs ys l ((q l).1 (late, r.1))
   ]),
 )
 
@@ -100,10 +100,10 @@ has_reverse l (c ∷ cids) =
     ∙ ap (λ b. b || has l (map link_of (reverse cids))) (or_comm (link_eq l (link_of c)) false) ∙ ap (λ b. link_eq l (link_of c) || b) (has_reverse l cids)
 
 -- what is named by links in another order
-pub names_reversed : (cids : List (CidGeneric 64)) (old new : MissingBlocks) → Names (map link_of (reverse cids)) old new → Names (map link_of cids) old new
+pub names_reversed : (cids : List (CidGeneric 64)) (old new : Search) → Names (map link_of (reverse cids)) old new → Names (map link_of cids) old new
 names_reversed cids old new n = record {
   added = n.added;
-  knows = n.knows;
+  adds = n.adds;
   exactly = λ l. (
     (λ here. let r = (n.exactly l).0 here in (reaches_from (map link_of (reverse cids)) (map link_of cids) l (λ k h. sym (has_reverse k cids) ∙ h) r.0, r.1)),
     (λ r. (n.exactly l).1 (reaches_from (map link_of cids) (map link_of (reverse cids)) l (λ k h. has_reverse k cids ∙ h) r.0, r.1)),

@@ -10,10 +10,11 @@ use Rattle.ipld_car.specs.Fails.{Fails}
 use Rattle.ipld_car.specs.Position.{Moves}
 use Rattle.ipld_car.specs.Reading.{ReadsSection, SectionFault}
 use Rattle.ipld_car.specs.Section.{Block, AreSections}
-use Rattle.ipld_car.specs.Taking.{Ends, IsReadOut}
+use Rattle.ipld_car.specs.Taking.{Take, Ends, IsReadOut}
 use Rattle.car_files.specs.declared.error.CarFileError.{CarFileError}
 use Rattle.car_files.specs.declared.error.CarFileError.TheVariants.{Memory, Car}
 use Rattle.car_files.specs.Reading.{Reads, ReadsAll, NoSection, StopsAt, StopsNext, ReadsNext, IsErrorOf}
+use Rattle.car_files.proofs.Streams.{read_from}
 
 -- bytes were taken, and then the rest
 read_out_later : (old mid new : Option (List ℕ)) (got : List ℕ) → Consumes old mid got → IsReadOut mid new → IsReadOut old new
@@ -33,15 +34,20 @@ fault_later limit room old mid new got taken (ShortPayload expected found) place
 fault_later limit room old mid new got taken (Cid error) place c f = f
 fault_later limit room old mid new got taken _ place c f = f
 
+-- what was taken of the next section
+abbrev pub section_from : {R : Type 0} → Option (List ℕ) → Option (List ℕ) → CarReader R → List ℕ → Take
+section_from before after car taken =
+    record { limit = car.limit; begin = car.offset; end = car.end; before = before; after = after; taken = taken }
+
 -- a section that was read
 pub next_found : {R : Type 0} (before after : Option (List ℕ)) (old new : CarReader R) (taken : List ℕ) (block : Block) → Consumes before after taken
-    → Moves old new (length taken) → ReadsSection old.limit old.offset old.end before after taken block (Ok true) → ReadsNext before after old new block (Ok true)
+    → Moves old new (length taken) → ReadsSection (section_from before after old taken) block (Ok true) → ReadsNext (read_from before after old new) block (Ok true)
 next_found before after old new taken block c m r =
     record { bytes = taken; consumed = c; sections = (taken, [], sym (append-nil taken), r.0, refl); moves = m }
 
 -- there was none
 pub next_none : {R : Type 0} (before after : Option (List ℕ)) (old new : CarReader R) (taken : List ℕ) (block : Block) → Consumes before after taken
-    → Moves old new (length taken) → ReadsSection old.limit old.offset old.end before after taken block (Ok false) → ReadsNext before after old new block (Ok false)
+    → Moves old new (length taken) → ReadsSection (section_from before after old taken) block (Ok false) → ReadsNext (read_from before after old new) block (Ok false)
 next_none before after old new taken block c m r =
     let none : length taken ≡ 0 = ap length r.0 in
     let here : new.offset ≡ old.offset = let at = m.offset in omega arith in
@@ -52,12 +58,12 @@ next_none before after old new taken block c m r =
 
 -- the bytes were no section
 pub next_fails : {R : Type 0} (before after : Option (List ℕ)) (old new : CarReader R) (taken : List ℕ) (block : Block) (error : CarError) (made : CarFileError)
-    → Consumes before after taken → Moves old new (length taken) → ReadsSection old.limit old.offset old.end before after taken block (Err error)
-    → IsErrorOf error made → ReadsNext before after old new block (Err made)
+    → Consumes before after taken → Moves old new (length taken) → ReadsSection (section_from before after old taken) block (Err error)
+    → IsErrorOf error made → ReadsNext (read_from before after old new) block (Err made)
 next_fails before after old new taken block error Memory c m r i = tt
 next_fails before after old new taken block error (Car same) c m r i =
     let at : old.offset ≡ old.offset + 0 = omega arith in
-    subst (λ (e : CarError). StopsNext before after old new (Car e)) (sym i.0) (
+    subst (λ (e : CarError). StopsNext (read_from before after old new) (Car e)) (sym i.0) (
       record {
         blocks = [];
         front = [];
@@ -87,7 +93,7 @@ sections_more a b (x ∷ xs) ys s t =
     (s.0, s.1 ++ b, ap (λ l. l ++ b) s.2 ∙ append_assoc s.0 s.1 b, s.3, sections_more s.1 b xs ys s.4 t)
 
 -- nothing was read yet
-pub reads_none : {R : Type 0} (bytes : Option (List ℕ)) (car : CarReader R) → Reads bytes bytes car car []
+pub reads_none : {R : Type 0} (bytes : Option (List ℕ)) (car : CarReader R) → Reads (read_from bytes bytes car car) []
 reads_none bytes car = record {
   bytes = [];
   consumed = Consumes-nil bytes;
@@ -96,8 +102,8 @@ reads_none bytes car = record {
 }
 
 -- more blocks
-pub reads_more : {R : Type 0} (before between after : Option (List ℕ)) (old mid new : CarReader R) (xs ys : List Block) → Reads before between old mid xs
-    → Reads between after mid new ys → Reads before after old new (xs ++ ys)
+pub reads_more : {R : Type 0} (before between after : Option (List ℕ)) (old mid new : CarReader R) (xs ys : List Block) → Reads (read_from before between old mid) xs
+    → Reads (read_from between after mid new) ys → Reads (read_from before after old new) (xs ++ ys)
 reads_more before between after old mid new xs ys r s = record {
   bytes = r.bytes ++ s.bytes;
   consumed = Consumes-trans before between after r.bytes s.bytes r.consumed s.consumed;
@@ -106,16 +112,16 @@ reads_more before between after old mid new xs ys r s = record {
 }
 
 -- and no more
-pub reads_all : {R : Type 0} (before between after : Option (List ℕ)) (old mid new : CarReader R) (xs : List Block) → Reads before between old mid xs
-    → ReadsAll between after mid new [] → ReadsAll before after old new xs
+pub reads_all : {R : Type 0} (before between after : Option (List ℕ)) (old mid new : CarReader R) (xs : List Block) → Reads (read_from before between old mid) xs
+    → ReadsAll (read_from between after mid new) [] → ReadsAll (read_from before after old new) xs
 reads_all before between after old mid new xs r s = record {
-  reads = subst (Reads before after old new) (append-nil xs) (reads_more before between after old mid new xs [] r s.reads);
+  reads = subst (Reads (read_from before after old new)) (append-nil xs) (reads_more before between after old mid new xs [] r s.reads);
   ends = ends_later (new.end - new.offset) before between after r.bytes [] r.consumed s.ends;
 }
 
 -- and then none: these are the blocks that were read
 pub none_later : {R : Type 0} (before between after : Option (List ℕ)) (old mid new : CarReader R) (xs : List Block) (error : CarError)
-    → Reads before between old mid xs → (s : NoSection between after mid new error) → s.blocks ≡ [] → (stops : NoSection before after old new error) × (stops.blocks ≡ xs)
+    → Reads (read_from before between old mid) xs → (s : NoSection (read_from between after mid new) error) → s.blocks ≡ [] → (stops : NoSection (read_from before after old new) error) × (stops.blocks ≡ xs)
 none_later before between after old mid new xs error r s none =
     let at : mid.offset + length s.front ≡ old.offset + length (r.bytes ++ s.front) =
     let e = length-append r.bytes s.front in let f = r.moves.offset in omega arith in
@@ -142,7 +148,7 @@ none_later before between after old mid new xs error r s none =
     )
 
 pub stops_later : {R : Type 0} (before between after : Option (List ℕ)) (old mid new : CarReader R) (xs : List Block) (error : CarFileError)
-    → Reads before between old mid xs → StopsNext between after mid new error → StopsAt before after old new error
+    → Reads (read_from before between old mid) xs → StopsNext (read_from between after mid new) error → StopsAt (read_from before after old new) error
 stops_later before between after old mid new xs Memory r s = tt
 stops_later before between after old mid new xs (Car error) r s = (none_later before between after old mid new xs error r s.0 s.1).0
 stops_later before between after old mid new xs _ r s = absurd s

@@ -23,12 +23,11 @@ use Rattle.ipld_block.specs.declared.error.InvalidBlock.TheVariants.{Cbor, Pb, N
 use Rattle.car_files.specs.Blocks.{links_by, links_in, BlockHas, BlockFault, IsBlockOf}
 use Rattle.car_files.specs.Carried.{carrier, IsCarried, AreCarried, CarriesFaults}
 use Rattle.car_files.specs.Has.{has}
-use Rattle.car_files.specs.Index.{Knows}
+use Rattle.car_files.specs.Index.{Search, with_link, with_links, AddsEach}
 use Rattle.car_files.specs.Names.{Names, NamesSome}
 use Rattle.car_files.specs.Reached.{is_identity, Reaches, stands, inlined}
-use Rattle.car_files.specs.Taking.{KnowsAll, TakesFault, TakesLink}
+use Rattle.car_files.specs.Taking.{Adding, TakesFault, TakesLink}
 use Rattle.car_files.specs.declared.adding.CarriedFault.{CarriedFault}
-use Rattle.car_files.specs.declared.index.MissingBlocks.{MissingBlocks}
 
 -- those that carry no block
 abbrev pub plain : List Link → List Link
@@ -207,19 +206,41 @@ plain_taken from taken faults more m s other e = subst (FaultsSoFar from (m ∷ 
   ];
 })
 
+or_comm : (a b : Bool) → (a || b) ≡ (b || a)
+or_comm true true = refl
+or_comm true false = refl
+or_comm false true = refl
+or_comm false false = refl
+
+with_append : (xs ys came missing : List Link) → with_links (xs ++ ys) came missing ≡ with_links ys came (with_links xs came missing)
+with_append [] ys came missing = refl
+with_append (x ∷ xs) ys came missing = with_append xs ys came (with_link x came missing)
+
+-- links were added, and then others
+adds_then : (xs ys : List Link) (old mid new : Search) → AddsEach xs old mid → AddsEach ys mid new → AddsEach (xs ++ ys) old new
+adds_then xs ys old mid new a b = record {
+  came = b.came ∙ a.came;
+  missing = b.missing ∙ ap (λ (came : List Link). with_links ys came mid.missing) a.came ∙ ap (with_links ys old.came) a.missing
+      ∙ sym (with_append xs ys old.came old.missing);
+}
+
 -- so many links were taken, the last first, and these are pending
-pub record NamesSoFar (from pending : List Link) (old new : MissingBlocks) (faults : List CarriedFault) : Type 0 where
+pub record NamesSoFar (from pending : List Link) (old new : Search) (faults : List CarriedFault) : Type 0 where
   pub taken : List Link
-  pub knows : (blocks named : List Link) → Knows old blocks named → Knows new blocks (plain taken ++ named)
+  pub added : List Link
+  pub same : (l : Link) → has l added ≡ has l (plain taken)
+  pub adds : AddsEach added old new
   pub sound : (l : Link) → (has l taken || has l pending) ≡ true → Reaches from l
   pub begins : (l : Link) → has l from ≡ true → (has l taken || has l pending) ≡ true
   pub closed : (m l : Link) → has m taken ≡ true → is_identity m ≡ true → has l (links_in m.codec m.digest) ≡ true → (has l taken || has l pending) ≡ true
   pub at_fault : FaultsSoFar from taken faults
 
-pub names_none : (from : List Link) (index : MissingBlocks) → NamesSoFar from from index index []
+pub names_none : (from : List Link) (index : Search) → NamesSoFar from from index index []
 names_none from index = record {
   taken = [];
-  knows = λ blocks named k. k;
+  added = [];
+  same = λ l. refl;
+  adds = record { came = refl; missing = refl };
   sound = λ l here. stands l here;
   begins = λ l here. here;
   closed = λ m l taken same here. absurd (false_true taken);
@@ -227,12 +248,14 @@ names_none from index = record {
 }
 
 -- a link that carries no block
-names_plain : (from pending rest : List Link) (m : Link) (old mid new : MissingBlocks) (faults more : List CarriedFault) → NamesSoFar from pending old mid faults
-    → pending ≡ rest ++ m ∷ [] → is_identity m ≡ false → ((blocks named : List Link) → Knows mid blocks named → Knows new blocks (m ∷ named)) → more ≡ faults
+names_plain : (from pending rest : List Link) (m : Link) (old mid new : Search) (faults more : List CarriedFault) → NamesSoFar from pending old mid faults
+    → pending ≡ rest ++ m ∷ [] → is_identity m ≡ false → AddsEach (m ∷ []) mid new → more ≡ faults
     → NamesSoFar from rest old new more
-names_plain from pending rest m old mid new faults more n e other added none = record {
+names_plain from pending rest m old mid new faults more n e other adds none = record {
   taken = m ∷ n.taken;
-  knows = λ blocks named k. rw other (added blocks (plain n.taken ++ named) (n.knows blocks named k));
+  added = n.added ++ m ∷ [];
+  same = λ l. rw other (last_of l m n.added ∙ ap (λ (b : Bool). b || link_eq l m) (n.same l) ∙ or_comm (has l (plain n.taken)) (link_eq l m));
+  adds = adds_then n.added (m ∷ []) old mid new n.adds adds;
   sound = λ l here. n.sound l (rw (ap (has l) e ∙ last_of l m rest) (regroup (link_eq l m) (has l n.taken) (has l rest) here));
   begins = λ l here. regroup_back (link_eq l m) (has l n.taken) (has l rest) (rw (ap (has l) e ∙ last_of l m rest) at (n.begins l here));
   closed = λ m' l taken same here. elim (true_or_false (link_eq m' m)) [
@@ -243,17 +266,19 @@ names_plain from pending rest m old mid new faults more n e other added none = r
 }
 
 -- the last of those that are pending is reached
-last_reached : (from pending rest : List Link) (m : Link) (old new : MissingBlocks) (faults : List CarriedFault) → NamesSoFar from pending old new faults
+last_reached : (from pending rest : List Link) (m : Link) (old new : Search) (faults : List CarriedFault) → NamesSoFar from pending old new faults
     → pending ≡ rest ++ m ∷ [] → Reaches from m
 last_reached from pending rest m old new faults n e = n.sound m (rw (ap (has m) e ∙ last_of m m rest, eq_self m) (or_last (has m n.taken) (has m rest)))
 
 -- a link that carries a block, whose links are pending then
-names_inlined : (from pending rest inner : List Link) (m : Link) (old mid new : MissingBlocks) (faults more : List CarriedFault) → NamesSoFar from pending old mid faults
-    → pending ≡ rest ++ m ∷ [] → is_identity m ≡ true → KnowsAll mid new → inner ≡ links_in m.codec m.digest → TakesFault m faults more
+names_inlined : (from pending rest inner : List Link) (m : Link) (old mid new : Search) (faults more : List CarriedFault) → NamesSoFar from pending old mid faults
+    → pending ≡ rest ++ m ∷ [] → is_identity m ≡ true → new ≡ mid → inner ≡ links_in m.codec m.digest → TakesFault m faults more
     → NamesSoFar from (rest ++ inner) old new more
 names_inlined from pending rest inner m old mid new faults more n e carries all is t = record {
   taken = m ∷ n.taken;
-  knows = λ blocks named k. rw carries (all blocks (plain n.taken ++ named) (n.knows blocks named k));
+  added = n.added;
+  same = λ l. rw carries (n.same l);
+  adds = subst (AddsEach n.added old) (sym all) n.adds;
   sound = λ l here. elim (true_or_false (has l inner)) [
     | inl within ↦ inlined m l (last_reached from pending rest m old mid faults n e) carries (rw is at within)
     | inr without ↦ n.sound l (rw (ap (has l) e ∙ last_of l m rest) (regroup (link_eq l m) (has l n.taken) (has l rest)
@@ -272,7 +297,7 @@ names_inlined from pending rest inner m old mid new faults more n e carries all 
 }
 
 -- what is reached was taken
-reached : (from : List Link) (old new : MissingBlocks) (faults : List CarriedFault) → (n : NamesSoFar from [] old new faults) (l : Link) → Reaches from l → has l n.taken ≡ true
+reached : (from : List Link) (old new : Search) (faults : List CarriedFault) → (n : NamesSoFar from [] old new faults) (l : Link) → Reaches from l → has l n.taken ≡ true
 reached from old new faults n l (stands k here) = or_nothing (has k n.taken) (n.begins k here)
 reached from old new faults n l (inlined m k r same here) = or_nothing (has k n.taken) (n.closed m k (reached from old new faults n m r) same here)
 
@@ -294,17 +319,17 @@ has_plain l (m ∷ ls) = elim (true_or_false (link_eq l m)) [
 ]
 
 -- nothing is pending
-pub names_all : (from pending : List Link) (old new : MissingBlocks) (faults : List CarriedFault) → NamesSoFar from pending old new faults → pending ≡ []
+pub names_all : (from pending : List Link) (old new : Search) (faults : List CarriedFault) → NamesSoFar from pending old new faults → pending ≡ []
     → Names from old new
 names_all from pending old new faults m none =
     let n = subst (λ p. NamesSoFar from p old new faults) none m in
     record {
-      added = plain n.taken;
-      knows = n.knows;
-      exactly = λ l. rw (has_plain l n.taken) (decided (has l n.taken) (is_identity l) (λ here. n.sound l (or_first (has l n.taken) here)) (reached from old new faults n l));
+      added = n.added;
+      adds = n.adds;
+      exactly = λ l. rw (n.same l ∙ has_plain l n.taken) (decided (has l n.taken) (is_identity l) (λ here. n.sound l (or_first (has l n.taken) here)) (reached from old new faults n l));
     }
 
-pub faults_all : (from pending : List Link) (old new : MissingBlocks) (faults : List CarriedFault) → NamesSoFar from pending old new faults → pending ≡ []
+pub faults_all : (from pending : List Link) (old new : Search) (faults : List CarriedFault) → NamesSoFar from pending old new faults → pending ≡ []
     → CarriesFaults from faults
 faults_all from pending old new faults m none =
     let n = subst (λ p. NamesSoFar from p old new faults) none m in
@@ -314,17 +339,21 @@ faults_all from pending old new faults m none =
 pub map_last : (cids : List (CidGeneric 64)) (c : CidGeneric 64) (before : List (CidGeneric 64)) → before ≡ cids ++ c ∷ [] → map link_of before ≡ map link_of cids ++ link_of c ∷ []
 map_last cids c before e = ap (map link_of) e ∙ map-append link_of cids (c ∷ [])
 
+-- where adding links stands
+abbrev pub adding : List Link → Search → List CarriedFault → Adding
+adding pending search faults = record { pending = pending; search = search; faults = faults }
+
 -- a link more was taken
-pub names_more : (from pending rest after : List Link) (m : Link) (old mid new : MissingBlocks) (faults more : List CarriedFault) → NamesSoFar from pending old mid faults
-    → pending ≡ rest ++ m ∷ [] → TakesLink m rest after mid new faults more → NamesSoFar from after old new more
+pub names_more : (from pending rest after : List Link) (m : Link) (old mid new : Search) (faults more : List CarriedFault) → NamesSoFar from pending old mid faults
+    → pending ≡ rest ++ m ∷ [] → TakesLink m (adding rest mid faults) (adding after new more) → NamesSoFar from after old new more
 names_more from pending rest after m old mid new faults more n e t = elim (true_or_false (is_identity m)) [
   | inl carries ↦
       let did = rw carries at t in
-      subst (λ p. NamesSoFar from p old new more) (sym did.1)
-      (names_inlined from pending rest (links_in m.codec m.digest) m old mid new faults more n e carries did.0 refl did.2)
+      subst (λ p. NamesSoFar from p old new more) (sym did.pending)
+      (names_inlined from pending rest (links_in m.codec m.digest) m old mid new faults more n e carries did.search refl did.faults)
   | inr other ↦
       let did = rw other at t in
-      subst (λ p. NamesSoFar from p old new more) (sym did.1) (names_plain from pending rest m old mid new faults more n e other did.0 did.2)
+      subst (λ p. NamesSoFar from p old new more) (sym did.pending) (names_plain from pending rest m old mid new faults more n e other did.search did.faults)
 ]
 
 either_way : {P : Type 0} (a i : Bool) → (a && not i) ≡ true → (a ≡ true → P) → P × (i ≡ false)
@@ -337,35 +366,43 @@ or_left true b e = refl
 or_left false b e = absurd (false_true e)
 
 -- where it ends early, a part of them was added
-pub names_some : (from pending : List Link) (old mid new : MissingBlocks) (faults : List CarriedFault) → NamesSoFar from pending old mid faults → KnowsAll mid new
+pub names_some : (from pending : List Link) (old mid new : Search) (faults : List CarriedFault) → NamesSoFar from pending old mid faults → new ≡ mid
     → NamesSome from old new
 names_some from pending old mid new faults n all = record {
-  added = plain n.taken;
-  knows = λ blocks named k. all blocks (plain n.taken ++ named) (n.knows blocks named k);
-  only = λ l here. either_way (has l n.taken) (is_identity l) (sym (has_plain l n.taken) ∙ here) (λ taken. n.sound l (or_left (has l n.taken) (has l pending) taken));
+  added = n.added;
+  adds = subst (AddsEach n.added old) (sym all) n.adds;
+  only = λ l here. either_way (has l n.taken) (is_identity l) (sym (n.same l ∙ has_plain l n.taken) ∙ here) (λ taken. n.sound l (or_left (has l n.taken) (has l pending) taken));
 }
 
 -- the links of the block that a CID carries
-pub takes_links : (m : Link) (index : MissingBlocks) (before links after : List (CidGeneric 64)) (faults : List CarriedFault) → is_identity m ≡ true
-    → BlockHas m.codec m.digest (map link_of links) → after ≡ before ++ links → TakesLink m (map link_of before) (map link_of after) index index faults faults
+pub takes_links : (m : Link) (index : Search) (before links after : List (CidGeneric 64)) (faults : List CarriedFault) → is_identity m ≡ true
+    → BlockHas m.codec m.digest (map link_of links) → after ≡ before ++ links → TakesLink m (adding (map link_of before) index faults) (adding (map link_of after) index faults)
 takes_links m index before links after faults carries held e =
-    rw carries (
-      λ blocks named k. k,
-      ap (map link_of) e ∙ map-append link_of before links ∙ ap (λ ls. map link_of before ++ ls) (read_links m.codec m.digest (map link_of links) held),
-      inl (block_of_links m.codec m.digest (map link_of links) held, refl),
-    )
+    rw carries (record {
+      pending = ap (map link_of) e ∙ map-append link_of before links ∙ ap (λ ls. map link_of before ++ ls) (read_links m.codec m.digest (map link_of links) held);
+      search = refl;
+      faults = inl (block_of_links m.codec m.digest (map link_of links) held, refl);
+    })
 
 -- a CID carries a block of another codec
-pub takes_none : (m : Link) (index : MissingBlocks) (before : List Link) (faults : List CarriedFault) → is_identity m ≡ true → codec_of_code m.codec ≡ None
-    → TakesLink m before before index index faults faults
+pub takes_none : (m : Link) (index : Search) (before : List Link) (faults : List CarriedFault) → is_identity m ≡ true → codec_of_code m.codec ≡ None
+    → TakesLink m (adding before index faults) (adding before index faults)
 takes_none m index before faults carries unread =
-    rw carries (λ blocks named k. k, sym (append-nil before) ∙ ap (λ ls. before ++ ls) (no_links m.codec m.digest unread), inl (inl unread, refl))
+    rw carries (record {
+      pending = sym (append-nil before) ∙ ap (λ ls. before ++ ls) (no_links m.codec m.digest unread);
+      search = refl;
+      faults = inl (inl unread, refl);
+    })
 
 -- or bytes that are no block
-pub takes_fault : (m : Link) (index : MissingBlocks) (before : List Link) (faults more : List CarriedFault) (fault : CarriedFault) → is_identity m ≡ true
-    → BlockFault m.codec m.digest fault.why → carrier fault ≡ m → more ≡ faults ++ fault ∷ [] → TakesLink m before before index index faults more
+pub takes_fault : (m : Link) (index : Search) (before : List Link) (faults more : List CarriedFault) (fault : CarriedFault) → is_identity m ≡ true
+    → BlockFault m.codec m.digest fault.why → carrier fault ≡ m → more ≡ faults ++ fault ∷ [] → TakesLink m (adding before index faults) (adding before index more)
 takes_fault m index before faults more fault carries wrong is e =
-    rw carries (λ blocks named k. k, sym (append-nil before) ∙ ap (λ ls. before ++ ls) (fault_links m.codec m.digest fault.why wrong), inr (fault, e, is, wrong))
+    rw carries (record {
+      pending = sym (append-nil before) ∙ ap (λ ls. before ++ ls) (fault_links m.codec m.digest fault.why wrong);
+      search = refl;
+      faults = inr (fault, e, is, wrong);
+    })
 
 -- no CIDs
 pub no_cids : (cids : List (CidGeneric 64)) → length cids ≡ 0 → map link_of cids ≡ []

@@ -22,15 +22,16 @@ use Rattle.car_files.specs.Verifying.{Tallies, nothing, right_one, wrong_one, un
 use Rattle.car_files.specs.Written.{Known, known, unknown as not_read, invalid, IsKnownOf, IsSaid, is_invalid, sections_len, version_number, front_text, linked_text, AreListed, no_block, block_more, begun_text, end_text, verdict_text, no_lines, no_line, line}
 use Rattle.car_files.proofs.Sections.{reads_none, reads_more, reads_all, none_later}
 use Rattle.car_files.proofs.Lengths.{begins_behind}
+use Rattle.car_files.proofs.Streams.{read_from, output_to, lines_to, listed_of, verified_of}
 
 -- so many blocks were listed in this form, and so many of them are none of their codec
 pub record ListsSoFar {R : Type 0} (before after : Option (List ℕ)) (old new : CarReader R) (form : Form) (label : List ℕ) (held holds erred errs : Option (List ℕ))
     (count wrong : ℕ) : Type 0 where
   pub blocks : List Block
-  pub reads : Reads before after old new blocks
+  pub reads : Reads (read_from before after old new) blocks
   pub counted : count ≡ length blocks
   pub few : wrong ≤ count
-  pub lists : ListsBlocks form label old blocks held holds erred errs wrong []
+  pub lists : ListsBlocks form (output_to held holds) (lines_to label erred errs) old blocks wrong []
 
 -- what stands before the blocks was written
 pub lists_none : {R : Type 0} (bytes : Option (List ℕ)) (car : CarReader R) (form : Form) (label : List ℕ) (held holds erred : Option (List ℕ)) (version : ℕ)
@@ -58,9 +59,9 @@ few_more count wrong false e = omega arith
 
 -- a block more was listed
 blocks_more : {R : Type 0} (form : Form) (label : List ℕ) (car : CarReader R) (blocks : List Block) (block : Block) (held holding holds erred erring errs : Option (List ℕ))
-    (wrong : ℕ) (b : Bool) → ListsBlocks form label car blocks held holding erred erring wrong []
-    → ListsBlock form label (car.offset + sections_len blocks) block holding holds erring errs b
-    → ListsBlocks form label car (blocks ++ block ∷ []) held holds erred errs (wrong + from_bool b) []
+    (wrong : ℕ) (b : Bool) → ListsBlocks form (output_to held holding) (lines_to label erred erring) car blocks wrong []
+    → ListsBlock form (output_to holding holds) (lines_to label erring errs) (car.offset + sections_len blocks) block b
+    → ListsBlocks form (output_to held holds) (lines_to label erred errs) car (blocks ++ block ∷ []) (wrong + from_bool b) []
 blocks_more form label car blocks block held holding holds erred erring errs wrong b s l =
     let here : List ℕ = linked_text form (car.offset + sections_len blocks) block l.links in
     record {
@@ -77,21 +78,21 @@ blocks_more form label car blocks block held holding holds erred erring errs wro
 
 pub lists_more : {R : Type 0} (before between after : Option (List ℕ)) (old mid new : CarReader R) (form : Form) (label : List ℕ)
     (held holding holds erred erring errs : Option (List ℕ)) (count wrong place : ℕ) (block : Block) (b : Bool)
-    → ListsSoFar before between old mid form label held holding erred erring count wrong → ReadsNext between after mid new block (Ok true) → place ≡ mid.offset
-    → ListsBlock form label place block holding holds erring errs b → ListsSoFar before after old new form label held holds erred errs (count + 1) (wrong + from_bool b)
+    → ListsSoFar before between old mid form label held holding erred erring count wrong → ReadsNext (read_from between after mid new) block (Ok true) → place ≡ mid.offset
+    → ListsBlock form (output_to holding holds) (lines_to label erring errs) place block b → ListsSoFar before after old new form label held holds erred errs (count + 1) (wrong + from_bool b)
 lists_more before between after old mid new form label held holding holds erred erring errs count wrong place block b s r at l = record {
   blocks = s.blocks ++ block ∷ [];
   reads = reads_more before between after old mid new s.blocks (block ∷ []) s.reads r;
   counted = let e = length-append s.blocks (block ∷ []) in let c = s.counted in omega arith;
   few = few_more count wrong b s.few;
   lists = blocks_more form label old s.blocks block held holding holds erred erring errs wrong b s.lists
-      (subst (λ (n : ℕ). ListsBlock form label n block holding holds erring errs b) (at ∙ begins_behind before between old mid s.blocks s.reads) l);
+      (subst (λ (n : ℕ). ListsBlock form (output_to holding holds) (lines_to label erring errs) n block b) (at ∙ begins_behind before between old mid s.blocks s.reads) l);
 }
 
 pub lists_all : {R : Type 0} (before between after : Option (List ℕ)) (old mid new : CarReader R) (form : Form) (label : List ℕ)
     (held holding holds erred errs : Option (List ℕ)) (count wrong : ℕ) (block : Block)
-    → ListsSoFar before between old mid form label held holding erred errs count wrong → ReadsNext between after mid new block (Ok false)
-    → Appends holding holds (end_text form) → Lists before after old new form label held holds erred errs count wrong
+    → ListsSoFar before between old mid form label held holding erred errs count wrong → ReadsNext (read_from between after mid new) block (Ok false)
+    → Appends holding holds (end_text form) → Lists form (read_from before after old new) (output_to held holds) (lines_to label erred errs) (listed_of count wrong)
 lists_all before between after old mid new form label held holding holds erred errs count wrong block s r a = record {
   blocks = s.blocks;
   reads = reads_all before between after old mid new s.blocks s.reads r;
@@ -123,7 +124,7 @@ quiet Dot label begin cid not_read e = refl
 quiet Dot label begin cid (invalid why) e = absurd (true_false e)
 
 pub listed_quietly : (form : Form) (label : List ℕ) (begin : ℕ) (block : Block) (held holds erred : Option (List ℕ)) (links : Known) → IsKnownOf block links
-    → Appends held holds (linked_text form begin block links) → is_invalid links ≡ false → ListsBlock form label begin block held holds erred erred false
+    → Appends held holds (linked_text form begin block links) → is_invalid links ≡ false → ListsBlock form (output_to held holds) (lines_to label erred erred) begin block false
 listed_quietly form label begin block held holds erred links k w e = record {
   links = links;
   is_known = k;
@@ -136,29 +137,29 @@ listed_quietly form label begin block held holds erred links k w e = record {
 
 -- what was written could not be
 pub unwritten : {R : Type 0} (before after : Option (List ℕ)) (old new : CarReader R) (form : Form) (label : List ℕ) (held holds erred errs : Option (List ℕ))
-    (error : CarFileError) → IsWritingError error → ListingFault before after old new form label held holds erred errs error
+    (error : CarFileError) → IsWritingError error → ListingFault form (read_from before after old new) (output_to held holds) (lines_to label erred errs) error
 unwritten before after old new form label held holds erred errs Memory e = tt
 unwritten before after old new form label held holds erred errs (Write kind) e = e
 unwritten before after old new form label held holds erred errs (Car error) e = absurd e
 
 pub unlisted_car : {R : Type 0} (before between after : Option (List ℕ)) (old mid new : CarReader R) (form : Form) (label : List ℕ)
     (held holds erred errs : Option (List ℕ)) (count wrong : ℕ) (block : Block) (error : CarFileError)
-    → ListsSoFar before between old mid form label held holds erred errs count wrong → ReadsNext between after mid new block (Err error)
-    → ListingFault before after old new form label held holds erred errs error
+    → ListsSoFar before between old mid form label held holds erred errs count wrong → ReadsNext (read_from between after mid new) block (Err error)
+    → ListingFault form (read_from before after old new) (output_to held holds) (lines_to label erred errs) error
 unlisted_car before between after old mid new form label held holds erred errs count wrong block Memory s r = tt
 unlisted_car before between after old mid new form label held holds erred errs count wrong block (Car error) s r =
     let later = none_later before between after old mid new s.blocks error s.reads r.0 r.1 in
-    (later.0, wrong, subst (λ (bs : List Block). ListsBlocks form label old bs held holds erred errs wrong []) (sym later.1) s.lists)
+    (later.0, wrong, subst (λ (bs : List Block). ListsBlocks form (output_to held holds) (lines_to label erred errs) old bs wrong []) (sym later.1) s.lists)
 unlisted_car before between after old mid new form label held holds erred errs count wrong block (Write kind) s r = absurd r
 
 -- so many blocks were seen, and so many of them are wrong or not known
 pub record TalliesSoFar {R : Type 0} (verdict : VerdictForm) (before after : Option (List ℕ)) (old new : CarReader R) (held holds : Option (List ℕ)) (count wrong unknown : ℕ) : Type 0 where
   pub blocks : List Block
-  pub reads : Reads before after old new blocks
+  pub reads : Reads (read_from before after old new) blocks
   pub right : ℕ
   pub tallies : Tallies blocks right wrong unknown
   pub total : right + wrong + unknown ≡ count
-  pub writes : Writes verdict old.offset blocks held holds
+  pub writes : Writes verdict old.offset blocks (output_to held holds)
 
 pub tallies_none : {R : Type 0} (verdict : VerdictForm) (bytes : Option (List ℕ)) (car : CarReader R) (held : Option (List ℕ)) → TalliesSoFar verdict bytes bytes car car held held 0 0 0
 tallies_none verdict bytes car held = record {
@@ -171,14 +172,14 @@ tallies_none verdict bytes car held = record {
 }
 
 -- nothing is written about a block
-right_written : (verdict : VerdictForm) (begin : ℕ) (blocks : List Block) (block : Block) (held holds : Option (List ℕ)) → Writes verdict begin blocks held holds
-    → digest_by block.cid.code block.bytes ≡ Some block.cid.digest → Writes verdict begin (blocks ++ block ∷ []) held holds
+right_written : (verdict : VerdictForm) (begin : ℕ) (blocks : List Block) (block : Block) (held holds : Option (List ℕ)) → Writes verdict begin blocks (output_to held holds)
+    → digest_by block.cid.code block.bytes ≡ Some block.cid.digest → Writes verdict begin (blocks ++ block ∷ []) (output_to held holds)
 right_written verdict begin blocks block held holds w d = record { text = w.text; reports = no_line blocks block w.text w.reports d; appends = w.appends }
 
 -- a line is
 other_written : {R : Type 0} (verdict : VerdictForm) (before between : Option (List ℕ)) (old mid : CarReader R) (held holding holds : Option (List ℕ)) (place : ℕ) (blocks : List Block) (block : Block) (error : VerifyError)
-    → Reads before between old mid blocks → place ≡ mid.offset → Writes verdict old.offset blocks held holding → IsVerifyError block.cid block.bytes error
-    → Appends holding holds (verdict_text verdict place block.cid error) → Writes verdict old.offset (blocks ++ block ∷ []) held holds
+    → Reads (read_from before between old mid) blocks → place ≡ mid.offset → Writes verdict old.offset blocks (output_to held holding) → IsVerifyError block.cid block.bytes error
+    → Appends holding holds (verdict_text verdict place block.cid error) → Writes verdict old.offset (blocks ++ block ∷ []) (output_to held holds)
 other_written verdict before between old mid held holding holds place blocks block error r at w e a = record {
   text = w.text ++ verdict_text verdict (old.offset + sections_len blocks) block.cid error;
   reports = line blocks block error w.text w.reports e;
@@ -187,7 +188,7 @@ other_written verdict before between old mid held holding holds place blocks blo
 }
 
 pub tallies_right : {R : Type 0} (verdict : VerdictForm) (before between after : Option (List ℕ)) (old mid new : CarReader R) (held holds : Option (List ℕ)) (count wrong unknown : ℕ) (block : Block)
-    → TalliesSoFar verdict before between old mid held holds count wrong unknown → ReadsNext between after mid new block (Ok true)
+    → TalliesSoFar verdict before between old mid held holds count wrong unknown → ReadsNext (read_from between after mid new) block (Ok true)
     → digest_by block.cid.code block.bytes ≡ Some block.cid.digest → TalliesSoFar verdict before after old new held holds (count + 1) wrong unknown
 tallies_right verdict before between after old mid new held holds count wrong unknown block s r d = record {
   blocks = s.blocks ++ block ∷ [];
@@ -199,7 +200,7 @@ tallies_right verdict before between after old mid new held holds count wrong un
 }
 
 pub tallies_wrong : {R : Type 0} (verdict : VerdictForm) (before between after : Option (List ℕ)) (old mid new : CarReader R) (held holding holds : Option (List ℕ)) (count wrong unknown place : ℕ) (block : Block)
-    → TalliesSoFar verdict before between old mid held holding count wrong unknown → ReadsNext between after mid new block (Ok true)
+    → TalliesSoFar verdict before between old mid held holding count wrong unknown → ReadsNext (read_from between after mid new) block (Ok true)
     → IsVerifyError block.cid block.bytes WrongDigest → place ≡ mid.offset → Appends holding holds (verdict_text verdict place block.cid WrongDigest)
     → TalliesSoFar verdict before after old new held holds (count + 1) (wrong + 1) unknown
 tallies_wrong verdict before between after old mid new held holding holds count wrong unknown place block s r d at a = record {
@@ -212,7 +213,7 @@ tallies_wrong verdict before between after old mid new held holding holds count 
 }
 
 pub tallies_unknown : {R : Type 0} (verdict : VerdictForm) (before between after : Option (List ℕ)) (old mid new : CarReader R) (held holding holds : Option (List ℕ)) (count wrong unknown code place : ℕ) (block : Block)
-    → TalliesSoFar verdict before between old mid held holding count wrong unknown → ReadsNext between after mid new block (Ok true)
+    → TalliesSoFar verdict before between old mid held holding count wrong unknown → ReadsNext (read_from between after mid new) block (Ok true)
     → IsVerifyError block.cid block.bytes (UnknownHash code) → place ≡ mid.offset → Appends holding holds (verdict_text verdict place block.cid (UnknownHash code))
     → TalliesSoFar verdict before after old new held holds (count + 1) wrong (unknown + 1)
 tallies_unknown verdict before between after old mid new held holding holds count wrong unknown code place block s r d at a = record {
@@ -237,8 +238,8 @@ line_of verdict held holds place block cid error kind c k a =
     subst (λ (e : VerifyError). Appends held holds (verdict_text verdict place block.cid e)) k (subst (λ (l : Link). Appends held holds (verdict_text verdict place l error)) c a)
 
 pub tallies_all : {R : Type 0} (verdict : VerdictForm) (before between after : Option (List ℕ)) (old mid new : CarReader R) (held holds : Option (List ℕ)) (count wrong unknown right : ℕ) (block : Block)
-    → TalliesSoFar verdict before between old mid held holds count wrong unknown → ReadsNext between after mid new block (Ok false) → right ≡ count - wrong - unknown
-    → Verifies verdict before after old new held holds right wrong unknown
+    → TalliesSoFar verdict before between old mid held holds count wrong unknown → ReadsNext (read_from between after mid new) block (Ok false) → right ≡ count - wrong - unknown
+    → Verifies verdict (read_from before after old new) (output_to held holds) (verified_of right wrong unknown)
 tallies_all verdict before between after old mid new held holds count wrong unknown right block s r is = record {
   blocks = s.blocks;
   reads = reads_all before between after old mid new s.blocks s.reads r;
@@ -247,15 +248,15 @@ tallies_all verdict before between after old mid new held holds count wrong unkn
 }
 
 pub unverified_car : {R : Type 0} (verdict : VerdictForm) (before between after : Option (List ℕ)) (old mid new : CarReader R) (held holds : Option (List ℕ)) (count wrong unknown : ℕ) (block : Block) (error : CarFileError)
-    → TalliesSoFar verdict before between old mid held holds count wrong unknown → ReadsNext between after mid new block (Err error) → VerifyingFault verdict before after old new held holds error
+    → TalliesSoFar verdict before between old mid held holds count wrong unknown → ReadsNext (read_from between after mid new) block (Err error) → VerifyingFault verdict (read_from before after old new) (output_to held holds) error
 unverified_car verdict before between after old mid new held holds count wrong unknown block (Write kind) s r = absurd r
 unverified_car verdict before between after old mid new held holds count wrong unknown block Memory s r = tt
 unverified_car verdict before between after old mid new held holds count wrong unknown block (Car error) s r =
     let later = none_later before between after old mid new s.blocks error s.reads r.0 r.1 in
-    (later.0, subst (λ (bs : List Block). Writes verdict old.offset bs held holds) (sym later.1) s.writes)
+    (later.0, subst (λ (bs : List Block). Writes verdict old.offset bs (output_to held holds)) (sym later.1) s.writes)
 
 pub unverified : {R : Type 0} (verdict : VerdictForm) (before after : Option (List ℕ)) (old new : CarReader R) (held holds : Option (List ℕ)) (error : CarFileError)
-    → IsWritingError error → VerifyingFault verdict before after old new held holds error
+    → IsWritingError error → VerifyingFault verdict (read_from before after old new) (output_to held holds) error
 unverified verdict before after old new held holds Memory e = tt
 unverified verdict before after old new held holds (Write kind) e = e
 unverified verdict before after old new held holds (Car error) e = absurd e

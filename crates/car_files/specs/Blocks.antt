@@ -1,5 +1,5 @@
 -- The links of blocks, by the codes of their codecs.
-use Rattle.std.specs.Prelude.{◌≡◌, ◌⊎◌, ℕ, true, Some, None, List, []}
+use Rattle.std.specs.Prelude.{◌≡◌, ◌⊎◌, ℕ, Bool, true, Some, None, List, []}
 use Rattle.std.specs.Option.{unwrap_or, option_map_or}
 use Rattle.std.specs.Result.{result_unwrap_or}
 use Rattle.ipld_cid.specs.Cid.{Link}
@@ -11,9 +11,13 @@ use Rattle.ipld_block.specs.declared.codec.BlockCodec.{BlockCodec}
 use Rattle.ipld_block.specs.declared.codec.BlockCodec.TheVariants.{DagCbor, DagPb, Raw}
 use Rattle.ipld_block.specs.declared.error.InvalidBlock.{InvalidBlock}
 
+-- that blocks may have floats
+abbrev pub with_floats : Bool
+with_floats = true
+
 -- the links of a block of this codec, none where the bytes are no block
 abbrev pub links_by : BlockCodec → List ℕ → List Link
-links_by DagCbor bytes = unwrap_or (links_read true bytes) []
+links_by DagCbor bytes = unwrap_or (links_read with_floats bytes) []
 links_by DagPb bytes = result_unwrap_or (links_found bytes) []
 links_by Raw bytes = []
 

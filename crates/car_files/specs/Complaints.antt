@@ -1,5 +1,5 @@
 -- What is said of a CAR in which something is at fault.
-use Rattle.std.specs.Prelude.{◌≡◌, ◌⊎◌, ◌+◌, ◌==◌, ℕ, Bool, true, not, List, [], ◌∷◌, ◌++◌, length, map, Option}
+use Rattle.std.specs.Prelude.{◌≡◌, ◌⊎◌, ◌+◌, ◌==◌, ℕ, Bool, true, not, List, [], ◌∷◌, ◌++◌, length, map}
 use Rattle.std.specs.Int.{from_bool}
 use Rattle.std.specs.Io.KnownBytes.{Appends}
 use Rattle.ipld_cid.specs.Cid.{Link}
@@ -10,13 +10,14 @@ use Rattle.ipld_car.specs.Section.{Block}
 use Rattle.car_files.specs.Blocks.{BlockFault, IsBlockOf, links_in}
 use Rattle.car_files.specs.Carried.{carrier, CarriesFaults}
 use Rattle.car_files.specs.declared.adding.CarriedFault.{CarriedFault}
+use Rattle.car_files.specs.Streams.{Complaints}
 use Rattle.car_files.specs.Written.{IsComplaint, sections_len}
 
 -- a line about the block was written
-pub record Complains (label : List ℕ) (begin : ℕ) (cid : Link) (erred errs : Option (List ℕ)) : Type 0 where
+pub record Complains (errors : Complaints) (begin : ℕ) (cid : Link) : Type 0 where
   pub line : List ℕ
-  pub is_line : IsComplaint label begin cid line
-  pub complained : Appends erred errs line
+  pub is_line : IsComplaint errors.label begin cid line
+  pub complained : Appends errors.before errors.after line
 
 -- a line about each of these CIDs, in their order
 abbrev pub AreComplaints : List ℕ → ℕ → List Link → List ℕ → Type 0
@@ -24,10 +25,10 @@ AreComplaints label begin [] lines = lines ≡ []
 AreComplaints label begin (cid ∷ cids) lines = (line rest : List ℕ) × (lines ≡ line ++ rest) × IsComplaint label begin cid line × AreComplaints label begin cids rest
 
 -- such lines were written
-pub record ComplainsOfEach (label : List ℕ) (begin : ℕ) (cids : List Link) (erred errs : Option (List ℕ)) : Type 0 where
+pub record ComplainsOfEach (errors : Complaints) (begin : ℕ) (cids : List Link) : Type 0 where
   pub lines : List ℕ
-  pub are_lines : AreComplaints label begin cids lines
-  pub complained : Appends erred errs lines
+  pub are_lines : AreComplaints errors.label begin cids lines
+  pub complained : Appends errors.before errors.after lines
 
 -- What is said of links that stand in what begins at the byte: a line about each CID that is reached from them and carries bytes that are no block.
 pub record SaidOfLinks (label : List ℕ) (begin : ℕ) (from : List Link) (lines : List ℕ) (invalid : Bool) : Type 0 where
@@ -53,19 +54,19 @@ pub data IsSaidOf (label : List ℕ) (roots : List Link) (begin : ℕ) : List Bl
       → IsSaidOf label roots begin (blocks ++ block ∷ []) (text ++ lines) (count + from_bool invalid)
 
 -- what is said of links was written
-pub record SaysOfLinks (label : List ℕ) (begin : ℕ) (from : List Link) (erred errs : Option (List ℕ)) (invalid : Bool) : Type 0 where
+pub record SaysOfLinks (errors : Complaints) (begin : ℕ) (from : List Link) (invalid : Bool) : Type 0 where
   pub lines : List ℕ
-  pub said : SaidOfLinks label begin from lines invalid
-  pub complained : Appends erred errs lines
+  pub said : SaidOfLinks errors.label begin from lines invalid
+  pub complained : Appends errors.before errors.after lines
 
 -- what is said of a block
-pub record SaysOfBlock (label : List ℕ) (begin : ℕ) (block : Block) (erred errs : Option (List ℕ)) (invalid : Bool) : Type 0 where
+pub record SaysOfBlock (errors : Complaints) (begin : ℕ) (block : Block) (invalid : Bool) : Type 0 where
   pub lines : List ℕ
-  pub said : SaidOfBlock label begin block lines invalid
-  pub complained : Appends erred errs lines
+  pub said : SaidOfBlock errors.label begin block lines invalid
+  pub complained : Appends errors.before errors.after lines
 
 -- True if the lines about the faults in the roots and the blocks were written.
-pub record Says {R : Type 0} (label : List ℕ) (car : CarReader R) (blocks : List Block) (erred errs : Option (List ℕ)) (invalid : ℕ) : Type 0 where
+pub record Says {R : Type 0} (errors : Complaints) (car : CarReader R) (blocks : List Block) (invalid : ℕ) : Type 0 where
   pub lines : List ℕ
-  pub said : IsSaidOf label (map link_of car.roots.items) car.offset blocks lines invalid
-  pub complained : Appends erred errs lines
+  pub said : IsSaidOf errors.label (map link_of car.roots.items) car.offset blocks lines invalid
+  pub complained : Appends errors.before errors.after lines

@@ -5,6 +5,7 @@ pub mod Names
 pub mod Reached
 pub mod Carried
 pub mod Taking
+pub mod Streams
 pub mod Reading
 pub mod Missing
 pub mod Finding

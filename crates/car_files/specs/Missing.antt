@@ -1,5 +1,5 @@
 -- Which blocks CARs name and don't have.
-use Rattle.std.specs.Prelude.{◌≡◌, ◌≢◌, ◌+◌, ℕ, Bool, false, not, if◌then◌else◌, List, [], ◌∷◌, ◌++◌, length, map, Option}
+use Rattle.std.specs.Prelude.{◌≡◌, ◌≢◌, ◌+◌, ◌&&◌, ◌||◌, ℕ, Bool, false, not, if◌then◌else◌, List, [], ◌∷◌, ◌++◌, length, map}
 use Rattle.std.specs.Bool.{Decides}
 use Rattle.std.specs.List.{IsDistinct}
 use Rattle.std.specs.Option.{is_some}
@@ -7,18 +7,19 @@ use Rattle.std.specs.declared.io.ErrorKind.TheVariants.{OutOfMemory as NoMemory}
 use Rattle.ipld_cid.specs.Cid.{Link}
 use Rattle.ipld_cid.specs.LinkOf.{link_of}
 use Rattle.ipld_cid.specs.Order.{link_eq}
-use Rattle.ipld_car.specs.declared.reader.CarReader.{CarReader}
 use Rattle.ipld_car.specs.Section.{Block}
 use Rattle.car_files.specs.Blocks.{links_in}
 use Rattle.car_files.specs.Complaints.{Says}
 use Rattle.car_files.specs.Has.{has}
-use Rattle.car_files.specs.Index.{Knows}
+use Rattle.car_files.specs.Index.{Search}
 use Rattle.car_files.specs.Reached.{is_identity, Reaches}
-use Rattle.car_files.specs.declared.index.MissingBlocks.{MissingBlocks}
+use Rattle.car_files.specs.declared.missing.Missing.{Missing}
+use Rattle.car_files.specs.declared.missing.Seen.{Seen}
 use Rattle.ipld_block.specs.Codes.{codec_of_code}
 use Rattle.car_files.specs.declared.error.CarFileError.{CarFileError}
 use Rattle.car_files.specs.declared.error.CarFileError.TheVariants.{Memory, Write, Car}
 use Rattle.car_files.specs.Reading.{ReadsAll, NoSection}
+use Rattle.car_files.specs.Streams.{Progress, Complaints}
 
 -- The links of a block, by the codec of its CID.
 abbrev pub links_of_block : Block → List Link
@@ -52,58 +53,59 @@ abbrev pub IsMissing : List Link → List Block → Link → Type 0
 IsMissing roots blocks l = Reaches (roots ++ links_of_blocks blocks) l × (is_identity l ≡ false) × (has l (cids_of blocks) ≡ false)
 
 -- a block came, and just its links that carry no block were added, with those of the blocks that they carry
-pub record AddsBlock (block : Block) (old new : MissingBlocks) (unknown : Bool) : Type 0 where
+pub record AddsBlock (block : Block) (old new : Search) (unknown : Bool) : Type 0 where
   pub added : List Link
-  pub knows : (blocks named : List Link) → Knows old blocks named → Knows new (block.cid ∷ blocks) (added ++ named)
   pub exactly : Exactly added (links_of_block block)
+  pub came : (l : Link) → has l new.came ≡ (link_eq l block.cid || has l old.came)
+  pub missing : (l : Link) → has l new.missing
+      ≡ ((has l old.missing && not (link_eq l block.cid)) || (has l added && not (has l new.came)))
   pub is_unknown : unknown ≡ not (is_known block)
 
 -- True if the blocks came, and just those links were added that are reached from the roots and the
--- links of the blocks and carry no block.
-pub record AddsBlocks (roots : List Link) (blocks : List Block) (old new : MissingBlocks) : Type 0 where
+-- links of the blocks and carry no block. A link is missing then if it was and its block is none of
+-- these, or if it was added and its block did not come.
+pub record AddsBlocks (roots : List Link) (blocks : List Block) (old new : Search) : Type 0 where
   pub added : List Link
-  pub knows : (came named : List Link) → Knows old came named → Knows new (cids_of blocks ++ came) (added ++ named)
   pub exactly : Exactly added (roots ++ links_of_blocks blocks)
+  pub came : (l : Link) → has l new.came ≡ (has l (cids_of blocks) || has l old.came)
+  pub missing : (l : Link) → has l new.missing
+      ≡ ((has l old.missing && not (has l (cids_of blocks))) || (has l added && not (has l new.came)))
 
--- True if all blocks were read, `count` of them, of which `unknown` are of codecs that are not
--- known. They were added with the roots (`AddsBlocks`), and the lines about the faults were written
--- (`Says`).
-pub record AddsCar {R : Type 0} (before after : Option (List ℕ)) (old new : CarReader R) (label : List ℕ) (erred errs : Option (List ℕ))
-    (first last : MissingBlocks) (count unknown invalid : ℕ) : Type 0 where
+-- True if all blocks were read, and added with the roots to what was known (`AddsBlocks`), and the
+-- lines about the faults were written (`Says`). What was seen counts the blocks, those of codecs
+-- that are not known, and the faults.
+pub record AddsCar {R : Type 0} (read : Progress R) (errors : Complaints) (first last : Search) (seen : Seen) : Type 0 where
   pub blocks : List Block
-  pub reads : ReadsAll before after old new blocks
-  pub adds : AddsBlocks (map link_of old.roots.items) blocks first last
-  pub says : Says label old blocks erred errs invalid
-  pub counted : count ≡ length blocks
-  pub unread : unknown ≡ unknown_in blocks
+  pub reads : ReadsAll read blocks
+  pub adds : AddsBlocks (map link_of read.old.roots.items) blocks first last
+  pub says : Says errors read.old blocks seen.invalid
+  pub counted : seen.blocks ≡ length blocks
+  pub unread : seen.unknown ≡ unknown_in blocks
 
 -- True if the writer or an allocation failed; or the bytes are not a section, the blocks before
 -- were added, and the lines about their faults were written.
-abbrev pub AddingFault : {R : Type 0} → Option (List ℕ) → Option (List ℕ) → CarReader R → CarReader R → List ℕ → Option (List ℕ) → Option (List ℕ)
-    → MissingBlocks → MissingBlocks → CarFileError → Type 0
-AddingFault before after old new label erred errs first last Memory = Unit {0}
-AddingFault before after old new label erred errs first last (Write kind) = kind ≢ NoMemory
-AddingFault before after old new label erred errs first last (Car error) =
-    (stops : NoSection before after old new error) × AddsBlocks (map link_of old.roots.items) stops.blocks first last
-    × (invalid : ℕ) × Says label old stops.blocks erred errs invalid
+abbrev pub AddingFault : {R : Type 0} → Progress R → Complaints → (first last : Search) → CarFileError → Type 0
+AddingFault read errors first last Memory = Unit {0}
+AddingFault read errors first last (Write kind) = kind ≢ NoMemory
+AddingFault read errors first last (Car error) =
+    (stops : NoSection read error) × AddsBlocks (map link_of read.old.roots.items) stops.blocks first last
+    × (invalid : ℕ) × Says errors read.old stops.blocks invalid
 
--- True if all blocks were read and the lines about the faults were written, and `missing` has just
--- the links that are missing, each once.
-pub record Finds {R : Type 0} (before after : Option (List ℕ)) (old new : CarReader R) (label : List ℕ) (erred errs : Option (List ℕ))
-    (count unknown invalid : ℕ) (missing : List Link) : Type 0 where
+-- True if all blocks were read and the lines about the faults were written, and what was found has
+-- just the links that are missing, each once, and counts what was seen as `AddsCar` does.
+pub record Finds {R : Type 0} (read : Progress R) (errors : Complaints) (found : Missing) : Type 0 where
   pub blocks : List Block
-  pub reads : ReadsAll before after old new blocks
-  pub exactly : (l : Link) → Decides (has l missing) (IsMissing (map link_of old.roots.items) blocks l)
-  pub once : IsDistinct link_eq missing
-  pub says : Says label old blocks erred errs invalid
-  pub counted : count ≡ length blocks
-  pub unread : unknown ≡ unknown_in blocks
+  pub reads : ReadsAll read blocks
+  pub exactly : (l : Link) → Decides (has l (map link_of found.missing.items)) (IsMissing (map link_of read.old.roots.items) blocks l)
+  pub once : IsDistinct link_eq (map link_of found.missing.items)
+  pub says : Says errors read.old blocks found.seen.invalid
+  pub counted : found.seen.blocks ≡ length blocks
+  pub unread : found.seen.unknown ≡ unknown_in blocks
 
 -- True if the writer or an allocation failed; or the bytes are not a section, and the lines about
 -- the faults before them were written.
-abbrev pub FindingFault : {R : Type 0} → Option (List ℕ) → Option (List ℕ) → CarReader R → CarReader R → List ℕ → Option (List ℕ) → Option (List ℕ)
-    → CarFileError → Type 0
-FindingFault before after old new label erred errs Memory = Unit {0}
-FindingFault before after old new label erred errs (Write kind) = kind ≢ NoMemory
-FindingFault before after old new label erred errs (Car error) =
-    (stops : NoSection before after old new error) × (invalid : ℕ) × Says label old stops.blocks erred errs invalid
+abbrev pub FindingFault : {R : Type 0} → Progress R → Complaints → CarFileError → Type 0
+FindingFault read errors Memory = Unit {0}
+FindingFault read errors (Write kind) = kind ≢ NoMemory
+FindingFault read errors (Car error) =
+    (stops : NoSection read error) × (invalid : ℕ) × Says errors read.old stops.blocks invalid

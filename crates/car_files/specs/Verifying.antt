@@ -1,14 +1,15 @@
 -- Whether the blocks of a CAR are those that their CIDs name.
-use Rattle.std.specs.Prelude.{◌≡◌, ◌≢◌, ◌+◌, ℕ, List, [], ◌∷◌, ◌++◌, Option, Some, None}
+use Rattle.std.specs.Prelude.{◌≡◌, ◌≢◌, ◌+◌, ℕ, List, [], ◌∷◌, ◌++◌, Some, None}
 use Rattle.std.specs.declared.io.ErrorKind.TheVariants.{OutOfMemory as NoMemory}
 use Rattle.std.specs.Io.KnownBytes.{Appends}
 use Rattle.ipld_block.specs.Digest.{digest_by, IsVerifyError}
 use Rattle.ipld_block.specs.declared.block_cid.error.VerifyError.TheVariants.{WrongDigest}
-use Rattle.ipld_car.specs.declared.reader.CarReader.{CarReader}
 use Rattle.ipld_car.specs.Section.{Block}
 use Rattle.car_files.specs.declared.error.CarFileError.{CarFileError}
 use Rattle.car_files.specs.declared.error.CarFileError.TheVariants.{Memory, Write, Car}
 use Rattle.car_files.specs.declared.verify.VerdictForm.{VerdictForm}
+use Rattle.car_files.specs.declared.verify.Verified.{Verified}
+use Rattle.car_files.specs.Streams.{Progress, Output}
 use Rattle.car_files.specs.Reading.{ReadsAll, NoSection}
 use Rattle.car_files.specs.Written.{Reports}
 
@@ -24,22 +25,23 @@ pub data Tallies : List Block → ℕ → ℕ → ℕ → Type 0 where
       → digest_by block.cid.code block.bytes ≡ None → Tallies (blocks ++ block ∷ []) right wrong (unknown + 1)
 
 -- the lines about these blocks were written in this form, and nothing else
-pub record Writes (form : VerdictForm) (begin : ℕ) (blocks : List Block) (held holds : Option (List ℕ)) : Type 0 where
+pub record Writes (form : VerdictForm) (begin : ℕ) (blocks : List Block) (output : Output) : Type 0 where
   pub text : List ℕ
   pub reports : Reports form begin blocks text
-  pub appends : Appends held holds text
+  pub appends : Appends output.before output.after text
 
 -- True if all blocks were read and are counted by their digests (`Tallies`), and the lines about
 -- them were written (FIPS 180-4).
-pub record Verifies {R : Type 0} (form : VerdictForm) (before after : Option (List ℕ)) (old new : CarReader R) (held holds : Option (List ℕ)) (right wrong unknown : ℕ) : Type 0 where
+pub record Verifies {R : Type 0} (form : VerdictForm) (read : Progress R) (output : Output) (seen : Verified) : Type 0 where
   pub blocks : List Block
-  pub reads : ReadsAll before after old new blocks
-  pub tallies : Tallies blocks right wrong unknown
-  pub writes : Writes form old.offset blocks held holds
+  pub reads : ReadsAll read blocks
+  pub tallies : Tallies blocks seen.right seen.wrong seen.unknown
+  pub writes : Writes form read.old.offset blocks output
 
 -- True if the writer or an allocation failed; or the bytes are not a section, and the lines about
 -- the blocks before them were written.
-abbrev pub VerifyingFault : {R : Type 0} → VerdictForm → Option (List ℕ) → Option (List ℕ) → CarReader R → CarReader R → Option (List ℕ) → Option (List ℕ) → CarFileError → Type 0
-VerifyingFault form before after old new held holds Memory = Unit {0}
-VerifyingFault form before after old new held holds (Write kind) = kind ≢ NoMemory
-VerifyingFault form before after old new held holds (Car error) = (stops : NoSection before after old new error) × Writes form old.offset stops.blocks held holds
+abbrev pub VerifyingFault : {R : Type 0} → VerdictForm → Progress R → Output → CarFileError → Type 0
+VerifyingFault form read output Memory = Unit {0}
+VerifyingFault form read output (Write kind) = kind ≢ NoMemory
+VerifyingFault form read output (Car error) =
+    (stops : NoSection read error) × Writes form read.old.offset stops.blocks output

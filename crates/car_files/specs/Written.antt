@@ -35,9 +35,13 @@ abbrev pub sections_len : List Block → ℕ
 sections_len [] = 0
 sections_len (block ∷ blocks) = section_len block + sections_len blocks
 
+-- whether the digits above nine are capitals, which they aren't
+abbrev pub in_capitals : Bool
+in_capitals = false
+
 -- a number in hexadecimal
 abbrev pub hexadecimal : ℕ → List ℕ
-hexadecimal n = codes "0x" ++ digits 16 false n
+hexadecimal n = codes "0x" ++ digits 16 in_capitals n
 
 -- the name of a codec, or its code where it has none here
 unfoldable pub codec_text : ℕ → List ℕ

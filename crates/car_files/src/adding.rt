@@ -5,7 +5,7 @@ ghost use Rattle.ipld_cid.specs.LinkOf.{link_of};
 ghost use Rattle.car_files.specs.Carried.{CarriesFaults};
 ghost use Rattle.car_files.specs.Names.{Names, NamesSome};
 ghost use Rattle.car_files.specs.Reached.{is_identity};
-ghost use Rattle.car_files.specs.Taking.{TakesLink, KnowsAll};
+ghost use Rattle.car_files.specs.Taking.{TakesLink};
 
 use crate::index::MissingBlocks;
 use crate::reading::links_in;
@@ -39,9 +39,18 @@ fn take_link(
     faults: &mut Vec<CarriedFault>,
     link: &Cid,
 ) -> Result<(), AllocError>
-    ensures taken { OnOk result (TakesLink (link_of link.now) (map link_of pending.old.items) (map link_of pending.new.items) index.old index.new
-        faults.old.items faults.new.items) }
-    ensures kept { OnErr result (KnowsAll index.old index.new) }
+    ensures taken { OnOk result (TakesLink (link_of link.now)
+        (record {
+          pending = map link_of pending.old.items;
+          search = index.old;
+          faults = faults.old.items;
+        })
+        (record {
+          pending = map link_of pending.new.items;
+          search = index.new;
+          faults = faults.new.items;
+        })) }
+    ensures kept { OnErr result (index.new ≡ index.old) }
 {
     if !carries_block(link) {
         return index.add_link(link);

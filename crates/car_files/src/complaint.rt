@@ -5,6 +5,7 @@ ghost use Rattle.ipld_cid.specs.LinkOf.{link_of};
 ghost use Rattle.car_files.specs.Carried.{carrier};
 ghost use Rattle.car_files.specs.Complaints.{Complains, ComplainsOfEach};
 ghost use Rattle.car_files.specs.Reading.{IsWritingError};
+ghost use Rattle.car_files.specs.Streams.{complaints};
 
 use crate::adding::CarriedFault;
 use crate::error::CarFileError;
@@ -22,7 +23,9 @@ pub(crate) fn write_complaint<E: Write>(
     why: &InvalidBlock,
     errors: &mut E,
 ) -> Result<(), CarFileError>
-    ensures written { OnOk result (Complains label.now offset (link_of cid.now) (E.contents errors.old) (E.contents errors.new)) }
+    ensures written { OnOk result (Complains
+        (complaints label.now E.contents errors.old errors.new)
+        offset (link_of cid.now)) }
     ensures fault { IfErr result IsWritingError }
 {
     let sentence = match format!(in alloc; "{why}") {
@@ -46,7 +49,9 @@ pub(crate) fn write_carried<E: Write>(
     offset: u64,
     errors: &mut E,
 ) -> Result<(), CarFileError>
-    ensures written { OnOk result (ComplainsOfEach label.now offset (map carrier faults.now) (E.contents errors.old) (E.contents errors.new)) }
+    ensures written { OnOk result (ComplainsOfEach
+        (complaints label.now E.contents errors.old errors.new)
+        offset (map carrier faults.now)) }
     ensures fault { IfErr result IsWritingError }
 {
     for fault in faults {

@@ -3,6 +3,7 @@
 ghost use Rattle.ipld_cid.specs.LinkOf.{link_of};
 ghost use Rattle.ipld_car.specs.SectionOf.{block_of};
 ghost use Rattle.car_files.specs.Finding.{LooksFor};
+ghost use Rattle.car_files.specs.Streams.{progress};
 
 use crate::error::CarFileError;
 use crate::reading::read_next;
@@ -24,7 +25,8 @@ pub fn find_block<R: BufRead + Drop>(
     cid: &Cid,
     section: &mut Section,
 ) -> Result<bool, CarFileError>
-    ensures { LooksFor (R.remaining car.old.reader) (R.remaining car.new.reader) car.old car.new (link_of cid.now) (block_of section.new) result }
+    ensures { LooksFor (progress R.remaining car.old car.new)
+        (link_of cid.now) (block_of section.new) result }
 {
     for _ in 0..u64::MAX {
         match read_next(car, section) {

@@ -4,6 +4,7 @@ use indexmap::IndexMap;
 use ipld_cid::Cid;
 use std::alloc::{AllocError, Global};
 use std::hash::RandomState;
+use std::marker::Model;
 
 /// The blocks that came so far, and the links whose block hasn't.
 ///
@@ -15,18 +16,27 @@ pub struct MissingBlocks {
     came: IndexMap<Cid, bool, RandomState>,
 }
 
+impl Model for MissingBlocks {
+    ghost use Rattle.car_files.specs.Index.{Search, came_in, missing_in};
+
+    ghost Value = { Search };
+
+    ghost view = { λ index. record {
+      came = came_in index.came.entries;
+      missing = missing_in index.came.entries;
+    } };
+}
+
 impl MissingBlocks {
-    ghost use Rattle.std.specs.Prelude.{◌≡◌, ◌&&◌, not, List, [], ◌∷◌, map, OnOk, OnErr, IfOk};
+    ghost use Rattle.std.specs.Prelude.{◌≡◌, [], ◌∷◌, map, OnOk, OnErr, IfOk};
     ghost use Rattle.std.specs.List.{IsDistinct};
-    ghost use Rattle.ipld_cid.specs.Cid.{Link};
     ghost use Rattle.ipld_cid.specs.LinkOf.{link_of};
     ghost use Rattle.ipld_cid.specs.Order.{link_eq};
-    ghost use Rattle.car_files.specs.Has.{has};
-    ghost use Rattle.car_files.specs.Index.{Knows};
+    ghost use Rattle.car_files.specs.Index.{Comes, AddsEach};
 
     /// No blocks and no links. `hasher` is of the system's random bytes, as [`RandomState::new`] makes it. Does not allocate.
     pub fn new(alloc: Global, hasher: RandomState) -> MissingBlocks
-        ensures { Knows result [] [] }
+        ensures { result ≡ record { came = []; missing = [] } }
     {
         MissingBlocks {
             came: IndexMap::with_hasher(alloc, hasher),
@@ -34,10 +44,10 @@ impl MissingBlocks {
     }
 
     /// A block of this CID came. Allocates where the CID is new; `AllocError` where that fails, and nothing then changed.
-    #[tactic(auto, using(crate::proofs::Indexing::knows_block))]
+    #[tactic(auto, using(crate::proofs::Indexing::comes))]
     pub fn add_block(&mut self, cid: &Cid) -> Result<(), AllocError>
-        ensures added { OnOk result ((blocks links : List Link) → Knows self.old blocks links → Knows self.new (link_of cid.now ∷ blocks) links) }
-        ensures kept { OnErr result ((blocks links : List Link) → Knows self.old blocks links → Knows self.new blocks links) }
+        ensures added { OnOk result (Comes (link_of cid.now) self.old self.new) }
+        ensures kept { OnErr result (self.new ≡ self.old) }
     {
         match self.came.insert(*cid, true) {
             Ok(_) => Ok(()),
@@ -46,10 +56,10 @@ impl MissingBlocks {
     }
 
     // A block has this link, or the link is a root.
-    #[tactic(auto, using(crate::proofs::Indexing::knows_link, crate::proofs::Indexing::knows_again))]
+    #[tactic(auto, using(crate::proofs::Indexing::adds_new, crate::proofs::Indexing::adds_known))]
     pub(crate) fn add_link(&mut self, cid: &Cid) -> Result<(), AllocError>
-        ensures added { OnOk result ((blocks links : List Link) → Knows self.old blocks links → Knows self.new blocks (link_of cid.now ∷ links)) }
-        ensures kept { OnErr result ((blocks links : List Link) → Knows self.old blocks links → Knows self.new blocks links) }
+        ensures added { OnOk result (AddsEach (link_of cid.now ∷ []) self.old self.new) }
+        ensures kept { OnErr result (self.new ≡ self.old) }
     {
         if self.came.contains_key(cid) {
             return Ok(());
@@ -63,10 +73,10 @@ impl MissingBlocks {
     /// The links whose block hasn't come, each once, those first that earlier calls added.
     ///
     /// Allocates for the result; `AllocError` where that fails.
+    #[tactic(auto, using(crate::proofs::Indexing::puts_none, crate::proofs::Indexing::puts_link))]
     pub fn missing(&self, alloc: Global) -> Result<Vec<Cid>, AllocError>
         ensures once { IfOk result (λ cids. IsDistinct link_eq (map link_of cids.items)) }
-        ensures exactly { IfOk result (λ cids. (blocks links : List Link) → Knows self.now blocks links
-            → (l : Link) → has l (map link_of cids.items) ≡ (has l links && not (has l blocks))) }
+        ensures exactly { IfOk result (λ cids. map link_of cids.items ≡ self.now.missing) }
     {
         let mut cids = Vec::new(alloc);
         for (cid, came) in self.came.iter() {

@@ -7,6 +7,7 @@ ghost use Rattle.ipld_block.specs.Texts.{usual_text};
 ghost use Rattle.ipld_car.specs.SectionOf.{block_of};
 ghost use Rattle.car_files.specs.Listing.{Lists, ListingFault, ListsBlock};
 ghost use Rattle.car_files.specs.Reading.{IsWritingError};
+ghost use Rattle.car_files.specs.Streams.{progress, output, complaints};
 ghost use Rattle.car_files.specs.Views.{known_of};
 ghost use Rattle.car_files.specs.Written.{IsKnownOf, links_known, array_text, text_between, texts_between, edge_text, edges_text, codec_text, count_text, error_text, member_text, version_number, front_text, linked_text, end_text};
 
@@ -83,7 +84,9 @@ fn write_between<W: Write>(
     after: &[u8],
     writer: &mut W,
 ) -> Result<(), CarFileError>
-    ensures written { OnOk result (Appends (W.contents writer.old) (W.contents writer.new) (text_between before.now after.now (link_of cid.now))) }
+    ensures written { OnOk result
+        (Appends (W.contents writer.old) (W.contents writer.new)
+        (text_between before.now after.now (link_of cid.now))) }
     ensures fault { IfErr result IsWritingError }
 {
     writer.write_all(before)?;
@@ -100,7 +103,9 @@ fn write_each<W: Write>(
     after: &[u8],
     writer: &mut W,
 ) -> Result<(), CarFileError>
-    ensures written { OnOk result (Appends (W.contents writer.old) (W.contents writer.new) (texts_between before.now after.now (map link_of cids.now))) }
+    ensures written { OnOk result
+        (Appends (W.contents writer.old) (W.contents writer.new)
+        (texts_between before.now after.now (map link_of cids.now))) }
     ensures fault { IfErr result IsWritingError }
 {
     for cid in cids {
@@ -111,7 +116,9 @@ fn write_each<W: Write>(
 
 // CIDs as an array of JSON.
 fn write_array<W: Write>(alloc: Global, cids: &[Cid], writer: &mut W) -> Result<(), CarFileError>
-    ensures written { OnOk result (Appends (W.contents writer.old) (W.contents writer.new) (array_text (map link_of cids.now))) }
+    ensures written { OnOk result
+        (Appends (W.contents writer.old) (W.contents writer.new)
+        (array_text (map link_of cids.now))) }
     ensures fault { IfErr result IsWritingError }
 {
     match cids {
@@ -136,7 +143,9 @@ fn write_front<W: Write>(
     roots: &[Cid],
     writer: &mut W,
 ) -> Result<(), CarFileError>
-    ensures written { OnOk result (Appends (W.contents writer.old) (W.contents writer.new) (front_text form version (map link_of roots.now))) }
+    ensures written { OnOk result
+        (Appends (W.contents writer.old) (W.contents writer.new)
+        (front_text form version (map link_of roots.now))) }
     ensures fault { IfErr result IsWritingError }
 {
     match form {
@@ -163,7 +172,8 @@ fn write_front<W: Write>(
 // The name of a codec, or its code.
 #[tactic(auto, using(crate::proofs::Writing::named_written, crate::proofs::Writing::unnamed_written))]
 fn write_codec<W: Write>(code: u64, writer: &mut W) -> Result<(), CarFileError>
-    ensures written { OnOk result (Appends (W.contents writer.old) (W.contents writer.new) (codec_text code)) }
+    ensures written { OnOk result
+        (Appends (W.contents writer.old) (W.contents writer.new) (codec_text code)) }
     ensures fault { IfErr result IsWritingError }
 {
     match codec_name(code) {
@@ -180,7 +190,9 @@ fn write_codec<W: Write>(code: u64, writer: &mut W) -> Result<(), CarFileError>
 
 // How many links there are, where they are known.
 fn write_count<W: Write>(links: &KnownLinks, writer: &mut W) -> Result<(), CarFileError>
-    ensures written { OnOk result (Appends (W.contents writer.old) (W.contents writer.new) (count_text (known_of links.now))) }
+    ensures written { OnOk result
+        (Appends (W.contents writer.old) (W.contents writer.new)
+        (count_text (known_of links.now))) }
     ensures fault { IfErr result IsWritingError }
 {
     match links {
@@ -222,7 +234,8 @@ fn write_block<W: Write>(
 
 // What is wrong with a block as members of an object of JSON.
 fn write_error<W: Write>(why: &InvalidBlock, writer: &mut W) -> Result<(), CarFileError>
-    ensures written { OnOk result (Appends (W.contents writer.old) (W.contents writer.new) (error_text why.now)) }
+    ensures written { OnOk result
+        (Appends (W.contents writer.old) (W.contents writer.new) (error_text why.now)) }
     ensures fault { IfErr result IsWritingError }
 {
     match why {
@@ -255,7 +268,9 @@ fn write_member<W: Write>(
     links: &KnownLinks,
     writer: &mut W,
 ) -> Result<(), CarFileError>
-    ensures written { OnOk result (Appends (W.contents writer.old) (W.contents writer.new) (member_text (known_of links.now))) }
+    ensures written { OnOk result
+        (Appends (W.contents writer.old) (W.contents writer.new)
+        (member_text (known_of links.now))) }
     ensures fault { IfErr result IsWritingError }
 {
     match links {
@@ -392,8 +407,10 @@ fn write_section<W: Write, E: Write>(
     writer: &mut W,
     errors: &mut E,
 ) -> Result<bool, CarFileError>
-    ensures listed { IfOk result (ListsBlock form label.now offset (block_of section.now) (W.contents writer.old) (W.contents writer.new)
-        (E.contents errors.old) (E.contents errors.new)) }
+    ensures listed { IfOk result (ListsBlock form
+        (output W.contents writer.old writer.new)
+        (complaints label.now E.contents errors.old errors.new)
+        offset (block_of section.now)) }
     ensures fault { IfErr result IsWritingError }
 {
     let links = match find_links(alloc, section) {
@@ -421,7 +438,8 @@ fn write_section<W: Write, E: Write>(
 
 // What stands behind the blocks.
 fn write_end<W: Write>(form: Form, writer: &mut W) -> Result<(), CarFileError>
-    ensures written { OnOk result (Appends (W.contents writer.old) (W.contents writer.new) (end_text form)) }
+    ensures written { OnOk result
+        (Appends (W.contents writer.old) (W.contents writer.new) (end_text form)) }
     ensures fault { IfErr result IsWritingError }
 {
     match form {
@@ -453,10 +471,14 @@ pub fn write_list<R: BufRead + Drop, W: Write, E: Write>(
     writer: &mut W,
     errors: &mut E,
 ) -> Result<Listed, CarFileError>
-    ensures listed { IfOk result (λ listed. Lists (R.remaining car.old.reader) (R.remaining car.new.reader) car.old car.new form label.now
-        (W.contents writer.old) (W.contents writer.new) (E.contents errors.old) (E.contents errors.new) listed.blocks listed.invalid) }
-    ensures fault { IfErr result (ListingFault (R.remaining car.old.reader) (R.remaining car.new.reader) car.old car.new form label.now
-        (W.contents writer.old) (W.contents writer.new) (E.contents errors.old) (E.contents errors.new)) }
+    ensures listed { IfOk result (Lists form
+        (progress R.remaining car.old car.new)
+        (output W.contents writer.old writer.new)
+        (complaints label.now E.contents errors.old errors.new)) }
+    ensures fault { IfErr result (ListingFault form
+        (progress R.remaining car.old car.new)
+        (output W.contents writer.old writer.new)
+        (complaints label.now E.contents errors.old errors.new)) }
 {
     match write_front(alloc, form, version_of(car.version()), car.roots(), writer) {
         Ok(()) => {}

@@ -7,6 +7,7 @@ ghost use Rattle.car_files.specs.Complaints.{SaysOfLinks, SaysOfBlock};
 ghost use Rattle.car_files.specs.Missing.{AddsBlock, AddsCar, AddingFault, Finds, FindingFault};
 ghost use Rattle.car_files.specs.Names.{Names};
 ghost use Rattle.car_files.specs.Reading.{IsWritingError};
+ghost use Rattle.car_files.specs.Streams.{progress, complaints};
 
 use crate::adding::add_links;
 use crate::complaint::{write_carried, write_complaint};
@@ -59,7 +60,9 @@ fn add_in_order<E: Write>(
     errors: &mut E,
 ) -> Result<bool, CarFileError>
     ensures added { OnOk result (Names (map link_of links.items) index.old index.new) }
-    ensures complained { IfOk result (SaysOfLinks label.now offset (map link_of links.items) (E.contents errors.old) (E.contents errors.new)) }
+    ensures complained { IfOk result (SaysOfLinks
+        (complaints label.now E.contents errors.old errors.new)
+        offset (map link_of links.items)) }
     ensures fault { IfErr result IsWritingError }
 {
     let mut links = links;
@@ -84,8 +87,11 @@ fn add_section<E: Write>(
     label: &str,
     errors: &mut E,
 ) -> Result<SeenBlock, CarFileError>
-    ensures added { IfOk result (λ seen. AddsBlock (block_of section.now) index.old index.new seen.is_unknown) }
-    ensures complained { IfOk result (λ seen. SaysOfBlock label.now offset (block_of section.now) (E.contents errors.old) (E.contents errors.new) seen.is_invalid) }
+    ensures added { IfOk result (λ seen.
+        AddsBlock (block_of section.now) index.old index.new seen.is_unknown) }
+    ensures complained { IfOk result (λ seen. SaysOfBlock
+        (complaints label.now E.contents errors.old errors.new)
+        offset (block_of section.now) seen.is_invalid) }
     ensures fault { IfErr result IsWritingError }
 {
     match index.add_block(section.cid()) {
@@ -126,7 +132,9 @@ fn add_roots<E: Write>(
     errors: &mut E,
 ) -> Result<bool, CarFileError>
     ensures added { OnOk result (Names (map link_of roots.now) index.old index.new) }
-    ensures complained { IfOk result (SaysOfLinks label.now 0 (map link_of roots.now) (E.contents errors.old) (E.contents errors.new)) }
+    ensures complained { IfOk result (SaysOfLinks
+        (complaints label.now E.contents errors.old errors.new)
+        0 (map link_of roots.now)) }
     ensures fault { IfErr result IsWritingError }
 {
     match Vec::from_slice(alloc, roots) {
@@ -156,10 +164,14 @@ pub fn add_car<R: BufRead + Drop, E: Write>(
     label: &str,
     errors: &mut E,
 ) -> Result<Seen, CarFileError>
-    ensures added { IfOk result (λ seen. AddsCar (R.remaining car.old.reader) (R.remaining car.new.reader) car.old car.new label.now
-        (E.contents errors.old) (E.contents errors.new) index.old index.new seen.blocks seen.unknown seen.invalid) }
-    ensures fault { IfErr result (AddingFault (R.remaining car.old.reader) (R.remaining car.new.reader) car.old car.new label.now
-        (E.contents errors.old) (E.contents errors.new) index.old index.new) }
+    ensures added { IfOk result (AddsCar
+        (progress R.remaining car.old car.new)
+        (complaints label.now E.contents errors.old errors.new)
+        index.old index.new) }
+    ensures fault { IfErr result (AddingFault
+        (progress R.remaining car.old car.new)
+        (complaints label.now E.contents errors.old errors.new)
+        index.old index.new) }
 {
     let mut invalid = match add_roots(alloc, index, car.roots(), label, errors) {
         Ok(is_invalid) => u64::from(is_invalid),
@@ -212,10 +224,12 @@ pub fn find_missing<R: BufRead + Drop, E: Write>(
     label: &str,
     errors: &mut E,
 ) -> Result<Missing, CarFileError>
-    ensures found { IfOk result (λ found. Finds (R.remaining car.old.reader) (R.remaining car.new.reader) car.old car.new label.now
-        (E.contents errors.old) (E.contents errors.new) found.seen.blocks found.seen.unknown found.seen.invalid (map link_of found.missing.items)) }
-    ensures fault { IfErr result (FindingFault (R.remaining car.old.reader) (R.remaining car.new.reader) car.old car.new label.now
-        (E.contents errors.old) (E.contents errors.new)) }
+    ensures found { IfOk result (Finds
+        (progress R.remaining car.old car.new)
+        (complaints label.now E.contents errors.old errors.new)) }
+    ensures fault { IfErr result (FindingFault
+        (progress R.remaining car.old car.new)
+        (complaints label.now E.contents errors.old errors.new)) }
 {
     let mut index = MissingBlocks::new(alloc, hasher);
     let seen = match add_car(alloc, &mut index, car, label, errors) {

@@ -7,6 +7,7 @@ ghost use Rattle.ipld_block.specs.Codes.{codec_of_code};
 ghost use Rattle.ipld_car.specs.SectionOf.{block_of};
 ghost use Rattle.car_files.specs.Blocks.{BlockHas, BlockFault};
 ghost use Rattle.car_files.specs.Reading.{ReadsNext};
+ghost use Rattle.car_files.specs.Streams.{progress};
 
 use crate::error::CarFileError;
 use ipld_block::{BlockCodec, CheckError, links_of};
@@ -21,7 +22,7 @@ pub(crate) fn read_next<R: BufRead>(
     car: &mut CarReader<R>,
     section: &mut Section,
 ) -> Result<bool, CarFileError>
-    ensures { ReadsNext (R.remaining car.old.reader) (R.remaining car.new.reader) car.old car.new (block_of section.new) result }
+    ensures { ReadsNext (progress R.remaining car.old car.new) (block_of section.new) result }
 {
     match car.read_section(section) {
         Ok(true) => Ok(true),
@@ -36,7 +37,9 @@ pub(crate) fn links_in(
     codec: u64,
     block: &[u8],
 ) -> Result<Option<Vec<Cid>>, CheckError>
-    ensures found { IfOk result (λ found. MatchOption found (codec_of_code codec ≡ None) (λ links. BlockHas codec block.now (map link_of links.items))) }
+    ensures found { IfOk result (λ found.
+        MatchOption found (codec_of_code codec ≡ None) (λ links.
+        BlockHas codec block.now (map link_of links.items))) }
     ensures fault { IfErr result (λ error. IfInvalid error (BlockFault codec block.now)) }
 {
     let Some(codec) = BlockCodec::from_code(codec) else {
@@ -53,9 +56,14 @@ pub(crate) fn links_in_section(
     alloc: Global,
     section: &Section,
 ) -> Result<Option<Vec<Cid>>, CheckError>
-    ensures found { IfOk result (λ found. MatchOption found (codec_of_code (block_of section.now).cid.codec ≡ None)
-        (λ links. BlockHas (block_of section.now).cid.codec (block_of section.now).bytes (map link_of links.items))) }
-    ensures fault { IfErr result (λ error. IfInvalid error (BlockFault (block_of section.now).cid.codec (block_of section.now).bytes)) }
+    ensures found { IfOk result (λ found.
+        MatchOption found (codec_of_code (block_of section.now).cid.codec ≡ None)
+        (λ links.
+        BlockHas (block_of section.now).cid.codec (block_of section.now).bytes
+        (map link_of links.items))) }
+    ensures fault { IfErr result (λ error.
+        IfInvalid error
+        (BlockFault (block_of section.now).cid.codec (block_of section.now).bytes)) }
 {
     match links_in(alloc, section.cid().codec(), section.data()) {
         Ok(links) => Ok(links),

@@ -4,6 +4,7 @@ ghost use Rattle.std.specs.Prelude.{IfOk, IfErr, OnOk};
 ghost use Rattle.std.specs.Io.KnownBytes.{Appends};
 ghost use Rattle.ipld_cid.specs.LinkOf.{link_of};
 ghost use Rattle.car_files.specs.Reading.{IsWritingError};
+ghost use Rattle.car_files.specs.Streams.{progress, output};
 ghost use Rattle.car_files.specs.Verifying.{Verifies, VerifyingFault};
 ghost use Rattle.car_files.specs.Written.{complaint, complaint_members, verdict_line, verdict_object, verdict_text};
 
@@ -38,7 +39,8 @@ pub enum VerdictForm {
 
 // What is wrong with a block, as the last members of an object of JSON.
 fn write_reason_members<W: Write>(error: VerifyError, writer: &mut W) -> Result<(), CarFileError>
-    ensures written { OnOk result (Appends (W.contents writer.old) (W.contents writer.new) (complaint_members error)) }
+    ensures written { OnOk result
+        (Appends (W.contents writer.old) (W.contents writer.new) (complaint_members error)) }
     ensures fault { IfErr result IsWritingError }
 {
     match error {
@@ -58,7 +60,8 @@ fn write_reason_members<W: Write>(error: VerifyError, writer: &mut W) -> Result<
 
 // What is wrong with a block.
 fn write_reason<W: Write>(error: VerifyError, writer: &mut W) -> Result<(), CarFileError>
-    ensures written { OnOk result (Appends (W.contents writer.old) (W.contents writer.new) (complaint error)) }
+    ensures written { OnOk result
+        (Appends (W.contents writer.old) (W.contents writer.new) (complaint error)) }
     ensures fault { IfErr result IsWritingError }
 {
     match error {
@@ -84,7 +87,9 @@ fn write_verdict_line<W: Write>(
     error: VerifyError,
     writer: &mut W,
 ) -> Result<(), CarFileError>
-    ensures written { OnOk result (Appends (W.contents writer.old) (W.contents writer.new) (verdict_line offset (link_of cid.now) error)) }
+    ensures written { OnOk result
+        (Appends (W.contents writer.old) (W.contents writer.new)
+        (verdict_line offset (link_of cid.now) error)) }
     ensures fault { IfErr result IsWritingError }
 {
     write_cid(alloc, writer, cid)?;
@@ -101,7 +106,9 @@ fn write_verdict_object<W: Write>(
     error: VerifyError,
     writer: &mut W,
 ) -> Result<(), CarFileError>
-    ensures written { OnOk result (Appends (W.contents writer.old) (W.contents writer.new) (verdict_object offset (link_of cid.now) error)) }
+    ensures written { OnOk result
+        (Appends (W.contents writer.old) (W.contents writer.new)
+        (verdict_object offset (link_of cid.now) error)) }
     ensures fault { IfErr result IsWritingError }
 {
     writer.write_all(b"{\"cid\":\"")?;
@@ -120,7 +127,9 @@ fn write_verdict<W: Write>(
     error: VerifyError,
     writer: &mut W,
 ) -> Result<(), CarFileError>
-    ensures written { OnOk result (Appends (W.contents writer.old) (W.contents writer.new) (verdict_text form offset (link_of cid.now) error)) }
+    ensures written { OnOk result
+        (Appends (W.contents writer.old) (W.contents writer.new)
+        (verdict_text form offset (link_of cid.now) error)) }
     ensures fault { IfErr result IsWritingError }
 {
     match form {
@@ -145,10 +154,12 @@ pub fn write_verified<R: BufRead + Drop, W: Write>(
     form: VerdictForm,
     writer: &mut W,
 ) -> Result<Verified, CarFileError>
-    ensures verified { IfOk result (λ seen. Verifies form (R.remaining car.old.reader) (R.remaining car.new.reader) car.old car.new
-        (W.contents writer.old) (W.contents writer.new) seen.right seen.wrong seen.unknown) }
-    ensures fault { IfErr result (VerifyingFault form (R.remaining car.old.reader) (R.remaining car.new.reader) car.old car.new
-        (W.contents writer.old) (W.contents writer.new)) }
+    ensures verified { IfOk result (Verifies form
+        (progress R.remaining car.old car.new)
+        (output W.contents writer.old writer.new)) }
+    ensures fault { IfErr result (VerifyingFault form
+        (progress R.remaining car.old car.new)
+        (output W.contents writer.old writer.new)) }
 {
     let mut section = Section::new(alloc);
     let mut wrong = 0u64;

@@ -14,6 +14,7 @@ use Rattle.ipld_car.specs.Section.{Block, no_block, content_of, IsSection}
 use Rattle.ipld_car.specs.Taking.{Ends, IsReaderError}
 use Rattle.ipld_car.proofs.OnlyFramed.{StandsNext, same_content, long_enough, not_cut, no_framing_fault}
 use Rattle.ipld_car.proofs.SectionReading.{content_is}
+use Rattle.ipld_car.proofs.Takings.{taking}
 
 -- a section of a block, and known bytes that begin with it, of which some were taken
 pub record Standing (limit room : ℕ) (block : Block) (taken left : List ℕ) : Type 0 where
@@ -74,7 +75,7 @@ no_fault limit room block taken left bytes new kind place s is f = no_framing_fa
 
 -- what is returned where the section stands next
 pub only_section : (limit begin end : ℕ) (old new : Option (List ℕ)) (taken : List ℕ) (found : Block) (result : Result Bool CarError) → Consumes old new taken
-    → ReadsSection limit begin end old new taken found result → (block : Block) (bytes rest : List ℕ) → old ≡ Some (bytes ++ rest) → IsSection bytes block
+    → ReadsSection (taking limit begin end old new taken) found result → (block : Block) (bytes rest : List ℕ) → old ≡ Some (bytes ++ rest) → IsSection bytes block
     → length (content_of block) ≤ limit → length bytes ≤ end - begin → UnlessReaderFails result (λ has. (has ≡ true) × (found ≡ block))
 only_section limit begin end None new taken found result c r block bytes rest known is few fits = absurd (let no = known in cc)
 only_section limit begin end (Some xs) None taken found result c r block bytes rest known is few fits = absurd c

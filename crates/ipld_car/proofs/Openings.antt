@@ -28,9 +28,10 @@ use Rattle.ipld_car.specs.OpeningOf as behind
 use Rattle.ipld_car.proofs.SectionReading.{content_is}
 use Rattle.ipld_car.proofs.OnlyFramed.{varint_read, rest_in}
 use Rattle.ipld_car.proofs.Takings.{read_out_later}
+use Rattle.ipld_car.proofs.Takings.{taking}
 
 pub block_taken : (limit begin end : ℕ) (old new : Option (List ℕ)) (taken : List ℕ) (start : ℕ) → ReadsFramed limit (end - begin) old new taken (Ok (Some start))
-    → ReadsHeaderBlock limit begin end old new taken (Ok start)
+    → ReadsHeaderBlock (taking limit begin end old new taken) (Ok start)
 block_taken limit begin end old new taken start f = f
 
 nothing : read_varint [] ≡ Err End
@@ -39,7 +40,7 @@ nothing = refl
 
 -- there is nothing
 pub block_none : (limit begin end : ℕ) (old new : Option (List ℕ)) (taken : List ℕ) (error : CarError) → ReadsFramed limit (end - begin) old new taken (Ok None)
-    → error ≡ record { kind = UnexpectedEnd; section = begin; offset = begin + 0 } → ReadsHeaderBlock limit begin end old new taken (Err error)
+    → error ≡ record { kind = UnexpectedEnd; section = begin; offset = begin + 0 } → ReadsHeaderBlock (taking limit begin end old new taken) (Err error)
 block_none limit begin end old new taken error f e = rw (e, f.0) (record {
   place = 0;
   section = refl;
@@ -84,7 +85,7 @@ payload_block limit size old new taken _ place within f = f
 
 pub block_fails : (limit begin end : ℕ) (old new : Option (List ℕ)) (taken : List ℕ) (kind : CarErrorKind) (place : ℕ) (error : CarError)
     → ReadsFramed limit (end - begin) old new taken (Err kind) → place ≡ fault_place kind (length taken)
-    → error ≡ record { kind = kind; section = begin; offset = begin + place } → ReadsHeaderBlock limit begin end old new taken (Err error)
+    → error ≡ record { kind = kind; section = begin; offset = begin + place } → ReadsHeaderBlock (taking limit begin end old new taken) (Err error)
 block_fails limit begin end old new taken kind place error f at e = rw e (record {
   place = place;
   section = refl;
@@ -136,7 +137,7 @@ roots_no_pragma limit room taken start NotAHeader f other = no_pragma limit room
 roots_no_pragma limit room taken start _ f other = tt
 
 pub version1_opens : (limit : ℕ) (old new : Option (List ℕ)) (taken : List ℕ) (start : ℕ) (roots : Vec (CidGeneric 64) Global) → Consumes old new taken
-    → length taken ≤ 2 ^ 64 - 1 - 0 → ReadsHeaderBlock limit 0 (2 ^ 64 - 1) old new taken (Ok start) → ReadsRootsAt (drop start taken) 0 start (Ok roots)
+    → length taken ≤ 2 ^ 64 - 1 - 0 → ReadsHeaderBlock (taking limit 0 (2 ^ 64 - 1) old new taken) (Ok start) → ReadsRootsAt (drop start taken) 0 start (Ok roots)
     → Opens limit old new V1 (map link_of roots.items) 0 (length taken) (2 ^ 64 - 1)
 version1_opens limit old new taken start roots c within f r = record {
   bytes = taken;
@@ -148,13 +149,13 @@ version1_opens limit old new taken start roots c within f r = record {
 }
 
 pub version1_header : (limit : ℕ) (old new : Option (List ℕ)) (taken : List ℕ) (error : CarError) → Consumes old new taken
-    → ReadsHeaderBlock limit 0 (2 ^ 64 - 1) old new taken (Err error) → OpenFault limit old new error
+    → ReadsHeaderBlock (taking limit 0 (2 ^ 64 - 1) old new taken) (Err error) → OpenFault limit old new error
 version1_header limit old new taken error c f =
     in_header taken c (record { place = f.place; section = f.section; offset = f.offset; why = of_block limit (2 ^ 64 - 1) old new taken error.kind f.place f.why })
     (block_no_pragma limit (2 ^ 64 - 1) old new taken error.kind f.place f.why)
 
 pub version1_roots : (limit : ℕ) (old new : Option (List ℕ)) (taken : List ℕ) (start : ℕ) (error : CarError) → Consumes old new taken
-    → ReadsHeaderBlock limit 0 (2 ^ 64 - 1) old new taken (Ok start) → (drop start taken ≡ pragma_block → ⊥) → ReadsRootsAt (drop start taken) 0 start (Err error)
+    → ReadsHeaderBlock (taking limit 0 (2 ^ 64 - 1) old new taken) (Ok start) → (drop start taken ≡ pragma_block → ⊥) → ReadsRootsAt (drop start taken) 0 start (Err error)
     → OpenFault limit old new error
 version1_roots limit old new taken start error c f other r =
     in_header taken c (record { place = start; section = r.0; offset = r.1; why = roots_fault limit (2 ^ 64 - 1) old new taken start error.kind f r.2 })
@@ -189,7 +190,7 @@ before_is start end old new t =
 
 pub version2_opens : (limit start end : ℕ) (old mid new : Option (List ℕ)) (taken : List ℕ) (place : ℕ) (roots : Vec (CidGeneric 64) Global) (opening : Opening)
     → TakesToPayload old mid start end → Consumes mid new taken → length taken ≤ end - start → start ≤ end
-    → ReadsHeaderBlock limit start end mid new taken (Ok place) → ReadsRootsAt (drop place taken) start place (Ok roots)
+    → ReadsHeaderBlock (taking limit start end mid new taken) (Ok place) → ReadsRootsAt (drop place taken) start place (Ok roots)
     → opening ≡ record { roots = roots; version = V2; start = start; offset = start + length taken; end = end } → behind.OpensBehindPragma limit old new opening
 version2_opens limit start end old mid new taken place roots opening t c within ordered f r e =
     let before = before_is start end old mid t in
@@ -240,7 +241,7 @@ version2_fault limit start end old mid new taken error t c f =
 
 pub version2_header : (limit start end : ℕ) (old mid new : Option (List ℕ)) (taken : List ℕ) (found : ℕ) (error : CarError)
     → TakesToPayload old mid start end → Consumes mid new taken → length taken ≤ end - start → found ≡ length taken
-    → ReadsHeaderBlock limit start end mid new taken (Err error) → behind.FaultBehindPragma limit old new (short_payload (end - start) found error)
+    → ReadsHeaderBlock (taking limit start end mid new taken) (Err error) → behind.FaultBehindPragma limit old new (short_payload (end - start) found error)
 version2_header limit start end old mid new taken found error t c within counted f = rw counted (
     version2_fault limit start end old mid new taken (short_payload (end - start) (length taken) error) t c (record {
       place = f.place;
@@ -250,7 +251,7 @@ version2_header limit start end old mid new taken found error t c within counted
     }))
 
 pub version2_roots : (limit start end : ℕ) (old mid new : Option (List ℕ)) (taken : List ℕ) (place : ℕ) (error : CarError)
-    → TakesToPayload old mid start end → Consumes mid new taken → ReadsHeaderBlock limit start end mid new taken (Ok place)
+    → TakesToPayload old mid start end → Consumes mid new taken → ReadsHeaderBlock (taking limit start end mid new taken) (Ok place)
     → ReadsRootsAt (drop place taken) start place (Err error) → behind.FaultBehindPragma limit old new error
 version2_roots limit start end old mid new taken place error t c f r =
     version2_fault limit start end old mid new taken error t c
@@ -258,7 +259,7 @@ version2_roots limit start end old mid new taken place error t c f r =
 
 -- the pragma and what is behind it
 pub version2_all : (limit : ℕ) (old mid new : Option (List ℕ)) (taken : List ℕ) (start : ℕ) (opening : Opening) → Consumes old mid taken
-    → ReadsHeaderBlock limit 0 (2 ^ 64 - 1) old mid taken (Ok start) → drop start taken ≡ pragma_block → behind.OpensVersion2 limit mid new (Ok opening)
+    → ReadsHeaderBlock (taking limit 0 (2 ^ 64 - 1) old mid taken) (Ok start) → drop start taken ≡ pragma_block → behind.OpensVersion2 limit mid new (Ok opening)
     → Opens limit old new opening.version (map link_of opening.roots.items) opening.start opening.offset opening.end
 version2_all limit old mid new taken start opening c f is o =
     let first : Consumes old mid pragma = subst (Consumes old mid) (pragma_is limit (2 ^ 64 - 1) taken start f is) c in
@@ -283,7 +284,7 @@ version2_all limit old mid new taken start opening c f is o =
     })
 
 pub version2_fails : (limit : ℕ) (old mid new : Option (List ℕ)) (taken : List ℕ) (start : ℕ) (error : CarError) → Consumes old mid taken
-    → ReadsHeaderBlock limit 0 (2 ^ 64 - 1) old mid taken (Ok start) → drop start taken ≡ pragma_block → behind.OpensVersion2 limit mid new (Err error)
+    → ReadsHeaderBlock (taking limit 0 (2 ^ 64 - 1) old mid taken) (Ok start) → drop start taken ≡ pragma_block → behind.OpensVersion2 limit mid new (Err error)
     → OpenFault limit old new error
 version2_fails limit old mid new taken start error c f is (behind.before_payload got g w) =
     let first : Consumes old mid pragma = subst (Consumes old mid) (pragma_is limit (2 ^ 64 - 1) taken start f is) c in
@@ -295,7 +296,7 @@ version2_fails limit old mid new taken start error c f is (behind.in_payload bef
     (record { place = w.place; section = w.section; offset = w.offset; why = fault_later limit size old mid new pragma header error.kind w.place first w.why })
 
 pub version2_either : (limit : ℕ) (old mid new : Option (List ℕ)) (taken : List ℕ) (start : ℕ) (result : Result Opening CarError) → Consumes old mid taken
-    → ReadsHeaderBlock limit 0 (2 ^ 64 - 1) old mid taken (Ok start) → drop start taken ≡ pragma_block → behind.OpensVersion2 limit mid new result
+    → ReadsHeaderBlock (taking limit 0 (2 ^ 64 - 1) old mid taken) (Ok start) → drop start taken ≡ pragma_block → behind.OpensVersion2 limit mid new result
     → MatchResult result (λ opening. Opens limit old new opening.version (map link_of opening.roots.items) opening.start opening.offset opening.end)
     (OpenFault limit old new)
 version2_either limit old mid new taken start (Ok opening) c f is o = version2_all limit old mid new taken start opening c f is o

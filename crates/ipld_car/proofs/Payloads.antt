@@ -11,6 +11,7 @@ use Rattle.ipld_car.specs.Payload.{end_kind, short_kind, end_result, within_payl
 use Rattle.ipld_car.specs.Reading.{TakingFault, SectionFault, TakesSection, ReadsSection, EndOf, EndsOf, Leaves}
 use Rattle.ipld_car.specs.Section.{Block}
 use Rattle.ipld_car.specs.Taking.{Ends}
+use Rattle.ipld_car.proofs.Takings.{taking}
 
 pub same_fault : (limit room : ℕ) (old new : Option (List ℕ)) (taken : List ℕ) (kind : CarErrorKind) (place : ℕ) → TakingFault limit room old new taken kind place
     → SectionFault limit room old new taken kind place
@@ -24,7 +25,7 @@ first_end limit room size found old new taken _ place f = tt
 
 -- version 1 ends with the file
 pub version1_read : (limit begin end size found : ℕ) (old new : Option (List ℕ)) (taken : List ℕ) (block : Block) (result : Result Bool CarError)
-    → TakesSection limit begin end old new taken block result → ReadsSection limit begin end old new taken block result × EndsOf V1 size found result
+    → TakesSection (taking limit begin end old new taken) block result → ReadsSection (taking limit begin end old new taken) block result × EndsOf V1 size found result
 version1_read limit begin end size found old new taken block (Ok true) r = (r, tt)
 version1_read limit begin end size found old new taken block (Ok false) r = (r, tt)
 version1_read limit begin end size found old new taken block (Err error) r = (
@@ -55,7 +56,7 @@ nothing = refl
 -- no section at the end of the file, or of the payload
 none_left : (limit begin end size found offset : ℕ) (old new : Option (List ℕ)) (taken : List ℕ) (block : Block) (short : Bool) → nat_lt found size ≡ short
     → end - begin + found ≡ size + length taken → offset ≡ begin + length taken → (taken ≡ []) × Ends (end - begin) old new []
-    → ReadsSection limit begin end old new taken block (end_result short size found offset) × EndsOf V2 size found (end_result short size found offset)
+    → ReadsSection (taking limit begin end old new taken) block (end_result short size found offset) × EndsOf V2 size found (end_result short size found offset)
 none_left limit begin end size found offset old new taken block true e counted at (none, inl full) =
     absurd (let less = ltb-true found size e in let l : length taken ≡ 0 = ap length none in let z : 0 ≡ end - begin = full in omega arith)
 none_left limit begin end size found offset old new taken block true e counted at (none, inr out) =
@@ -74,8 +75,8 @@ none_left limit begin end size found offset old new taken block false e counted 
 
 -- the payload of version 2 has its own end
 pub version2_read : (limit begin start end at : ℕ) (old new : Option (List ℕ)) (taken : List ℕ) (block : Block) (result : Result Bool CarError)
-    → TakesSection limit begin end old new taken block result → length taken ≤ end - begin → start ≤ begin → begin ≤ end → at ≡ begin + length taken
-    → ReadsSection limit begin end old new taken block (within_payload (end - start) (at - start) at result)
+    → TakesSection (taking limit begin end old new taken) block result → length taken ≤ end - begin → start ≤ begin → begin ≤ end → at ≡ begin + length taken
+    → ReadsSection (taking limit begin end old new taken) block (within_payload (end - start) (at - start) at result)
     × EndsOf V2 (end - start) (at - start) (within_payload (end - start) (at - start) at result)
 version2_read limit begin start end at old new taken block (Ok true) r within behind ordered is = (r, tt)
 version2_read limit begin start end at old new taken block (Ok false) r within behind ordered is =

@@ -15,6 +15,7 @@ use Rattle.ipld_car.specs.Taking.{Ends}
 use Rattle.ipld_car.specs.Framing.{IsFramed, FramingFault, ReadsFramed, fault_place}
 use Rattle.ipld_car.specs.Section.{Block}
 use Rattle.ipld_car.specs.Reading.{TakingFault, NamesNone, TakesSection}
+use Rattle.ipld_car.proofs.Takings.{taking}
 
 -- what stands behind the length
 pub content_is : (limit room : ℕ) (bytes : List ℕ) (start : ℕ) → (f : IsFramed limit room bytes start) → drop start bytes ≡ f.content
@@ -37,7 +38,7 @@ named start bytes link rest within b = subst (BeginsWith 64 (drop start bytes) l
 -- the section of a block
 pub section_named : (limit begin end : ℕ) (old new : Option (List ℕ)) (taken : List ℕ) (start : ℕ) (block : Block)
     → ReadsFramed limit (end - begin) old new taken (Ok (Some start)) → BeginsWith 64 (drop start taken) block.cid block.bytes
-    → TakesSection limit begin end old new taken block (Ok true)
+    → TakesSection (taking limit begin end old new taken) block (Ok true)
 section_named limit begin end old new taken start block f b =
     let content : f.content ≡ b.front ++ block.bytes = sym (content_is limit (end - begin) taken start f) ∙ b.parts in (
       record {
@@ -54,7 +55,7 @@ section_named limit begin end old new taken start block f b =
 -- no CID stands behind the length
 pub section_unnamed : (limit begin end : ℕ) (old new : Option (List ℕ)) (taken : List ℕ) (start : ℕ) (block : Block) (error : CarError)
     → ReadsFramed limit (end - begin) old new taken (Ok (Some start)) → NamesNone (drop start taken) begin start error
-    → TakesSection limit begin end old new taken block (Err error)
+    → TakesSection (taking limit begin end old new taken) block (Err error)
 section_unnamed limit begin end old new taken start block error f n = record {
   place = start;
   section = n.section;
@@ -64,7 +65,7 @@ section_unnamed limit begin end old new taken start block error f n = record {
 
 -- there is nothing
 pub section_none : (limit begin end : ℕ) (old new : Option (List ℕ)) (taken : List ℕ) (block : Block)
-    → ReadsFramed limit (end - begin) old new taken (Ok None) → TakesSection limit begin end old new taken block (Ok false)
+    → ReadsFramed limit (end - begin) old new taken (Ok None) → TakesSection (taking limit begin end old new taken) block (Ok false)
 section_none limit begin end old new taken block f = (f.0, subst (Ends (end - begin) old new) f.0 f.1)
 
 pub unframed : (limit room : ℕ) (old new : Option (List ℕ)) (taken : List ℕ) (kind : CarErrorKind) → FramingFault limit room old new taken kind
@@ -76,7 +77,7 @@ unframed limit room old new taken _ f = (f, refl)
 pub section_fails : (limit begin end : ℕ) (old new : Option (List ℕ)) (taken : List ℕ) (block : Block) (kind : CarErrorKind) (place : ℕ) (error : CarError)
     → ReadsFramed limit (end - begin) old new taken (Err kind) → place ≡ fault_place kind (length taken)
     → error ≡ record { kind = kind; section = begin; offset = begin + place }
-    → TakesSection limit begin end old new taken block (Err error)
+    → TakesSection (taking limit begin end old new taken) block (Err error)
 section_fails limit begin end old new taken block kind place error f at e = rw e (record {
   place = place;
   section = refl;
@@ -112,9 +113,9 @@ not_true e = cc
 pub section_either : (limit begin end : ℕ) (old new : Option (List ℕ)) (taken kept : List ℕ) (start : ℕ) (block : Block) (result : Result Bool CarError)
     → ReadsFramed limit (end - begin) old new taken (Ok (Some start)) → kept ≡ taken
     → MatchResult result (λ has. (has ≡ true) × BeginsWith 64 (drop start taken) block.cid block.bytes) (λ error. NamesNone (drop start taken) begin start error)
-    → TakesSection limit begin end old new kept block result
+    → TakesSection (taking limit begin end old new kept) block result
 section_either limit begin end old new taken kept start block (Ok true) f k n =
-    subst (λ xs. TakesSection limit begin end old new xs block (Ok true)) (sym k) (section_named limit begin end old new taken start block f n.1)
+    subst (λ xs. TakesSection (taking limit begin end old new xs) block (Ok true)) (sym k) (section_named limit begin end old new taken start block f n.1)
 section_either limit begin end old new taken kept start block (Ok false) f k n = absurd (not_true n.0)
 section_either limit begin end old new taken kept start block (Err error) f k n =
-    subst (λ xs. TakesSection limit begin end old new xs block (Err error)) (sym k) (section_unnamed limit begin end old new taken start block error f n)
+    subst (λ xs. TakesSection (taking limit begin end old new xs) block (Err error)) (sym k) (section_unnamed limit begin end old new taken start block error f n)

@@ -32,6 +32,16 @@ skips_more old mid new before after count left piece s f within = record {
 pub skips_all : (old new : Option (List ℕ)) (count left : ℕ) → SkipsSoFar old new count left → left ≤ 0 → SkipsPadding old new count (Ok tt)
 skips_all old new count left s done = record { got = s.got; consumed = s.consumed; outcome = let t = s.total in omega arith }
 
+-- no more bytes are kept than a piece has
+pub fills_bounded : (old new : Option (List ℕ)) (before after : List ℕ) (count : ℕ) (result : Result Bool CarErrorKind) → before ≡ [] → Fills old new before after count result
+    → count ≤ 4096 → length after ≤ 4096
+fills_bounded old new before after count (Ok true) none f few =
+    let all = ap length (f.behind ∙ ap (λ xs. xs ++ f.got) none) in let o = f.outcome in omega arith
+fills_bounded old new before after count (Ok false) none f few =
+    let all = ap length (f.behind ∙ ap (λ xs. xs ++ f.got) none) in let o = f.outcome.0 in omega arith
+fills_bounded old new before after count (Err kind) none f few =
+    let all = ap length (f.behind ∙ ap (λ xs. xs ++ f.got) none) in let o = f.outcome.0 in omega arith
+
 -- the reader is at its end
 pub skips_part : (old mid new : Option (List ℕ)) (before after : List ℕ) (count left piece n : ℕ) (error : CarError) → SkipsSoFar old mid count left
     → before ≡ [] → Fills mid new before after piece (Ok false) → piece ≤ left → n ≡ length after

@@ -3,7 +3,12 @@ use Rattle.std.proofs.Common.{◌≡◌, ℕ, ◌+◌, ◌-◌, ◌<◌, List, [
 use Rattle.std.proofs.KnownBytes.{Consumes-nil, Consumes-trans}
 use Rattle.std.specs.Io.KnownBytes.{Consumes, Keeps}
 use Rattle.ipld_car.specs.declared.error.CarErrorKind.{CarErrorKind}
-use Rattle.ipld_car.specs.Taking.{TakesSome, Fills, IsReaderError, IsReadOut}
+use Rattle.ipld_car.specs.Taking.{Take, TakesSome, Fills, IsReaderError, IsReadOut}
+
+-- what is taken of a section or a header, by its parts
+abbrev pub taking : ℕ → ℕ → ℕ → Option (List ℕ) → Option (List ℕ) → List ℕ → Take
+taking limit begin end before after taken =
+    record { limit = limit; begin = begin; end = end; before = before; after = after; taken = taken }
 
 -- the reader lent nothing, and so is at its end
 pub takes_none : (old new : Option (List ℕ)) (before s : List ℕ) (most : ℕ) → Keeps old new → IfSome old (λ xs. length s ≡ 0 → xs ≡ []) → length s ≡ 0

@@ -1,7 +1,7 @@
 -- The pragma and the header of a CAR of version 2 (CARv2, "Pragma" and "Header"): eleven bytes; 16 of characteristics, of which the first bit says
 -- that each section has its entry in the index; and three numbers of 64 bits, the lowest byte first: where the payload begins, how long it is, and
 -- where the index begins.
-use Rattle.std.specs.Prelude.{◌≡◌, ℕ, nat_lt, Bool, true, false, List, [], ◌∷◌, ◌++◌, replicate, take, slice_index_or, slice_range}
+use Rattle.std.specs.Prelude.{◌≡◌, ℕ, nat_lt, Bool, true, false, List, ◌∷◌, ◌++◌, replicate, take, slice_index_or, slice_range}
 use Rattle.std.specs.Int.{w64, from_le_bytes}
 use Rattle.ipld_car.specs.Version2.{pragma}
 use Rattle.ipld_car.specs.IndexNumbers.{le64}

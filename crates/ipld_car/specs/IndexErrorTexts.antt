@@ -1,5 +1,5 @@
 -- What the errors print.
-use Rattle.std.specs.Prelude.{ℕ, List, ◌++◌, codes, Some, None, false}
+use Rattle.std.specs.Prelude.{ℕ, List, ◌++◌, codes, Some, None, Bool, false}
 use Rattle.std.specs.declared.option.Option.{Option}
 use Rattle.std.specs.Fmt.{decimal, digits}
 use Rattle.ipld_car.specs.declared.index.error.IndexError.{IndexError}
@@ -17,7 +17,11 @@ styled_sentence (Width width) = Some (codes "the index has rows of " ++ (decimal
 styled_sentence (Length length) = Some (codes "the index has " ++ (decimal length ++ codes " bytes of rows, which is no number of rows"))
 styled_sentence NotSorted = Some (codes "the index is not sorted")
 
+-- whether the digits above nine are capitals, which they aren't
+abbrev pub in_capitals : Bool
+in_capitals = false
+
 -- the sentence by `{}`, which is said of another format too, with its code in hexadecimal digits
 abbrev pub sentence_of : IndexError → Option (List ℕ)
-sentence_of (Format code) = Some (codes "the index has the format 0x" ++ (digits 16 false code ++ codes ", and 0x401 alone is read"))
+sentence_of (Format code) = Some (codes "the index has the format 0x" ++ (digits 16 in_capitals code ++ codes ", and 0x401 alone is read"))
 sentence_of error = styled_sentence error

@@ -9,6 +9,7 @@ use Rattle.ipld_car.specs.IndexNumbers.{le32, le64}
 use Rattle.ipld_car.specs.IndexOrder.{AreSorted}
 use Rattle.ipld_car.specs.IndexReading.{AreInOrder, AreRows}
 use Rattle.ipld_car.specs.Lengths.{BeginsVarint, IsNoVarint}
+use Rattle.ipld_car.specs.Taking.{IsReadError}
 use Rattle.ipld_car.specs.declared.index.entry.IndexEntry.{IndexEntry}
 use Rattle.ipld_car.specs.declared.index.error.IndexError.{IndexError}
 use Rattle.ipld_car.specs.declared.index.error.IndexError.TheVariants.{Memory, Read, UnexpectedEnd, FormatNotShortest, FormatTooLarge, Format, Width, Length, NotSorted}
@@ -16,13 +17,13 @@ use Rattle.ipld_car.specs.declared.index.error.IndexError.TheVariants.{Memory, R
 -- the error says what is wrong with known bytes, or that an allocation or the reader failed, which says nothing of them
 abbrev pub Blames : (List ℕ → IndexError → Type 0) → Option (List ℕ) → IndexError → Type 0
 Blames IsWrong known Memory = Unit {0}
-Blames IsWrong known (Read error) = Unit {0}
+Blames IsWrong known (Read error) = IsReadError error
 Blames IsWrong known error = IfSome known (λ bytes. IsWrong bytes error)
 
 -- known bytes end before so many, or an allocation or the reader failed
 abbrev pub EndsWithin : ℕ → Option (List ℕ) → IndexError → Type 0
 EndsWithin count known Memory = Unit {0}
-EndsWithin count known (Read error) = Unit {0}
+EndsWithin count known (Read error) = IsReadError error
 EndsWithin count known UnexpectedEnd = IfSome known (λ bytes. length bytes < count)
 EndsWithin count known _ = ⊥
 

@@ -1,5 +1,5 @@
 -- The entries of an index that is to be written, by the hash function and by the length of the digest.
-use Rattle.std.specs.Prelude.{nat_lt, Bool, List, length, filter}
+use Rattle.std.specs.Prelude.{nat_lt, Bool, ℕ, ◌≢◌, ◌<◌, List, [], ◌∷◌, length, filter, map}
 use Rattle.std.specs.List.{All, flat_map}
 use Rattle.ipld_car.specs.IndexLayout.{IsOf}
 use Rattle.ipld_car.specs.declared.index.entry.IndexEntry.{IndexEntry}
@@ -23,6 +23,20 @@ entries_of_hash hash = flat_map (λ (bucket : Bucket). bucket.entries.items) has
 abbrev pub entries_in : CarIndex → List IndexEntry
 entries_in index = flat_map entries_of_hash index.hashes.items
 
+-- no number is next to itself
+abbrev pub AreApart : List ℕ → Type 0
+AreApart [] = Unit {0}
+AreApart (n ∷ []) = Unit {0}
+AreApart (n ∷ m ∷ ns) = (n ≢ m) × AreApart (m ∷ ns)
+
+-- the lengths of the digests of a hash function, in the order of the index
+abbrev pub lengths_of : HashBuckets → List ℕ
+lengths_of hash = map (λ (bucket : Bucket). bucket.digest_len) hash.buckets.items
+
+-- the codes of the hash functions, in the order of the index
+abbrev pub codes_of : CarIndex → List ℕ
+codes_of index = map (λ (hash : HashBuckets). hash.code) index.hashes.items
+
 -- the entries of a hash function stand with those of their digest's length
 abbrev pub AreGroupedHash : HashBuckets → Type 0
 AreGroupedHash hash = All (λ (bucket : Bucket). All (IsOf hash.code bucket.digest_len) bucket.entries.items) hash.buckets.items
@@ -30,3 +44,14 @@ AreGroupedHash hash = All (λ (bucket : Bucket). All (IsOf hash.code bucket.dige
 -- the entries stand with those of their hash function and of their digest's length
 abbrev pub AreGrouped : CarIndex → Type 0
 AreGrouped index = All AreGroupedHash index.hashes.items
+
+-- no length is next to itself, and none is without entries
+pub record IsSplitHash (hash : HashBuckets) : Type 0 where
+  pub apart : AreApart (lengths_of hash)
+  pub some : All (λ (bucket : Bucket). 0 < length bucket.entries.items) hash.buckets.items
+
+-- True if no hash function is next to itself, no length of its digests is, and none is without
+-- entries. So where the entries are sorted, the codes ascend, and the lengths of each.
+pub record IsSplit (index : CarIndex) : Type 0 where
+  pub apart : AreApart (codes_of index)
+  pub split : All (λ (hash : HashBuckets). IsSplitHash hash × (0 < length hash.buckets.items)) index.hashes.items

@@ -9,6 +9,7 @@ use Rattle.ipld_cid.specs.Varint.{IsVarint}
 use Rattle.ipld_car.specs.Index.{row, rows, format_code}
 use Rattle.ipld_car.specs.IndexLayout.{IsOf, IsIndex}
 use Rattle.ipld_car.specs.IndexOrder.{AreSorted}
+use Rattle.ipld_car.specs.Taking.{IsReadError}
 use Rattle.ipld_car.specs.declared.index.entry.IndexEntry.{IndexEntry}
 use Rattle.ipld_car.specs.declared.index.error.IndexError.{IndexError}
 use Rattle.ipld_car.specs.declared.index.error.IndexError.TheVariants.{Memory, Read, UnexpectedEnd}
@@ -24,31 +25,41 @@ IsErrorOfReader kind _ = ⊥
 abbrev pub AreInOrder : List IndexEntry → Type 0
 AreInOrder entries = AreSorted entries × All (λ (e : IndexEntry). e.offset < 2 ^ 64) entries
 
+-- Where reading an index is: the bytes that are left to the reader, if these are known, and the
+-- entries so far.
+pub record IndexState : Type 0 where
+  pub left : Option (List ℕ)
+  pub entries : List IndexEntry
+
+-- the same, where `remaining` are the bytes that are left to a reader
+abbrev pub state : {R : Type 0} → (remaining : R → Option (List ℕ)) → R → List IndexEntry → IndexState
+state remaining reader entries = record { left = remaining reader; entries = entries }
+
 -- the entry of a row was taken behind those that were, in order
-pub record TakesRow (code digest_len : ℕ) (old new : Option (List ℕ)) (before after : List IndexEntry) : Type 0 where
+pub record TakesRow (code digest_len : ℕ) (old new : IndexState) : Type 0 where
   pub entry : IndexEntry
-  pub behind : after ≡ before ++ entry ∷ []
+  pub behind : new.entries ≡ old.entries ++ entry ∷ []
   pub own : IsOf code digest_len entry
-  pub consumed : Consumes old new (row entry)
-  pub in_order : AreInOrder before → AreInOrder after
+  pub consumed : Consumes old.left new.left (row entry)
+  pub in_order : AreInOrder old.entries → AreInOrder new.entries
 
 -- those of so many rows were
-pub record TakesRows (code digest_len count : ℕ) (old new : Option (List ℕ)) (before after : List IndexEntry) : Type 0 where
+pub record TakesRows (code digest_len count : ℕ) (old new : IndexState) : Type 0 where
   pub entries : List IndexEntry
-  pub behind : after ≡ before ++ entries
+  pub behind : new.entries ≡ old.entries ++ entries
   pub counted : length entries ≡ count
   pub own : All (IsOf code digest_len) entries
-  pub consumed : Consumes old new (rows entries)
-  pub in_order : AreInOrder before → AreInOrder after
+  pub consumed : Consumes old.left new.left (rows entries)
+  pub in_order : AreInOrder old.entries → AreInOrder new.entries
 
 -- those of a part of an index were, and what encodes them was taken
-pub record TakesPart (IsPart : List ℕ → List IndexEntry → Type 0) (old new : Option (List ℕ)) (before after : List IndexEntry) : Type 0 where
+pub record TakesPart (IsPart : List ℕ → List IndexEntry → Type 0) (old new : IndexState) : Type 0 where
   pub bytes : List ℕ
   pub entries : List IndexEntry
   pub is_part : IsPart bytes entries
-  pub behind : after ≡ before ++ entries
-  pub consumed : Consumes old new bytes
-  pub in_order : AreInOrder before → AreInOrder after
+  pub behind : new.entries ≡ old.entries ++ entries
+  pub consumed : Consumes old.left new.left bytes
+  pub in_order : AreInOrder old.entries → AreInOrder new.entries
 
 -- an index was taken that encodes the entries, which are sorted
 pub record TakesIndex (old new : Option (List ℕ)) (entries : List IndexEntry) : Type 0 where
@@ -60,7 +71,7 @@ pub record TakesIndex (old new : Option (List ℕ)) (entries : List IndexEntry) 
 -- the error says nothing of the bytes: an allocation failed, or the reader did
 abbrev pub IsOfReader : IndexError → Type 0
 IsOfReader Memory = Unit {0}
-IsOfReader (Read error) = Unit {0}
+IsOfReader (Read error) = IsReadError error
 IsOfReader _ = ⊥
 
 -- a row with its entry
@@ -73,10 +84,10 @@ AreRows code digest_len count bytes entries = (bytes ≡ rows entries) × (lengt
 
 -- known bytes that begin with those of a part are read as its entries, where these are in order behind those that were, unless an allocation or the
 -- reader fails; what follows the part is left
-pub record ReadsPart (IsPart : List ℕ → List IndexEntry → Type 0) (old new : Option (List ℕ)) (before after : List IndexEntry)
-    (result : Result (Unit {0}) IndexError) : Type 0 where
-  pub reads : (bytes rest : List ℕ) (entries : List IndexEntry) → old ≡ Some (bytes ++ rest) → IsPart bytes entries → AreInOrder (before ++ entries)
-      → MatchResult result (λ _. (new ≡ Some rest) × (after ≡ before ++ entries)) IsOfReader
+pub record ReadsPart (IsPart : List ℕ → List IndexEntry → Type 0) (old new : IndexState) (result : Result (Unit {0}) IndexError) : Type 0 where
+  pub reads : (bytes rest : List ℕ) (entries : List IndexEntry) → old.left ≡ Some (bytes ++ rest) → IsPart bytes entries
+      → AreInOrder (old.entries ++ entries)
+      → MatchResult result (λ _. (new.left ≡ Some rest) × (new.entries ≡ old.entries ++ entries)) IsOfReader
 
 -- the varint of the code of a format was taken
 pub record TakesCode (old new : Option (List ℕ)) (code : ℕ) : Type 0 where

@@ -10,7 +10,7 @@ use Rattle.ipld_car.specs.declared.error.CarErrorKind.TheVariants.{Memory, Unexp
 use Rattle.ipld_car.specs.declared.version.CarVersion.{CarVersion}
 use Rattle.ipld_car.specs.declared.version.CarVersion.TheVariants.{V1, V2}
 use Rattle.ipld_car.specs.Fails.{Fails}
-use Rattle.ipld_car.specs.Taking.{Ends}
+use Rattle.ipld_car.specs.Taking.{Take, room_of, Ends}
 use Rattle.ipld_car.specs.Framing.{IsFramed, IsCut, IsCutShort, FramingFault, fault_place}
 use Rattle.ipld_car.specs.Header.{IsHeader}
 use Rattle.ipld_car.specs.HeaderReading.{ReadsRoots}
@@ -72,9 +72,10 @@ pub data OpenFault (limit : ℕ) (old new : Option (List ℕ)) (error : CarError
       → Fails (length before) (PayloadFault limit size old new taken) error → OpenFault limit old new error
 
 -- the block of a header was taken, or why not
-abbrev pub ReadsHeaderBlock : (limit begin end : ℕ) (old new : Option (List ℕ)) → List ℕ → Result ℕ CarError → Type 0
-ReadsHeaderBlock limit begin end old new taken (Ok start) = IsFramed limit (end - begin) taken start
-ReadsHeaderBlock limit begin end old new taken (Err error) = Fails begin (BlockFault limit (end - begin) old new taken) error
+abbrev pub ReadsHeaderBlock : Take → Result ℕ CarError → Type 0
+ReadsHeaderBlock take (Ok start) = IsFramed take.limit (room_of take) take.taken start
+ReadsHeaderBlock take (Err error) =
+    Fails take.begin (BlockFault take.limit (room_of take) take.before take.after take.taken) error
 
 -- the roots in the block of a header that begins at the offset, whose block stands at the place
 abbrev pub ReadsRootsAt : (block : List ℕ) (begin place : ℕ) → Result (Vec (CidGeneric 64) Global) CarError → Type 0

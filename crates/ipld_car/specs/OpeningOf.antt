@@ -6,8 +6,13 @@ use Rattle.ipld_car.specs.declared.error.CarError.{CarError}
 use Rattle.ipld_car.specs.declared.opening.Opening.{Opening}
 use Rattle.ipld_car.specs.declared.version.CarVersion.TheVariants.{V2}
 use Rattle.ipld_car.specs.Fails.{Fails}
-use Rattle.ipld_car.specs.Opening.{IsHeaderWithin, PayloadFault}
+use Rattle.ipld_car.specs.Opening.{IsHeaderWithin, Opens, PayloadFault}
 use Rattle.ipld_car.specs.Version2.{Version2Fault, pragma, IsBeforePayload}
+
+-- what stands before the sections was taken
+abbrev pub OpensFront : (limit : ℕ) (old new : Option (List ℕ)) → Opening → Type 0
+OpensFront limit old new opening =
+    Opens limit old new opening.version (map link_of opening.roots.items) opening.start opening.offset opening.end
 
 -- the header, the padding and the header of the payload were taken
 pub record OpensBehindPragma (limit : ℕ) (old new : Option (List ℕ)) (opening : Opening) : Type 0 where

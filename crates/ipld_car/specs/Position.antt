@@ -6,7 +6,7 @@ use Rattle.ipld_car.specs.declared.error.CarError.{CarError}
 use Rattle.ipld_car.specs.declared.reader.CarReader.{CarReader}
 use Rattle.ipld_car.specs.declared.version.CarVersion.{CarVersion}
 use Rattle.ipld_car.specs.declared.version.CarVersion.TheVariants.{V1, V2}
-use Rattle.ipld_car.specs.Opening.{OpenFault}
+use Rattle.ipld_car.specs.Opening.{Opens, OpenFault}
 
 -- True if the reader is `count` bytes further in the CAR, and nothing else of it changed except its
 -- own reader.
@@ -17,6 +17,12 @@ pub record Moves {R : Type 0} (old new : CarReader R) (count : ℕ) : Type 0 whe
   pub limit : new.limit ≡ old.limit
   pub version : new.version ≡ old.version
   pub roots : new.roots ≡ old.roots
+
+-- True if the part before the sections was taken, and the reader is behind it, with this limit
+-- (CARv1, "Header"; CARv2).
+abbrev pub IsOpened : {R : Type 0} → (limit : ℕ) → (before after : Option (List ℕ)) → CarReader R → Type 0
+IsOpened limit before after car =
+    Opens limit before after car.version (map link_of car.roots.items) car.start car.offset car.end × (car.limit ≡ limit)
 
 -- True if the reader has this version and these roots, and is at the first section, in a CAR that
 -- begins at `start` and goes on to `end`.

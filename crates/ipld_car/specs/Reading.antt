@@ -1,5 +1,5 @@
 -- What reading a section takes from a reader, and what it returns.
-use Rattle.std.specs.Prelude.{◌≡◌, ◌+◌, ◌-◌, ◌≤◌, ◌<◌, ℕ, Bool, true, false, List, [], length, drop, Option, Result, Ok, Err}
+use Rattle.std.specs.Prelude.{◌≡◌, ◌+◌, ◌≤◌, ◌<◌, ℕ, Bool, true, false, List, [], length, drop, Option, Result, Ok, Err}
 use Rattle.ipld_cid.specs.Bytes.{read_cid}
 use Rattle.ipld_cid.specs.Cid.{Link}
 use Rattle.ipld_cid.specs.declared.error.CidError.{CidError}
@@ -9,7 +9,7 @@ use Rattle.ipld_car.specs.declared.error.CarErrorKind.{CarErrorKind}
 use Rattle.ipld_car.specs.declared.error.CarErrorKind.TheVariants.{Cid, ShortPayload, UnexpectedEnd}
 use Rattle.ipld_car.specs.declared.version.CarVersion.{CarVersion}
 use Rattle.ipld_car.specs.declared.version.CarVersion.TheVariants.{V1, V2}
-use Rattle.ipld_car.specs.Taking.{Ends, IsReaderError}
+use Rattle.ipld_car.specs.Taking.{Take, room_of, Ends, IsReaderError}
 use Rattle.ipld_car.specs.Fails.{Fails}
 use Rattle.ipld_car.specs.Framing.{IsFramed, IsCutShort, FramingFault, fault_place}
 use Rattle.ipld_car.specs.Section.{Block, content_of, IsSection}
@@ -67,19 +67,21 @@ pub record NamesNone (content : List ℕ) (begin place : ℕ) (error : CarError)
   pub none : (link : Link) (rest : List ℕ) → BeginsWith 64 content link rest → ⊥
 
 -- what reading a section returns, whoever ends the bytes
-abbrev pub TakesSection : (limit begin end : ℕ) (old new : Option (List ℕ)) → List ℕ → Block → Result Bool CarError → Type 0
-TakesSection limit begin end old new taken block (Ok true) =
-    IsSection taken block × (length (content_of block) ≤ limit) × (length taken ≤ end - begin)
-TakesSection limit begin end old new taken block (Ok false) = (taken ≡ []) × Ends (end - begin) old new []
-TakesSection limit begin end old new taken block (Err error) = Fails begin (TakingFault limit (end - begin) old new taken) error
+abbrev pub TakesSection : Take → Block → Result Bool CarError → Type 0
+TakesSection take block (Ok true) =
+    IsSection take.taken block × (length (content_of block) ≤ take.limit) × (length take.taken ≤ room_of take)
+TakesSection take block (Ok false) = (take.taken ≡ []) × Ends (room_of take) take.before take.after []
+TakesSection take block (Err error) =
+    Fails take.begin (TakingFault take.limit (room_of take) take.before take.after take.taken) error
 
 -- True if the result is that of reading a section, by the bytes that were taken: `IsSection` of the
 -- block within the limits; nothing, at the end; or the fault, with its place (CARv1, "Data").
-abbrev pub ReadsSection : (limit begin end : ℕ) (old new : Option (List ℕ)) → List ℕ → Block → Result Bool CarError → Type 0
-ReadsSection limit begin end old new taken block (Ok true) =
-    IsSection taken block × (length (content_of block) ≤ limit) × (length taken ≤ end - begin)
-ReadsSection limit begin end old new taken block (Ok false) = (taken ≡ []) × Ends (end - begin) old new []
-ReadsSection limit begin end old new taken block (Err error) = Fails begin (SectionFault limit (end - begin) old new taken) error
+abbrev pub ReadsSection : Take → Block → Result Bool CarError → Type 0
+ReadsSection take block (Ok true) =
+    IsSection take.taken block × (length (content_of block) ≤ take.limit) × (length take.taken ≤ room_of take)
+ReadsSection take block (Ok false) = (take.taken ≡ []) × Ends (room_of take) take.before take.after []
+ReadsSection take block (Err error) =
+    Fails take.begin (SectionFault take.limit (room_of take) take.before take.after take.taken) error
 
 -- P of what is returned, unless an allocation or the reader failed
 abbrev pub UnlessReaderFails : {A : Type 0} → Result A CarError → (A → Type 0) → Type 0

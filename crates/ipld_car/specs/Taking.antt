@@ -1,11 +1,26 @@
 -- Bytes of a reader, put behind those that were taken before. Of a reader whose bytes are not known, as of a file, `Consumes` says nothing.
-use Rattle.std.specs.Prelude.{◌≡◌, ◌≢◌, ◌≤◌, ◌<◌, ◌⊎◌, ℕ, Bool, MatchBool, MatchOption, MatchResult, List, [], ◌∷◌, ◌++◌, length, Option, Some, None, Result, Ok, Err}
+use Rattle.std.specs.Prelude.{◌≡◌, ◌≢◌, ◌≤◌, ◌<◌, ◌⊎◌, ◌-◌, ℕ, Bool, MatchBool, MatchOption, MatchResult, List, [], ◌∷◌, ◌++◌, length, Option, Some, None, Result, Ok, Err}
 use Rattle.std.specs.IoError.{error_kind}
 use Rattle.std.specs.Io.KnownBytes.{Consumes}
 use Rattle.std.specs.declared.io.Error.{Error}
 use Rattle.std.specs.declared.io.ErrorKind.TheVariants.{Interrupted, OutOfMemory}
 use Rattle.ipld_car.specs.declared.error.CarErrorKind.{CarErrorKind}
 use Rattle.ipld_car.specs.declared.error.CarErrorKind.TheVariants.{Memory, Read}
+
+-- What is taken of a section or a header: it begins at `begin`, in what ends at `end`, and has at
+-- most `limit` bytes behind its length; the bytes of the reader before and after, if these are
+-- known; and the bytes that were taken.
+pub record Take : Type 0 where
+  pub limit : ℕ
+  pub begin : ℕ
+  pub end : ℕ
+  pub before : Option (List ℕ)
+  pub after : Option (List ℕ)
+  pub taken : List ℕ
+
+-- how many bytes may be taken
+abbrev pub room_of : Take → ℕ
+room_of take = take.end - take.begin
 
 -- The error of a reader that failed. One that found no memory is said to be a failed allocation, and one that was interrupted is tried again.
 abbrev pub IsReadError : Error → Type 0

@@ -14,7 +14,8 @@ fn take_buffered<R: BufRead>(
     taken: &mut Vec<u8>,
     most: usize,
 ) -> Result<Option<usize>, CarErrorKind>
-    ensures { TakesSome (R.remaining reader.old) (R.remaining reader.new) taken.old.items taken.new.items most result }
+    ensures { TakesSome (R.remaining reader.old) (R.remaining reader.new)
+        taken.old.items taken.new.items most result }
 {
     let count = match reader.fill_buf() {
         Ok(buffer) => {
@@ -48,7 +49,8 @@ pub(crate) fn fill<R: BufRead>(
     taken: &mut Vec<u8>,
     count: usize,
 ) -> Result<bool, CarErrorKind>
-    ensures { Fills (R.remaining reader.old) (R.remaining reader.new) taken.old.items taken.new.items count result }
+    ensures { Fills (R.remaining reader.old) (R.remaining reader.new)
+        taken.old.items taken.new.items count result }
 {
     let mut left = count;
     if left == 0 {

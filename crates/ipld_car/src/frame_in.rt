@@ -12,7 +12,8 @@ use crate::length::error_at;
 #[tactic(auto, using(crate::proofs::LengthsInMemory::length_none_in, crate::proofs::LengthsInMemory::length_cut_in, crate::proofs::LengthsInMemory::own_length))]
 fn length_in(bytes: &[u8]) -> (usize, Result<Option<u64>, CarErrorKind>)
     ensures within { result.0 ≤ length bytes.now }
-    ensures read { ReadsLength (length bytes.now) (Some bytes.now) (Some (drop result.0 bytes.now)) (take result.0 bytes.now) result.1 }
+    ensures read { ReadsLength (length bytes.now) (Some bytes.now) (Some (drop result.0 bytes.now))
+        (take result.0 bytes.now) result.1 }
     ensures own { IfErr result.1 (λ kind. IsOfReader kind → ⊥) }
 {
     let mut value = 0;
@@ -37,7 +38,8 @@ fn length_in(bytes: &[u8]) -> (usize, Result<Option<u64>, CarErrorKind>)
 pub(crate) fn frame_in(bytes: &[u8], limit: u64) -> (usize, Result<Option<usize>, CarErrorKind>)
     ensures within { result.0 ≤ length bytes.now }
     ensures starts { IfOk result.1 (λ some. IfSome some (λ start. start ≤ result.0)) }
-    ensures read { ReadsFramed limit (length bytes.now) (Some bytes.now) (Some (drop result.0 bytes.now)) (take result.0 bytes.now) result.1 }
+    ensures read { ReadsFramed limit (length bytes.now) (Some bytes.now)
+        (Some (drop result.0 bytes.now)) (take result.0 bytes.now) result.1 }
     ensures own { IfErr result.1 (λ kind. IsOfReader kind → ⊥) }
 {
     let (start, length) = length_in(bytes);

@@ -21,7 +21,8 @@ pub(crate) fn read_framed<R: BufRead>(
 ) -> Result<Option<usize>, CarErrorKind>
     ensures consumed { Consumes (R.remaining reader.old) (R.remaining reader.new) taken.new.items }
     ensures within { length taken.new.items ≤ room }
-    ensures read { ReadsFramed limit room (R.remaining reader.old) (R.remaining reader.new) taken.new.items result }
+    ensures read { ReadsFramed limit room
+        (R.remaining reader.old) (R.remaining reader.new) taken.new.items result }
 {
     taken.clear();
     let Some(length) = read_length(reader, taken, room)? else {

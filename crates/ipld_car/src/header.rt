@@ -40,8 +40,10 @@ pub(crate) fn header_of(alloc: Global, roots: &[Cid]) -> Result<Ipld, AllocError
 // The roots, where the tree is a header's.
 #[tactic(auto, using(crate::proofs::Headers::header_found, crate::proofs::Headers::header_none))]
 fn roots_of_tree(alloc: Global, value: &Ipld) -> Result<Option<Vec<Cid>>, AllocError>
-    ensures found { IfOk result (λ some. IfSome some (λ roots. tree_of value.now ≡ header_tree (map link_of roots.items))) }
-    ensures none { IfOk result (λ some. IfNone some ((roots : List Link) → tree_of value.now ≡ header_tree roots → ⊥)) }
+    ensures found { IfOk result (λ some.
+        IfSome some (λ roots. tree_of value.now ≡ header_tree (map link_of roots.items))) }
+    ensures none { IfOk result (λ some. IfNone some ((roots : List Link)
+        → tree_of value.now ≡ header_tree roots → ⊥)) }
 {
     let mut roots = Vec::new(alloc);
     value.references(alloc, &mut roots)?;

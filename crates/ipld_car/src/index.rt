@@ -1,9 +1,9 @@
 //! The index of a CAR of version 2, and the header that says where it stands; here the index that is to be written: its entries by the hash
 //! function and by the length of the digest.
 
-ghost use Rattle.std.specs.Prelude.{◌≡◌, ◌∷◌, ◌++◌, [], IfOk, OnOk};
+ghost use Rattle.std.specs.Prelude.{◌≡◌, ◌<◌, ◌∷◌, ◌++◌, [], length, IfOk, OnOk};
 ghost use Rattle.std.specs.List.Sorted.{IsPermutation};
-ghost use Rattle.ipld_car.specs.IndexGrouping.{entries_in, entries_of_hash, AreGrouped, AreGroupedHash, indexed};
+ghost use Rattle.ipld_car.specs.IndexGrouping.{entries_in, entries_of_hash, AreGrouped, AreGroupedHash, IsSplit, IsSplitHash, indexed};
 ghost use Rattle.ipld_car.specs.IndexOrder.{AreSorted};
 
 mod entry;
@@ -45,9 +45,11 @@ impl CarIndex {
     /// The index that has these entries, but for those whose digest is empty: a row without a digest names no block, and readers of indexes
     /// reject it. Such a digest is that of an empty block under the identity hash. Allocates for all of them; `AllocError` where that fails.
     pub fn new(alloc: Global, entries: Vec<IndexEntry>) -> Result<CarIndex, AllocError>
-        ensures same { IfOk result (λ index. IsPermutation (indexed entries.items) (entries_in index)) }
+        ensures same { IfOk result (λ index.
+            IsPermutation (indexed entries.items) (entries_in index)) }
         ensures sorted { IfOk result (λ index. AreSorted (entries_in index)) }
         ensures grouped { IfOk result AreGrouped }
+        ensures split { IfOk result IsSplit }
     {
         let mut entries = entries;
         entries.retain(|entry| entry.hash.size() > 0);
@@ -65,6 +67,7 @@ impl CarIndex {
     fn push(&mut self, alloc: Global, entry: &IndexEntry) -> Result<(), AllocError>
         ensures behind { OnOk result (entries_in self.new ≡ entries_in self.old ++ entry.now ∷ []) }
         ensures grouped { OnOk result (AreGrouped self.old → AreGrouped self.new) }
+        ensures split { OnOk result (IsSplit self.old → IsSplit self.new) }
     {
         let code = entry.hash.code();
         match self.hashes.last_mut() {
@@ -87,8 +90,11 @@ impl HashBuckets {
     fn push(&mut self, alloc: Global, entry: &IndexEntry) -> Result<(), AllocError>
         requires { entry.now.hash.code ≡ self.old.code }
         ensures code { self.new.code ≡ self.old.code }
-        ensures behind { OnOk result (entries_of_hash self.new ≡ entries_of_hash self.old ++ entry.now ∷ []) }
+        ensures behind { OnOk result
+            (entries_of_hash self.new ≡ entries_of_hash self.old ++ entry.now ∷ []) }
         ensures grouped { OnOk result (AreGroupedHash self.old → AreGroupedHash self.new) }
+        ensures split { OnOk result (IsSplitHash self.old → IsSplitHash self.new) }
+        ensures some { OnOk result (0 < length self.new.buckets.items) }
     {
         let digest = entry.hash.digest();
         let digest_len = digest.len() as u8;

@@ -31,7 +31,8 @@ fn take_byte<R: BufRead>(
     taken: &mut Vec<u8>,
     room: u64,
 ) -> Result<Option<u8>, CarErrorKind>
-    ensures { TakesByte room (R.remaining reader.old) (R.remaining reader.new) taken.old.items taken.new.items result }
+    ensures { TakesByte room (R.remaining reader.old) (R.remaining reader.new)
+        taken.old.items taken.new.items result }
 {
     if taken.len() as u64 == room {
         return Ok(None);
@@ -52,7 +53,8 @@ pub(crate) fn read_length<R: BufRead>(
     requires { taken.old.items ≡ [] }
     ensures consumed { Consumes (R.remaining reader.old) (R.remaining reader.new) taken.new.items }
     ensures within { length taken.new.items ≤ room }
-    ensures read { ReadsLength room (R.remaining reader.old) (R.remaining reader.new) taken.new.items result }
+    ensures read { ReadsLength room
+        (R.remaining reader.old) (R.remaining reader.new) taken.new.items result }
 {
     let mut value = 0;
     for place in 0..10 {

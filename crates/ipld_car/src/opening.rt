@@ -1,10 +1,9 @@
 //! What stands before the sections, read.
 
-ghost use Rattle.std.specs.Prelude.{◌≡◌, ◌≤◌, ◌<◌, ◌-◌, ◌+◌, ◌^◌, length, drop, map, MatchResult};
+ghost use Rattle.std.specs.Prelude.{◌≡◌, ◌≤◌, ◌<◌, ◌-◌, ◌+◌, ◌^◌, length, drop, MatchResult};
 ghost use Rattle.std.specs.Io.KnownBytes.{Consumes};
-ghost use Rattle.ipld_cid.specs.LinkOf.{link_of};
-ghost use Rattle.ipld_car.specs.Opening.{Opens, OpenFault, ReadsHeaderBlock, ReadsRootsAt};
-ghost use Rattle.ipld_car.specs.OpeningOf.{OpensVersion2};
+ghost use Rattle.ipld_car.specs.Opening.{OpenFault, ReadsHeaderBlock, ReadsRootsAt};
+ghost use Rattle.ipld_car.specs.OpeningOf.{OpensFront, OpensVersion2};
 
 use crate::error::{CarError, CarErrorKind};
 use crate::framed::{fault_place, read_framed};
@@ -39,7 +38,16 @@ fn read_block<R: BufRead>(
     requires { begin ≤ end }
     ensures consumed { Consumes (R.remaining reader.old) (R.remaining reader.new) taken.new.items }
     ensures within { length taken.new.items ≤ end - begin }
-    ensures read { ReadsHeaderBlock limit begin end (R.remaining reader.old) (R.remaining reader.new) taken.new.items result }
+    ensures read { ReadsHeaderBlock
+        (record {
+          limit = limit;
+          begin = begin;
+          end = end;
+          before = R.remaining reader.old;
+          after = R.remaining reader.new;
+          taken = taken.new.items;
+        })
+        result }
 {
     match read_framed(reader, taken, limit, end - begin) {
         Ok(Some(start)) => Ok(start),
@@ -103,7 +111,7 @@ pub(crate) fn read_opening<R: BufRead>(
     limit: u64,
 ) -> Result<Opening, CarError>
     ensures { MatchResult result
-        (λ front. Opens limit (R.remaining reader.old) (R.remaining reader.new) front.version (map link_of front.roots.items) front.start front.offset front.end)
+        (OpensFront limit (R.remaining reader.old) (R.remaining reader.new))
         (OpenFault limit (R.remaining reader.old) (R.remaining reader.new)) }
 {
     let mut taken = Vec::new(alloc);

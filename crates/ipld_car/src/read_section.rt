@@ -34,7 +34,9 @@ fn name_block(section: &mut Section, begin: u64, start: usize) -> Result<bool, C
     ensures kept { taken_of section.new ≡ taken_of section.old }
     ensures held { OnErr result (block_of section.new ≡ block_of section.old) }
     ensures named { MatchResult result
-        (λ has. (has ≡ true) × BeginsWith 64 (drop start (taken_of section.old)) (block_of section.new).cid (block_of section.new).bytes)
+        (λ has. (has ≡ true)
+        × BeginsWith 64 (drop start (taken_of section.old))
+        (block_of section.new).cid (block_of section.new).bytes)
         (λ error. NamesNone (drop start (taken_of section.old)) begin start error) }
 {
     match Cid::split_front(&section.bytes[start..]) {
@@ -56,10 +58,12 @@ fn take_framed<R: BufRead>(
     limit: u64,
     room: u64,
 ) -> Result<Option<usize>, CarErrorKind>
-    ensures consumed { Consumes (R.remaining reader.old) (R.remaining reader.new) (taken_of section.new) }
+    ensures consumed { Consumes
+        (R.remaining reader.old) (R.remaining reader.new) (taken_of section.new) }
     ensures within { length (taken_of section.new) ≤ room }
     ensures left { block_of section.new ≡ emptied (block_of section.old) }
-    ensures read { ReadsFramed limit room (R.remaining reader.old) (R.remaining reader.new) (taken_of section.new) result }
+    ensures read { ReadsFramed limit room
+        (R.remaining reader.old) (R.remaining reader.new) (taken_of section.new) result }
 {
     section.data_start = 0;
     let framed = read_framed(reader, &mut section.bytes, limit, room);
@@ -77,9 +81,19 @@ pub(crate) fn read_section_at<R: BufRead>(
     end: u64,
 ) -> Result<bool, CarError>
     requires { begin ≤ end }
-    ensures consumed { Consumes (R.remaining reader.old) (R.remaining reader.new) (taken_of section.new) }
+    ensures consumed { Consumes
+        (R.remaining reader.old) (R.remaining reader.new) (taken_of section.new) }
     ensures within { length (taken_of section.new) ≤ end - begin }
-    ensures read { TakesSection limit begin end (R.remaining reader.old) (R.remaining reader.new) (taken_of section.new) (block_of section.new) result }
+    ensures read { TakesSection
+        (record {
+          limit = limit;
+          begin = begin;
+          end = end;
+          before = R.remaining reader.old;
+          after = R.remaining reader.new;
+          taken = taken_of section.new;
+        })
+        (block_of section.new) result }
     ensures left { Leaves (block_of section.old) (block_of section.new) result }
 {
     match take_framed(reader, section, limit, end - begin) {

@@ -35,11 +35,11 @@ impl<R: BufRead> CarReader<R> {
     ghost use Rattle.std.specs.Io.KnownBytes.{Consumes};
     ghost use Rattle.ipld_cid.specs.Cid.{Link};
     ghost use Rattle.ipld_cid.specs.LinkOf.{link_of};
-    ghost use Rattle.ipld_car.specs.Opening.{Opens, OpenFault, IsFront};
+    ghost use Rattle.ipld_car.specs.Opening.{IsFront};
     ghost use Rattle.ipld_car.specs.Reading.{ReadsSection, EndsOf, Leaves, UnlessReaderFails};
     ghost use Rattle.ipld_car.specs.Section.{Block, IsSection, content_of};
     ghost use Rattle.ipld_car.specs.SectionOf.{taken_of, block_of};
-    ghost use Rattle.ipld_car.specs.Position.{Moves, FaultOf, HasOpened, stated_end};
+    ghost use Rattle.ipld_car.specs.Position.{Moves, IsOpened, FaultOf, HasOpened, stated_end};
 
     /// Reads what stands before the sections, and nothing more: the header, or of version 2 the pragma, the header and the header of its
     /// payload. Neither a header nor a section may have more than `limit` bytes behind its length.
@@ -54,11 +54,15 @@ impl<R: BufRead> CarReader<R> {
     where
         R: Drop,
         ensures opens { MatchResult result
-            (λ car. Opens limit (R.remaining reader) (R.remaining car.reader) car.version (map link_of car.roots.items) car.start car.offset car.end × (car.limit ≡ limit))
+            (λ car. IsOpened limit (R.remaining reader) (R.remaining car.reader) car)
             (FaultOf limit (R.remaining reader)) }
-        ensures only { (version : CarVersion) (bytes rest : List ℕ) (roots : List Link) (start end : ℕ) → R.remaining reader ≡ Some (bytes ++ rest)
-            → IsFront limit version bytes roots start end → length bytes ≤ end → end < 2 ^ 64
-            → UnlessReaderFails result (λ car. HasOpened car version roots start (length bytes) end) }
+        ensures only { (version : CarVersion) (bytes rest : List ℕ)
+            (roots : List Link) (start end : ℕ)
+            → R.remaining reader ≡ Some (bytes ++ rest)
+            → IsFront limit version bytes roots start end
+            → length bytes ≤ end → end < 2 ^ 64
+            → UnlessReaderFails result (λ car.
+            HasOpened car version roots start (length bytes) end) }
     {
         let mut reader = reader;
         match read_opening(alloc, &mut reader, limit) {
@@ -128,14 +132,27 @@ impl<R: BufRead> CarReader<R> {
     /// section at fault the bytes up to the fault were taken, and none of what follows it: where its CID is at fault, the whole section.
     /// `section` then has no bytes of a block, and the CID that it had.
     pub fn read_section(&mut self, section: &mut Section) -> Result<bool, CarError>
-        ensures consumed { Consumes (R.remaining self.old.reader) (R.remaining self.new.reader) (taken_of section.new) }
+        ensures consumed { Consumes (R.remaining self.old.reader) (R.remaining self.new.reader)
+            (taken_of section.new) }
         ensures moves { Moves self.old self.new (length (taken_of section.new)) }
-        ensures read { ReadsSection self.old.limit self.old.offset self.old.end (R.remaining self.old.reader) (R.remaining self.new.reader)
-            (taken_of section.new) (block_of section.new) result }
-        ensures ends { EndsOf self.old.version (self.old.end - self.old.start) (self.new.offset - self.old.start) result }
+        ensures read { ReadsSection
+            (record {
+              limit = self.old.limit;
+              begin = self.old.offset;
+              end = self.old.end;
+              before = R.remaining self.old.reader;
+              after = R.remaining self.new.reader;
+              taken = taken_of section.new;
+            })
+            (block_of section.new) result }
+        ensures ends { EndsOf self.old.version (self.old.end - self.old.start)
+            (self.new.offset - self.old.start) result }
         ensures left { Leaves (block_of section.old) (block_of section.new) result }
-        ensures only { (block : Block) (bytes rest : List ℕ) → R.remaining self.old.reader ≡ Some (bytes ++ rest) → IsSection bytes block
-            → length (content_of block) ≤ self.old.limit → length bytes ≤ self.old.end - self.old.offset
+        ensures only { (block : Block) (bytes rest : List ℕ)
+            → R.remaining self.old.reader ≡ Some (bytes ++ rest)
+            → IsSection bytes block
+            → length (content_of block) ≤ self.old.limit
+            → length bytes ≤ self.old.end - self.old.offset
             → UnlessReaderFails result (λ has. (has ≡ true) × (block_of section.new ≡ block)) }
     {
         let begin = self.offset;

@@ -89,11 +89,22 @@ pub fn section_at(
     at: usize,
     end: usize,
 ) -> Result<Option<SectionSpan>, CarError>
-    ensures found { IfOk result (λ some. IfSome some (λ span. (at < end) × ((block : Block) × SpansSection (between at end car.now) at block span))) }
-    ensures inside { IfOk result (λ some. IfSome some (λ span. (at < span.cid) × (span.cid < span.block) × (span.block ≤ span.end) × (span.end ≤ end) × (span.end ≤ length car.now))) }
+    ensures found { IfOk result (λ some. IfSome some (λ span.
+        (at < end) × ((block : Block) × SpansSection (between at end car.now) at block span))) }
+    ensures inside { IfOk result (λ some. IfSome some (λ span.
+        (at < span.cid) × (span.cid < span.block) × (span.block ≤ span.end)
+        × (span.end ≤ end) × (span.end ≤ length car.now))) }
     ensures none { IfOk result (λ some. IfNone some (end ≤ at)) }
-    ensures fault { IfErr result (λ error. (at < end) × Fails at (SpanFault (between at end car.now) (end - at) (end - min start at) (length car.now - min start at)) error) }
-    ensures only { (block : Block) (section rest : List ℕ) → at < end → between at end car.now ≡ section ++ rest → IsSection section block
+    ensures fault { IfErr result (λ error.
+        (at < end)
+        × Fails at
+        (SpanFault (between at end car.now) (end - at) (end - min start at)
+        (length car.now - min start at))
+        error) }
+    ensures only { (block : Block) (section rest : List ℕ)
+        → at < end
+        → between at end car.now ≡ section ++ rest
+        → IsSection section block
         → IsOkAnd result (λ some. IsSomeAnd some (SpansSection (between at end car.now) at block)) }
 {
     if at >= end {

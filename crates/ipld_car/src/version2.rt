@@ -47,7 +47,8 @@ pub(crate) fn number_at(bytes: &[u8], place: usize) -> u64
 // Where the payload lies, by the 40 bytes of the header.
 fn payload_of(header: &[u8]) -> Option<Payload>
     requires { length header.now ≡ 40 }
-    ensures { MatchOption result (HasNoPayload header.now) (λ payload. PlacesPayload header.now payload.start payload.end) }
+    ensures { MatchOption result (HasNoPayload header.now) (λ payload.
+        PlacesPayload header.now payload.start payload.end) }
 {
     let start = number_at(header, 16);
     let size = number_at(header, 24);
@@ -60,15 +61,17 @@ fn payload_of(header: &[u8]) -> Option<Payload>
     }
 }
 
-// Skips so many bytes, from the 51st of the file on.
-#[tactic(auto, using(crate::proofs::Skipping::skips_none, crate::proofs::Skipping::skips_more, crate::proofs::Skipping::skips_all))]
+// Skips so many bytes, from the 51st of the file on. It keeps a piece of them at a time.
+#[tactic(auto, using(crate::proofs::Skipping::skips_none, crate::proofs::Skipping::skips_more, crate::proofs::Skipping::skips_all, crate::proofs::Skipping::fills_bounded))]
 fn skip_padding<R: BufRead>(
     reader: &mut R,
     scratch: &mut Vec<u8>,
     count: u64,
 ) -> Result<(), CarError>
-    requires { 51 + count < 2 ^ 64 }
-    ensures { SkipsPadding (R.remaining reader.old) (R.remaining reader.new) count result }
+    requires fits { 51 + count < 2 ^ 64 }
+    requires short { length scratch.old.items ≤ 4096 }
+    ensures skips { SkipsPadding (R.remaining reader.old) (R.remaining reader.new) count result }
+    ensures bounded { length scratch.new.items ≤ 4096 }
 {
     let mut left = count;
     while left > 0 {
@@ -96,7 +99,8 @@ pub(crate) fn read_payload<R: BufRead>(
     taken: &mut Vec<u8>,
 ) -> Result<Payload, CarError>
     ensures { MatchResult result
-        (λ payload. TakesToPayload (R.remaining reader.old) (R.remaining reader.new) payload.start payload.end)
+        (λ payload. TakesToPayload (R.remaining reader.old) (R.remaining reader.new)
+        payload.start payload.end)
         (FailsBeforePayload (R.remaining reader.old) (R.remaining reader.new)) }
 {
     taken.clear();

@@ -11,7 +11,8 @@ use std::io::{Error, ErrorKind, Write};
 
 // What a writer's error means, or nothing where the write was only interrupted.
 fn error_of_write(error: Error) -> Option<CarWriteError>
-    ensures { MatchOption result (error_kind error ≡ ErrorKind.Interrupted) (IsErrorOfWriter error) }
+    ensures { MatchOption result (error_kind error ≡ ErrorKind.Interrupted)
+        (IsErrorOfWriter error) }
 {
     match error.kind() {
         ErrorKind::Interrupted => None,
@@ -23,7 +24,8 @@ fn error_of_write(error: Error) -> Option<CarWriteError>
 // Writes some of the bytes, and returns how many: none where the write was interrupted.
 #[tactic(auto, using(crate::proofs::Pieces::appended_none, crate::proofs::Pieces::kept_for_none))]
 fn write_piece<W: Write>(writer: &mut W, rest: &[u8]) -> Result<usize, CarWriteError>
-    ensures ok { IfOk result (λ count. (count ≤ length rest.now) × Appends (W.contents writer.old) (W.contents writer.new) (take count rest.now)) }
+    ensures ok { IfOk result (λ count. (count ≤ length rest.now)
+        × Appends (W.contents writer.old) (W.contents writer.new) (take count rest.now)) }
     ensures err { IfErr result IsWriteError }
     ensures kept { OnErr result (Keeps (W.contents writer.old) (W.contents writer.new)) }
 {
@@ -42,7 +44,8 @@ fn write_piece<W: Write>(writer: &mut W, rest: &[u8]) -> Result<usize, CarWriteE
 pub(crate) fn write_all<W: Write>(writer: &mut W, bytes: &[u8]) -> Result<(), CarWriteError>
     ensures ok { OnOk result (Appends (W.contents writer.old) (W.contents writer.new) bytes.now) }
     ensures err { IfErr result IsWriteError }
-    ensures part { OnErr result (WritesPart (W.contents writer.old) (W.contents writer.new) bytes.now) }
+    ensures part { OnErr result
+        (WritesPart (W.contents writer.old) (W.contents writer.new) bytes.now) }
 {
     let mut rest = bytes;
     if rest.is_empty() {

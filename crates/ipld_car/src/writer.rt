@@ -53,7 +53,8 @@ fn header_bytes(alloc: Global, roots: &[Cid]) -> Result<Vec<u8>, AllocError>
 // Puts what stands before a block of so many bytes in place of what `front` held.
 fn put_front(front: &mut Vec<u8>, cid: &Cid, len: usize) -> Result<(), AllocError>
     requires { len < 2 ^ 63 }
-    ensures written { OnOk result (front.new.items ≡ varint_of (length (bytes_of (link_of cid.now)) + len) ++ bytes_of (link_of cid.now)) }
+    ensures written { OnOk result (front.new.items
+        ≡ varint_of (length (bytes_of (link_of cid.now)) + len) ++ bytes_of (link_of cid.now)) }
     ensures fits { length (bytes_of (link_of cid.now)) + len < 2 ^ 64 }
 {
     front.clear();
@@ -79,7 +80,8 @@ impl<W: Write> CarWriter<W> {
     pub fn new(alloc: Global, writer: W, roots: &[Cid]) -> Result<CarWriter<W>, CarWriteError>
     where
         W: Drop,
-        ensures written { IfOk result (λ car. WritesHeader (W.contents writer) (W.contents car.writer) (map link_of roots.now)) }
+        ensures written { IfOk result (λ car.
+            WritesHeader (W.contents writer) (W.contents car.writer) (map link_of roots.now)) }
         ensures fault { IfErr result IsWriteError }
     {
         let header = match header_bytes(alloc, roots) {
@@ -106,8 +108,12 @@ impl<W: Write> CarWriter<W> {
     /// written is no CAR unless they are taken back.
     #[tactic(auto, using(crate::proofs::WrittenParts::writes_section, crate::proofs::WrittenParts::writes_none, crate::proofs::WrittenParts::writes_front_part, crate::proofs::WrittenParts::writes_block_part))]
     pub fn write_section(&mut self, cid: &Cid, data: &[u8]) -> Result<(), CarWriteError>
-        ensures written { OnOk result (WritesSection (W.contents self.old.writer) (W.contents self.new.writer) (record { cid = link_of cid.now; bytes = data.now })) }
-        ensures part { OnErr result (WritesSectionPart (W.contents self.old.writer) (W.contents self.new.writer) (record { cid = link_of cid.now; bytes = data.now })) }
+        ensures written { OnOk result
+            (WritesSection (W.contents self.old.writer) (W.contents self.new.writer)
+            (record { cid = link_of cid.now; bytes = data.now })) }
+        ensures part { OnErr result
+            (WritesSectionPart (W.contents self.old.writer) (W.contents self.new.writer)
+            (record { cid = link_of cid.now; bytes = data.now })) }
         ensures fault { IfErr result IsWriteError }
     {
         match put_front(&mut self.front, cid, data.len()) {

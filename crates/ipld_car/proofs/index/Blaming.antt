@@ -14,6 +14,7 @@ use Rattle.ipld_car.proofs.index.Taking.{ordered_none}
 use Rattle.ipld_car.specs.declared.index.entry.IndexEntry.{IndexEntry}
 use Rattle.ipld_car.specs.declared.index.error.IndexError.{IndexError}
 use Rattle.ipld_car.specs.declared.index.error.IndexError.TheVariants.{Memory, Read, UnexpectedEnd, FormatNotShortest, FormatTooLarge, Format, Width, Length, NotSorted}
+use Rattle.ipld_car.proofs.index.Taking.{state_of}
 
 -- ---- known bytes
 
@@ -21,25 +22,30 @@ use Rattle.ipld_car.specs.declared.index.error.IndexError.TheVariants.{Memory, R
 pub blames_behind : (W V : List ℕ → IndexError → Type 0) (old mid : Option (List ℕ)) (taken : List ℕ) (error : IndexError) → Consumes old mid taken
     → ((rest : List ℕ) → W rest error → V (taken ++ rest) error) → Blames W mid error → Blames V old error
 blames_behind W V old mid taken Memory p f b = tt
-blames_behind W V old mid taken (Read failure) p f b = tt
+blames_behind W V old mid taken (Read failure) p f b = b
 blames_behind W V None mid taken error p f b = tt
 blames_behind W V (Some xs) None taken error p f b = absurd p
 blames_behind W V (Some xs) (Some ys) taken error p f b = subst (λ l. V l error) (sym p) (f ys b)
 
+-- the error is one of the bytes, and of no reader
+abbrev pub IsOfBytes : IndexError → Type 0
+IsOfBytes (Read error) = ⊥
+IsOfBytes _ = Unit {0}
+
 -- what was taken shows what is wrong
-pub blames_here : (V : List ℕ → IndexError → Type 0) (old mid : Option (List ℕ)) (taken : List ℕ) (error : IndexError) → Consumes old mid taken
+pub blames_here : (V : List ℕ → IndexError → Type 0) (old mid : Option (List ℕ)) (taken : List ℕ) (error : IndexError) → IsOfBytes error → Consumes old mid taken
     → ((rest : List ℕ) → V (taken ++ rest) error) → Blames V old error
-blames_here V old mid taken Memory p f = tt
-blames_here V old mid taken (Read failure) p f = tt
-blames_here V None mid taken error p f = tt
-blames_here V (Some xs) None taken error p f = absurd p
-blames_here V (Some xs) (Some ys) taken error p f = subst (λ l. V l error) (sym p) (f ys)
+blames_here V old mid taken Memory own p f = tt
+blames_here V old mid taken (Read failure) own p f = absurd own
+blames_here V None mid taken error own p f = tt
+blames_here V (Some xs) None taken error own p f = absurd p
+blames_here V (Some xs) (Some ys) taken error own p f = subst (λ l. V l error) (sym p) (f ys)
 
 -- they end before so many bytes
 pub blames_end : (V : List ℕ → IndexError → Type 0) (count : ℕ) (old mid : Option (List ℕ)) (taken : List ℕ) (error : IndexError) → Consumes old mid taken
     → ((rest : List ℕ) → length rest < count → V (taken ++ rest) UnexpectedEnd) → EndsWithin count mid error → Blames V old error
 blames_end V count old mid taken Memory p f e = tt
-blames_end V count old mid taken (Read failure) p f e = tt
+blames_end V count old mid taken (Read failure) p f e = e
 blames_end V count None mid taken UnexpectedEnd p f e = tt
 blames_end V count (Some xs) None taken UnexpectedEnd p f e = absurd p
 blames_end V count (Some xs) (Some ys) taken UnexpectedEnd p f e = subst (λ l. V l UnexpectedEnd) (sym p) (f ys e)
@@ -73,7 +79,7 @@ row_unsorted : (code digest_len offset : ℕ) (digest : List ℕ) (hash : HashPa
     → IsUnsorted (before ++ record { hash = hash; offset = offset } ∷ []) error → Blames (WrongRow code digest_len before) old error
 unfolding row
 row_unsorted code digest_len offset digest hash old mid new before Memory p q fits is long u = tt
-row_unsorted code digest_len offset digest hash old mid new before (Read failure) p q fits is long u = tt
+row_unsorted code digest_len offset digest hash old mid new before (Read failure) p q fits is long u = absurd u
 row_unsorted code digest_len offset digest hash old mid new before UnexpectedEnd p q fits is long u = absurd u
 row_unsorted code digest_len offset digest hash old mid new before FormatNotShortest p q fits is long u = absurd u
 row_unsorted code digest_len offset digest hash old mid new before FormatTooLarge p q fits is long u = absurd u
@@ -127,14 +133,14 @@ module _ (AreParts : ℕ → List ℕ → List IndexEntry → Type 0) (IsWrongPa
       }) b
 
 pub rows_blame : (code digest_len count left len : ℕ) (old mid : Option (List ℕ)) (before between : List IndexEntry) (error : IndexError) → len ≡ digest_len
-    → TakesRows code digest_len (count - left) old mid before between → left ≤ count → 0 < left → Blames (WrongRow code len between) mid error → AreInOrder before
+    → TakesRows code digest_len (count - left) (state_of old before) (state_of mid between) → left ≤ count → 0 < left → Blames (WrongRow code len between) mid error → AreInOrder before
     → Blames (FirstWrong (AreRows code digest_len) (WrongRow code digest_len) count before) old error
 rows_blame code digest_len count left len old mid before between error is t few some b o =
     part_wrong (AreRows code digest_len) (WrongRow code digest_len) count (count - left) (rows t.entries) t.entries old mid before between error t.consumed
     (refl, t.counted, t.own) t.behind (omega arith) (t.in_order o) (subst (λ n. Blames (WrongRow code n between) mid error) is b)
 
 pub parts_blame : (IsPart : List ℕ → List IndexEntry → Type 0) (IsWrongPart : List IndexEntry → List ℕ → IndexError → Type 0) (count left : ℕ) (old mid : Option (List ℕ))
-    (before between : List IndexEntry) (error : IndexError) → TakesPart (Parts IsPart (count - left)) old mid before between → left ≤ count → 0 < left
+    (before between : List IndexEntry) (error : IndexError) → TakesPart (Parts IsPart (count - left)) (state_of old before) (state_of mid between) → left ≤ count → 0 < left
     → (AreInOrder between → Blames (IsWrongPart between) mid error) → AreInOrder before → Blames (FirstWrong (Parts IsPart) IsWrongPart count before) old error
 parts_blame IsPart IsWrongPart count left old mid before between error t few some b o =
     part_wrong (Parts IsPart) IsWrongPart count (count - left) t.bytes t.entries old mid before between error t.consumed t.is_part t.behind (omega arith) (t.in_order o)
@@ -148,11 +154,11 @@ module _ (code : ℕ) (before : List IndexEntry) where
 
   pub width_narrow : (width : ℕ) (old one : Option (List ℕ)) → Consumes old one (le32 width) → width < 2 ^ 32 → width < 8 → Blames (WrongBucket code before) old (Width width)
   width_narrow width old one p low narrow =
-      blames_here (WrongBucket code before) old one (le32 width) (Width width) p (λ rest. wrong_width width rest low (λ digest_len short is. omega arith))
+      blames_here (WrongBucket code before) old one (le32 width) (Width width) tt p (λ rest. wrong_width width rest low (λ digest_len short is. omega arith))
 
   pub width_wide : (width : ℕ) (old one : Option (List ℕ)) → Consumes old one (le32 width) → width < 2 ^ 32 → 72 < width → Blames (WrongBucket code before) old (Width width)
   width_wide width old one p low wide =
-      blames_here (WrongBucket code before) old one (le32 width) (Width width) p (λ rest. wrong_width width rest low (λ digest_len short is. omega arith))
+      blames_here (WrongBucket code before) old one (le32 width) (Width width) tt p (λ rest. wrong_width width rest low (λ digest_len short is. omega arith))
 
   pub length_cut : (width digest_len : ℕ) (old one : Option (List ℕ)) (error : IndexError) → Consumes old one (le32 width) → width ≡ digest_len + 8 → digest_len ≤ 64
       → EndsWithin 8 one error → Blames (WrongBucket code before) old error
@@ -163,7 +169,7 @@ module _ (code : ℕ) (before : List IndexEntry) where
   pub length_uneven : (width len digest_len : ℕ) (old one two : Option (List ℕ)) → Consumes old one (le32 width) → Consumes one two (le64 len) → width ≡ digest_len + 8
       → digest_len ≤ 64 → len < 2 ^ 64 → len % width ≢ 0 → Blames (WrongBucket code before) old (Length len)
   length_uneven width len digest_len old one two p q wide short fits uneven =
-      blames_here (WrongBucket code before) old two (le32 (digest_len + 8) ++ le64 len) (Length len)
+      blames_here (WrongBucket code before) old two (le32 (digest_len + 8) ++ le64 len) (Length len) tt
       (Consumes-trans old one two (le32 (digest_len + 8)) (le64 len) (subst (λ w. Consumes old one (le32 w)) wide p) q)
       (λ rest. subst (λ l. WrongBucket code before l (Length len)) (sym (append_assoc (le32 (digest_len + 8)) (le64 len) rest))
       (wrong_length digest_len len rest short fits (λ count is. uneven (ap (λ n. n % width) (is ∙ ap (λ n. n * count) (sym wide)) ∙ mul-mod_right width count))))

@@ -64,7 +64,7 @@ module _ (old mid new : Option (List ℕ)) (code place byte : ℕ) (g : ReadsCod
   pub code_too_large : kind_of (error_at place byte) ≡ Some LengthTooLarge → Blames WrongFormat old FormatTooLarge
   code_too_large e = elim (error_is place byte) [
     | inl (inl none) ↦ absurd (no_kind LengthTooLarge (sym (ap kind_of none) ∙ e))
-    | inl (inr large) ↦ blames_here WrongFormat old new (g.taken ++ byte ∷ []) FormatTooLarge all_taken
+    | inl (inr large) ↦ blames_here WrongFormat old new (g.taken ++ byte ∷ []) FormatTooLarge tt all_taken
         (λ rest. format_too_large (g.taken ++ byte ∷ []) rest (no_varint old mid g.taken code place 10 byte VarintTooLarge g.groups large))
     | inr short ↦ absurd (let same = same_kind LengthNotShortest LengthTooLarge (sym (ap kind_of short) ∙ e) in cc)
   ]
@@ -74,7 +74,7 @@ module _ (old mid new : Option (List ℕ)) (code place byte : ℕ) (g : ReadsCod
   code_not_shortest kind e other = elim (error_is place byte) [
     | inl (inl none) ↦ absurd (no_kind kind (sym (ap kind_of none) ∙ e))
     | inl (inr large) ↦ absurd (other (sym (same_kind LengthTooLarge kind (sym (ap kind_of large) ∙ e))))
-    | inr short ↦ blames_here WrongFormat old new (g.taken ++ byte ∷ []) FormatNotShortest all_taken
+    | inr short ↦ blames_here WrongFormat old new (g.taken ++ byte ∷ []) FormatNotShortest tt all_taken
         (λ rest. format_not_shortest (g.taken ++ byte ∷ []) rest (no_varint old mid g.taken code place 10 byte VarintNotShortest g.groups short))
   ]
 
@@ -98,7 +98,7 @@ format_taken old new code t is = subst (Consumes old new) (varint_alone code t.b
 
 -- the code of another format was taken
 pub format_other : (old new : Option (List ℕ)) (code : ℕ) → TakesCode old new code → code ≢ 0x0401 → Blames WrongFormat old (Format code)
-format_other old new code t other = blames_here WrongFormat old new t.bytes (Format code) t.consumed (λ rest. other_format code t.bytes rest t.is_varint other)
+format_other old new code t other = blames_here WrongFormat old new t.bytes (Format code) tt t.consumed (λ rest. other_format code t.bytes rest t.is_varint other)
 
 -- bytes that begin with the code of the format are read as that
 format_known : (rest bytes : List ℕ) → bytes ≡ format_code ++ rest → read_varint bytes ≡ Ok (0x0401, rest)
@@ -120,7 +120,7 @@ right_format bytes rest error (other_format code front tail is other) e =
 
 wrong_known : (bytes rest : List ℕ) (old : Option (List ℕ)) (error : IndexError) → old ≡ Some (format_code ++ rest) → Blames WrongFormat old error → IsOfReader error
 wrong_known bytes rest old Memory known b = tt
-wrong_known bytes rest old (Read failure) known b = tt
+wrong_known bytes rest old (Read failure) known b = b
 wrong_known bytes rest None error known b = absurd cc
 wrong_known bytes rest (Some xs) error known b = absurd (right_format xs rest error b cc)
 

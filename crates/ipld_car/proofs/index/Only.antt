@@ -19,6 +19,7 @@ use Rattle.ipld_car.specs.IndexErrors.{EndsWithin, IsUnsorted}
 use Rattle.ipld_car.specs.declared.index.entry.IndexEntry.{IndexEntry}
 use Rattle.ipld_car.specs.declared.index.error.IndexError.{IndexError}
 use Rattle.ipld_car.specs.declared.index.error.IndexError.TheVariants.{Memory, Read, UnexpectedEnd, FormatNotShortest, FormatTooLarge, Format, Width, Length, NotSorted}
+use Rattle.ipld_car.proofs.index.Taking.{state_of}
 
 -- ---- the front of known bytes
 
@@ -48,7 +49,7 @@ number64_taken n m back old new few low known p =
 pub not_ended : (count : ℕ) (front back : List ℕ) (known : Option (List ℕ)) (error : IndexError) → known ≡ Some (front ++ back) → count ≤ length front
     → EndsWithin count known error → IsOfReader error
 not_ended count front back known Memory is long e = tt
-not_ended count front back known (Read failure) is long e = tt
+not_ended count front back known (Read failure) is long e = e
 not_ended count front back None UnexpectedEnd is long e = absurd cc
 not_ended count front back (Some xs) UnexpectedEnd is long e =
     let same : xs ≡ front ++ back = cc in
@@ -63,7 +64,7 @@ not_ended count front back known NotSorted is long e = absurd e
 -- entries that are sorted are no error
 not_unsorted : (entries : List IndexEntry) (error : IndexError) → IsUnsorted entries error → AreSorted entries → IsOfReader error
 not_unsorted entries Memory u s = tt
-not_unsorted entries (Read failure) u s = tt
+not_unsorted entries (Read failure) u s = absurd u
 not_unsorted entries UnexpectedEnd u s = absurd u
 not_unsorted entries FormatNotShortest u s = absurd u
 not_unsorted entries FormatTooLarge u s = absurd u
@@ -172,7 +173,7 @@ module _ (IsPart : List ℕ → List IndexEntry → Type 0) where
     }
 
     one_read : (n less : ℕ) (rest : List ℕ) (mid new : Option (List ℕ)) (between after all : List IndexEntry) (result : Result (Unit {0}) IndexError)
-        → StandsAhead n rest mid between all → AreInOrder all → 0 < n → less ≡ n - 1 → ReadsPart IsPart mid new between after result
+        → StandsAhead n rest mid between all → AreInOrder all → 0 < n → less ≡ n - 1 → ReadsPart IsPart (state_of mid between) (state_of new after) result
         → MatchResult result (λ _. StandsAhead less rest new after all) IsOfReader
     one_read n less rest mid new between after all (Ok done) s sorted some is r =
         let t = next n less s.back s.later s.ahead some is in
@@ -187,13 +188,13 @@ module _ (IsPart : List ℕ → List IndexEntry → Type 0) where
         (ordered_front (between ++ t.own) t.later (subst AreInOrder (sym split) sorted))
 
     pub goes_more : (n less : ℕ) (old mid new : Option (List ℕ)) (before between after : List IndexEntry) → GoesOn IsWhole n old mid before between → 0 < n → less ≡ n - 1
-        → ReadsPart IsPart mid new between after (Ok tt) → GoesOn IsWhole less old new before after
+        → ReadsPart IsPart (state_of mid between) (state_of new after) (Ok tt) → GoesOn IsWhole less old new before after
     goes_more n less old mid new before between after g some is r = record {
       goes = λ bytes rest entries known w s. one_read n less rest mid new between after (before ++ entries) (Ok tt) (g.goes bytes rest entries known w s) s some is r;
     }
 
     pub goes_wrong : (n : ℕ) (error : IndexError) (old mid new : Option (List ℕ)) (before between after : List IndexEntry) → GoesOn IsWhole n old mid before between → 0 < n
-        → ReadsPart IsPart mid new between after (Err error) → ReadsPart IsWhole old new before after (Err error)
+        → ReadsPart IsPart (state_of mid between) (state_of new after) (Err error) → ReadsPart IsWhole (state_of old before) (state_of new after) (Err error)
     goes_wrong n error old mid new before between after g some r = record {
       reads = λ bytes rest entries known w s. one_read n (n - 1) rest mid new between after (before ++ entries) (Err error) (g.goes bytes rest entries known w s) s some refl r;
     }
@@ -203,7 +204,7 @@ module _ (IsPart : List ℕ → List IndexEntry → Type 0) where
     none_ahead (suc n) back later e a = absurd (omega arith)
 
     pub goes_end : (n : ℕ) (old new : Option (List ℕ)) (before after : List IndexEntry) → GoesOn IsWhole n old new before after → n ≡ 0
-        → ReadsPart IsWhole old new before after (Ok tt)
+        → ReadsPart IsWhole (state_of old before) (state_of new after) (Ok tt)
     goes_end n old new before after g e = record {
       reads = λ bytes rest entries known w s.
           let a = g.goes bytes rest entries known w s in
@@ -234,15 +235,15 @@ ahead_of_rows code digest_len (suc n) bytes (x ∷ xs) (e, long, own) = (
 -- the rows are read with a digest of this length
 module _ (code digest_len count len n : ℕ) (is : len ≡ digest_len) (old mid new : Option (List ℕ)) (before between after : List IndexEntry)
     (g : GoesOn (IsRow code digest_len) (AreRows code digest_len count) n old mid before between) (some : 0 < n) where
-  pub rows_go_on : ReadsPart (IsRow code len) mid new between after (Ok tt) → GoesOn (IsRow code digest_len) (AreRows code digest_len count) (n - 1) old new before after
+  pub rows_go_on : ReadsPart (IsRow code len) (state_of mid between) (state_of new after) (Ok tt) → GoesOn (IsRow code digest_len) (AreRows code digest_len count) (n - 1) old new before after
   rows_go_on r =
       goes_more (IsRow code digest_len) (AreRows code digest_len count) n (n - 1) old mid new before between after g some refl
-      (subst (λ l. ReadsPart (IsRow code l) mid new between after (Ok tt)) is r)
+      (subst (λ l. ReadsPart (IsRow code l) (state_of mid between) (state_of new after) (Ok tt)) is r)
 
-  pub rows_wrong : (error : IndexError) → ReadsPart (IsRow code len) mid new between after (Err error) → ReadsPart (AreRows code digest_len count) old new before after (Err error)
+  pub rows_wrong : (error : IndexError) → ReadsPart (IsRow code len) (state_of mid between) (state_of new after) (Err error) → ReadsPart (AreRows code digest_len count) (state_of old before) (state_of new after) (Err error)
   rows_wrong error r =
       goes_wrong (IsRow code digest_len) (AreRows code digest_len count) n error old mid new before between after g some
-      (subst (λ l. ReadsPart (IsRow code l) mid new between after (Err error)) is r)
+      (subst (λ l. ReadsPart (IsRow code l) (state_of mid between) (state_of new after) (Err error)) is r)
 
 row_known : (bytes rest : List ℕ) (e : IndexEntry) (old : Option (List ℕ)) → old ≡ Some (bytes ++ rest) → bytes ≡ row e → old ≡ Some (e.hash.digest ++ (le64 e.offset ++ rest))
 unfolding row
@@ -250,7 +251,7 @@ row_known bytes rest e old known is_row =
     known ∙ ap (λ l. Some (l ++ rest)) is_row ∙ ap Some (append_assoc e.hash.digest (le64 e.offset) rest)
 
 pub row_no_digest : (code digest_len : ℕ) (error : IndexError) (old new : Option (List ℕ)) (before after : List IndexEntry) → EndsWithin digest_len old error
-    → ReadsPart (IsRow code digest_len) old new before after (Err error)
+    → ReadsPart (IsRow code digest_len) (state_of old before) (state_of new after) (Err error)
 row_no_digest code digest_len error old new before after ends = record {
   reads = λ bytes rest entries known w s.
       let long : length w.0.hash.digest ≡ digest_len = w.3.1 in
@@ -258,7 +259,7 @@ row_no_digest code digest_len error old new before after ends = record {
 }
 
 pub row_no_offset : (code digest_len : ℕ) (error : IndexError) (digest : List ℕ) (old mid new : Option (List ℕ)) (before after : List IndexEntry) → Consumes old mid digest
-    → length digest ≡ digest_len → EndsWithin 8 mid error → ReadsPart (IsRow code digest_len) old new before after (Err error)
+    → length digest ≡ digest_len → EndsWithin 8 mid error → ReadsPart (IsRow code digest_len) (state_of old before) (state_of new after) (Err error)
 unfolding le64
 row_no_offset code digest_len error digest old mid new before after p long ends = record {
   reads = λ bytes rest entries known w s.
@@ -290,7 +291,7 @@ pub row_read : (r : Result (Unit {0}) IndexError) (code digest_len offset : ℕ)
     → Consumes old mid digest → Consumes mid new (le64 offset) → offset < 2 ^ 64 → hash ≡ record { code = code; digest = digest } → length digest ≡ digest_len
     → OnOk r (after ≡ before ++ record { hash = hash; offset = offset } ∷ [])
     → IfErr r (IsUnsorted (before ++ record { hash = hash; offset = offset } ∷ []))
-    → ReadsPart (IsRow code digest_len) old new before after r
+    → ReadsPart (IsRow code digest_len) (state_of old before) (state_of new after) r
 row_read (Ok done) code digest_len offset digest hash old mid new before after p q fits is long b f = record {
   reads = λ bytes rest entries known w s.
       let t = row_front code digest_len offset digest hash old mid new before bytes rest entries p q fits is long known w s in
@@ -334,7 +335,7 @@ bucket_front code width len old one two bytes rest entries p q low fits known b 
 
 pub bucket_read : (code width len digest_len count : ℕ) (result : Result (Unit {0}) IndexError) (old one two new : Option (List ℕ)) (before after : List IndexEntry)
     → Consumes old one (le32 width) → Consumes one two (le64 len) → width < 2 ^ 32 → len < 2 ^ 64 → width ≡ digest_len + 8 → count ≡ len / width
-    → ReadsPart (AreRows code digest_len count) two new before after result → ReadsPart (IsBucket code) old new before after result
+    → ReadsPart (AreRows code digest_len count) (state_of two before) (state_of new after) result → ReadsPart (IsBucket code) (state_of old before) (state_of new after) result
 bucket_read code width len digest_len count result old one two new before after p q low fits wide counted r = record {
   reads = λ bytes rest entries known b s.
       let f = bucket_front code width len old one two bytes rest entries p q low fits known b in
@@ -361,7 +362,7 @@ width_front code width old one bytes rest entries p low known b =
     record { digest_len = b.digest_len; wide = first.0; short = short; left = first.1 }
 
 pub bucket_no_width : (code : ℕ) (error : IndexError) (old new : Option (List ℕ)) (before after : List IndexEntry) → EndsWithin 4 old error
-    → ReadsPart (IsBucket code) old new before after (Err error)
+    → ReadsPart (IsBucket code) (state_of old before) (state_of new after) (Err error)
 unfolding le32
 bucket_no_width code error old new before after ends = record {
   reads = λ bytes rest entries known b s.
@@ -370,7 +371,7 @@ bucket_no_width code error old new before after ends = record {
 }
 
 pub bucket_no_length : (code width : ℕ) (error : IndexError) (old one new : Option (List ℕ)) (before after : List IndexEntry) → Consumes old one (le32 width) → width < 2 ^ 32
-    → EndsWithin 8 one error → ReadsPart (IsBucket code) old new before after (Err error)
+    → EndsWithin 8 one error → ReadsPart (IsBucket code) (state_of old before) (state_of new after) (Err error)
 unfolding le64
 bucket_no_length code width error old one new before after p low ends = record {
   reads = λ bytes rest entries known b s.
@@ -379,7 +380,7 @@ bucket_no_length code width error old one new before after p low ends = record {
 }
 
 pub bucket_not_narrow : (code width : ℕ) (error : IndexError) (old one new : Option (List ℕ)) (before after : List IndexEntry) → Consumes old one (le32 width) → width < 2 ^ 32
-    → width < 8 → ReadsPart (IsBucket code) old new before after (Err error)
+    → width < 8 → ReadsPart (IsBucket code) (state_of old before) (state_of new after) (Err error)
 bucket_not_narrow code width error old one new before after p low few = record {
   reads = λ bytes rest entries known b s.
       let f = width_front code width old one bytes rest entries p low known b in
@@ -387,7 +388,7 @@ bucket_not_narrow code width error old one new before after p low few = record {
 }
 
 pub bucket_not_wide : (code width : ℕ) (error : IndexError) (old one new : Option (List ℕ)) (before after : List IndexEntry) → Consumes old one (le32 width) → width < 2 ^ 32
-    → 72 < width → ReadsPart (IsBucket code) old new before after (Err error)
+    → 72 < width → ReadsPart (IsBucket code) (state_of old before) (state_of new after) (Err error)
 bucket_not_wide code width error old one new before after p low over = record {
   reads = λ bytes rest entries known b s.
       let f = width_front code width old one bytes rest entries p low known b in
@@ -397,14 +398,14 @@ bucket_not_wide code width error old one new before after p low over = record {
 
 pub bucket_not_uneven : (code width len : ℕ) (error : IndexError) (old one two new : Option (List ℕ)) (before after : List IndexEntry)
     → Consumes old one (le32 width) → Consumes one two (le64 len) → width < 2 ^ 32 → len < 2 ^ 64 → len % width ≢ 0
-    → ReadsPart (IsBucket code) old new before after (Err error)
+    → ReadsPart (IsBucket code) (state_of old before) (state_of new after) (Err error)
 bucket_not_uneven code width len error old one two new before after p q low fits uneven = record {
   reads = λ bytes rest entries known b s.
       let f = bucket_front code width len old one two bytes rest entries p q low fits known b in
       absurd (uneven (ap (λ n. n % width) f.long ∙ mul-mod_right width (length entries)));
 }
 
-pub hash_no_code : (error : IndexError) (old new : Option (List ℕ)) (before after : List IndexEntry) → EndsWithin 8 old error → ReadsPart IsHash old new before after (Err error)
+pub hash_no_code : (error : IndexError) (old new : Option (List ℕ)) (before after : List IndexEntry) → EndsWithin 8 old error → ReadsPart IsHash (state_of old before) (state_of new after) (Err error)
 unfolding le64
 hash_no_code error old new before after ends = record {
   reads = λ bytes rest entries known h s.
@@ -412,7 +413,7 @@ hash_no_code error old new before after ends = record {
 }
 
 pub hash_no_count : (code : ℕ) (error : IndexError) (old one new : Option (List ℕ)) (before after : List IndexEntry) → Consumes old one (le64 code) → code < 2 ^ 64
-    → EndsWithin 4 one error → ReadsPart IsHash old new before after (Err error)
+    → EndsWithin 4 one error → ReadsPart IsHash (state_of old before) (state_of new after) (Err error)
 unfolding le32
 hash_no_count code error old one new before after p low ends = record {
   reads = λ bytes rest entries known h s.
@@ -421,8 +422,8 @@ hash_no_count code error old one new before after p low ends = record {
 }
 
 pub hash_read : (code count : ℕ) (result : Result (Unit {0}) IndexError) (old one two new : Option (List ℕ)) (before after : List IndexEntry) → Consumes old one (le64 code)
-    → Consumes one two (le32 count) → code < 2 ^ 64 → count < 2 ^ 32 → ReadsPart (Parts (IsBucket code) count) two new before after result
-    → ReadsPart IsHash old new before after result
+    → Consumes one two (le32 count) → code < 2 ^ 64 → count < 2 ^ 32 → ReadsPart (Parts (IsBucket code) count) (state_of two before) (state_of new after) result
+    → ReadsPart IsHash (state_of old before) (state_of new after) result
 hash_read code count result old one two new before after p q low few r = record {
   reads = λ bytes rest entries known h s.
       let first = number64_taken h.code code _ old one h.in_range.0 low (two_known (le64 h.code) (le32 h.count) h.buckets rest bytes old known h.encoded) p in
@@ -460,14 +461,14 @@ index_front count old one two bytes rest entries p q few known i =
 
 module _ (count : ℕ) (old one two new : Option (List ℕ)) (before after : List IndexEntry) (p : Consumes old one format_code) (q : Consumes one two (le32 count))
     (few : count < 2 ^ 32) (empty : before ≡ []) where
-  pub index_read : ReadsPart (Parts IsHash count) two new before after (Ok tt) → (bytes rest : List ℕ) (entries : List IndexEntry) → old ≡ Some (bytes ++ rest)
+  pub index_read : ReadsPart (Parts IsHash count) (state_of two before) (state_of new after) (Ok tt) → (bytes rest : List ℕ) (entries : List IndexEntry) → old ≡ Some (bytes ++ rest)
       → IsIndex bytes entries → AreInOrder entries → after ≡ entries
   index_read r bytes rest entries known i s =
       let f = index_front count old one two bytes rest entries p q few known i in
       let here : before ++ entries ≡ entries = ap (λ l. l ++ entries) empty in
       (r.reads f.hashes rest entries f.left f.parts (subst AreInOrder (sym here) s)).1 ∙ here
 
-  pub index_wrong : (error : IndexError) → ReadsPart (Parts IsHash count) two new before after (Err error) → (bytes rest : List ℕ) (entries : List IndexEntry)
+  pub index_wrong : (error : IndexError) → ReadsPart (Parts IsHash count) (state_of two before) (state_of new after) (Err error) → (bytes rest : List ℕ) (entries : List IndexEntry)
       → old ≡ Some (bytes ++ rest) → IsIndex bytes entries → AreInOrder entries → IsOfReader error
   index_wrong error r bytes rest entries known i s =
       let f = index_front count old one two bytes rest entries p q few known i in

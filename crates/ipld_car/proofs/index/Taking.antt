@@ -12,9 +12,13 @@ use Rattle.ipld_car.specs.Index.{row, rows, format_code}
 use Rattle.ipld_car.specs.IndexLayout.{IsOf, IsBucket, Parts, none, more, IsHash}
 use Rattle.ipld_car.specs.IndexNumbers.{le32, le64}
 use Rattle.ipld_car.specs.IndexOrder.{AreSorted}
-use Rattle.ipld_car.specs.IndexReading.{AreInOrder, TakesRow, TakesRows, TakesPart, TakesIndex}
+use Rattle.ipld_car.specs.IndexReading.{IndexState, AreInOrder, TakesRow, TakesRows, TakesPart, TakesIndex}
 use Rattle.ipld_car.specs.declared.index.entry.IndexEntry.{IndexEntry}
 use Rattle.ipld_car.specs.declared.index.error.IndexError.{IndexError}
+
+-- where reading an index is, by its parts
+abbrev pub state_of : Option (List ℕ) → List IndexEntry → IndexState
+state_of left entries = record { left = left; entries = entries }
 
 -- ---- rows
 
@@ -24,7 +28,7 @@ no_entries P k d low = absurd (omega arith)
 pub row_taken : (r : Result (Unit {0}) IndexError) (code digest_len offset : ℕ) (digest : List ℕ) (hash : HashParts) (old mid new : Option (List ℕ)) (before after : List IndexEntry)
     → Consumes old mid digest → Consumes mid new (le64 offset) → hash ≡ record { code = code; digest = digest } → length digest ≡ digest_len
     → offset < 2 ^ 64 → OnOk r (after ≡ before ++ record { hash = hash; offset = offset } ∷ []) → OnOk r (AreSorted before → AreSorted after)
-    → OnOk r (TakesRow code digest_len old new before after)
+    → OnOk r (TakesRow code digest_len (state_of old before) (state_of new after))
 unfolding row
 row_taken (Err error) code digest_len offset digest hash old mid new before after p q is long fits b s = tt
 row_taken (Ok done) code digest_len offset digest hash old mid new before after p q is long fits b s = record {
@@ -40,7 +44,7 @@ row_taken (Ok done) code digest_len offset digest hash old mid new before after 
 }
 
 pub rows_none : (code digest_len count left : ℕ) (old : Option (List ℕ)) (before : List IndexEntry) → left ≡ count
-    → TakesRows code digest_len (count - left) old old before before
+    → TakesRows code digest_len (count - left) (state_of old before) (state_of old before)
 rows_none code digest_len count left old before e = record {
   entries = [];
   behind = sym (append-nil before);
@@ -55,8 +59,8 @@ rows_one front e =
     ap (λ r. rows front ++ r) (sym (append-nil (row e))) ∙ sym (flat_map-append row front (e ∷ []))
 
 pub rows_more : (code digest_len count left less : ℕ) (old mid new : Option (List ℕ)) (before between after : List IndexEntry)
-    → TakesRows code digest_len (count - left) old mid before between → left ≤ count → 0 < left → less ≡ left - 1
-    → TakesRow code digest_len mid new between after → TakesRows code digest_len (count - less) old new before after
+    → TakesRows code digest_len (count - left) (state_of old before) (state_of mid between) → left ≤ count → 0 < left → less ≡ left - 1
+    → TakesRow code digest_len (state_of mid between) (state_of new after) → TakesRows code digest_len (count - less) (state_of old before) (state_of new after)
 rows_more code digest_len count left less old mid new before between after r few some is t = record {
   entries = r.entries ++ t.entry ∷ [];
   behind = t.behind ∙ ap (λ es. es ++ t.entry ∷ []) r.behind ∙ append_assoc before r.entries (t.entry ∷ []);
@@ -67,15 +71,15 @@ rows_more code digest_len count left less old mid new before between after r few
 }
 
 pub rows_all : (code digest_len count left : ℕ) (old new : Option (List ℕ)) (before after : List IndexEntry)
-    → TakesRows code digest_len (count - left) old new before after → left ≡ 0 → TakesRows code digest_len count old new before after
+    → TakesRows code digest_len (count - left) (state_of old before) (state_of new after) → left ≡ 0 → TakesRows code digest_len count (state_of old before) (state_of new after)
 rows_all code digest_len count left old new before after r e =
-    subst (λ n. TakesRows code digest_len n old new before after) (let same : count - left ≡ count = omega arith in same) r
+    subst (λ n. TakesRows code digest_len n (state_of old before) (state_of new after)) (let same : count - left ≡ count = omega arith in same) r
 
 -- ---- parts
 
 module _ (IsPart : List ℕ → List IndexEntry → Type 0) where
   pub parts_none : (count left : ℕ) (old : Option (List ℕ)) (before : List IndexEntry) → left ≡ count
-      → TakesPart (Parts IsPart (count - left)) old old before before
+      → TakesPart (Parts IsPart (count - left)) (state_of old before) (state_of old before)
   parts_none count left old before e = record {
     bytes = [];
     entries = [];
@@ -86,8 +90,8 @@ module _ (IsPart : List ℕ → List IndexEntry → Type 0) where
   }
 
   pub parts_more : (count left less : ℕ) (old mid new : Option (List ℕ)) (before between after : List IndexEntry)
-      → TakesPart (Parts IsPart (count - left)) old mid before between → left ≤ count → 0 < left → less ≡ left - 1
-      → TakesPart IsPart mid new between after → TakesPart (Parts IsPart (count - less)) old new before after
+      → TakesPart (Parts IsPart (count - left)) (state_of old before) (state_of mid between) → left ≤ count → 0 < left → less ≡ left - 1
+      → TakesPart IsPart (state_of mid between) (state_of new after) → TakesPart (Parts IsPart (count - less)) (state_of old before) (state_of new after)
   parts_more count left less old mid new before between after p few some is t = record {
     bytes = p.bytes ++ t.bytes;
     entries = p.entries ++ t.entries;
@@ -99,9 +103,9 @@ module _ (IsPart : List ℕ → List IndexEntry → Type 0) where
   }
 
   pub parts_all : (count left : ℕ) (old new : Option (List ℕ)) (before after : List IndexEntry)
-      → TakesPart (Parts IsPart (count - left)) old new before after → left ≡ 0 → TakesPart (Parts IsPart count) old new before after
+      → TakesPart (Parts IsPart (count - left)) (state_of old before) (state_of new after) → left ≡ 0 → TakesPart (Parts IsPart count) (state_of old before) (state_of new after)
   parts_all count left old new before after p e =
-      subst (λ n. TakesPart (Parts IsPart n) old new before after) (let same : count - left ≡ count = omega arith in same) p
+      subst (λ n. TakesPart (Parts IsPart n) (state_of old before) (state_of new after)) (let same : count - left ≡ count = omega arith in same) p
 
 -- ---- the parts of an index
 
@@ -111,7 +115,7 @@ two_before old one two new a b c p q r = Consumes-trans old two new (a ++ b) c (
 
 pub bucket_taken : (code width len digest_len count : ℕ) (old one two new : Option (List ℕ)) (before after : List IndexEntry) → Consumes old one (le32 width)
     → Consumes one two (le64 len) → width ≡ digest_len + 8 → digest_len ≤ 64 → len % width ≡ 0 → count ≡ len / width → len < 2 ^ 64
-    → TakesRows code digest_len count two new before after → TakesPart (IsBucket code) old new before after
+    → TakesRows code digest_len count (state_of two before) (state_of new after) → TakesPart (IsBucket code) (state_of old before) (state_of new after)
 bucket_taken code width len digest_len count old one two new before after p q wide short even counted fits r =
     let long : len ≡ width * count = sym (div-add-mod len width) ∙ ap (λ n. width * (len / width) + n) even ∙ add-zero (width * (len / width)) ∙ ap (λ n. width * n) (sym counted) in
     let total : (digest_len + 8) * length r.entries ≡ len = ap (λ n. (digest_len + 8) * n) r.counted ∙ ap (λ n. n * count) (sym wide) ∙ sym long in record {
@@ -130,8 +134,8 @@ bucket_taken code width len digest_len count old one two new before after p q wi
     }
 
 pub hash_taken : (code count : ℕ) (old one two new : Option (List ℕ)) (before after : List IndexEntry) → Consumes old one (le64 code)
-    → Consumes one two (le32 count) → code < 2 ^ 64 → count < 2 ^ 32 → TakesPart (Parts (IsBucket code) count) two new before after
-    → TakesPart IsHash old new before after
+    → Consumes one two (le32 count) → code < 2 ^ 64 → count < 2 ^ 32 → TakesPart (Parts (IsBucket code) count) (state_of two before) (state_of new after)
+    → TakesPart IsHash (state_of old before) (state_of new after)
 hash_taken code count old one two new before after p q low few t = record {
   bytes = le64 code ++ le32 count ++ t.bytes;
   entries = t.entries;
@@ -152,7 +156,7 @@ pub ordered_none : (entries : List IndexEntry) → entries ≡ [] → AreInOrder
 ordered_none entries empty = subst AreInOrder (sym empty) (λ k d low high. absurd (omega arith), λ k d low. absurd (omega arith))
 
 pub index_taken : (count : ℕ) (old one two new : Option (List ℕ)) (before after : List IndexEntry) → Consumes old one format_code → Consumes one two (le32 count)
-    → count < 2 ^ 32 → before ≡ [] → TakesPart (Parts IsHash count) two new before after → TakesIndex old new after
+    → count < 2 ^ 32 → before ≡ [] → TakesPart (Parts IsHash count) (state_of two before) (state_of new after) → TakesIndex old new after
 index_taken count old one two new before after p q few empty t = record {
   bytes = format_code ++ le32 count ++ t.bytes;
   is_index = record {

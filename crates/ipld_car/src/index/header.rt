@@ -63,7 +63,9 @@ fn write_pragma<W: Write>(writer: &mut W) -> io::Result<()>
 
 #[tactic(auto, unfolding(crate::specs::CarHeader::characteristics))]
 fn write_characteristics<W: Write>(is_fully_indexed: bool, writer: &mut W) -> io::Result<()>
-    ensures { OnOk result (Appends (W.contents writer.old) (W.contents writer.new) (characteristics is_fully_indexed)) }
+    ensures { OnOk result
+        (Appends (W.contents writer.old) (W.contents writer.new)
+        (characteristics is_fully_indexed)) }
 {
     let mut bytes = [0; 16];
     if is_fully_indexed {
@@ -75,7 +77,8 @@ fn write_characteristics<W: Write>(is_fully_indexed: bool, writer: &mut W) -> io
 
 // Writes where the payload and the index stand.
 fn write_places<W: Write>(header: &CarHeader, writer: &mut W) -> io::Result<()>
-    ensures { OnOk result (Appends (W.contents writer.old) (W.contents writer.new) (places header.now)) }
+    ensures { OnOk result
+        (Appends (W.contents writer.old) (W.contents writer.new) (places header.now)) }
 {
     write_u64(header.payload, writer)?;
     write_u64(header.size, writer)?;
@@ -89,7 +92,8 @@ fn write_places<W: Write>(header: &CarHeader, writer: &mut W) -> io::Result<()>
 ///
 /// That of the writer. Some of the bytes, from the first on, may then have been written.
 pub fn write_header<W: Write>(header: &CarHeader, writer: &mut W) -> io::Result<()>
-    ensures { OnOk result (Appends (W.contents writer.old) (W.contents writer.new) (header_bytes header.now)) }
+    ensures { OnOk result
+        (Appends (W.contents writer.old) (W.contents writer.new) (header_bytes header.now)) }
 {
     write_pragma(writer)?;
     write_characteristics(header.is_fully_indexed, writer)?;

@@ -6,7 +6,7 @@ ghost use Rattle.ipld_car.specs.Index.{format_code};
 ghost use Rattle.ipld_car.specs.IndexLayout.{IsBucket, Parts, IsHash, IsIndex};
 ghost use Rattle.ipld_car.specs.IndexNumbers.{le32, le64};
 ghost use Rattle.ipld_car.specs.IndexOrder.{AreSorted};
-ghost use Rattle.ipld_car.specs.IndexReading.{TakesRow, TakesRows, TakesPart, TakesIndex, IsOfReader, AreInOrder, IsRow, AreRows, ReadsPart, ReadsFormat, TakesCode};
+ghost use Rattle.ipld_car.specs.IndexReading.{state, TakesRow, TakesRows, TakesPart, TakesIndex, IsOfReader, AreInOrder, IsRow, AreRows, ReadsPart, ReadsFormat, TakesCode};
 ghost use Rattle.ipld_car.specs.IndexErrors.{Blames, EndsWithin, IsUnsorted, FirstWrong, WrongRow, WrongBucket, WrongHash, WrongFormat, WrongIndex};
 
 use crate::error::CarErrorKind;
@@ -41,7 +41,8 @@ fn u64_from_le(bytes: [u8; 8]) -> u64
 
 // Fills the buffer with bytes of the reader. A reader that is interrupted without end has failed.
 fn read_exact<R: Read>(reader: &mut R, buffer: &mut [u8]) -> Result<(), IndexError>
-    ensures takes { OnOk result (Consumes (R.remaining reader.old) (R.remaining reader.new) buffer.new) }
+    ensures takes { OnOk result
+        (Consumes (R.remaining reader.old) (R.remaining reader.new) buffer.new) }
     ensures fails { IfErr result (EndsWithin (length buffer.old) (R.remaining reader.old)) }
 {
     let mut filled = 0;
@@ -63,7 +64,8 @@ fn read_exact<R: Read>(reader: &mut R, buffer: &mut [u8]) -> Result<(), IndexErr
 }
 
 fn read_u32<R: Read>(reader: &mut R) -> Result<u32, IndexError>
-    ensures takes { IfOk result (λ n. Consumes (R.remaining reader.old) (R.remaining reader.new) (le32 n)) }
+    ensures takes { IfOk result (λ n.
+        Consumes (R.remaining reader.old) (R.remaining reader.new) (le32 n)) }
     ensures fails { IfErr result (EndsWithin 4 (R.remaining reader.old)) }
 {
     let mut bytes = [0; 4];
@@ -72,7 +74,8 @@ fn read_u32<R: Read>(reader: &mut R) -> Result<u32, IndexError>
 }
 
 fn read_u64<R: Read>(reader: &mut R) -> Result<u64, IndexError>
-    ensures takes { IfOk result (λ n. Consumes (R.remaining reader.old) (R.remaining reader.new) (le64 n)) }
+    ensures takes { IfOk result (λ n.
+        Consumes (R.remaining reader.old) (R.remaining reader.new) (le64 n)) }
     ensures fails { IfErr result (EndsWithin 8 (R.remaining reader.old)) }
 {
     let mut bytes = [0; 8];
@@ -83,7 +86,8 @@ fn read_u64<R: Read>(reader: &mut R) -> Result<u64, IndexError>
 // The next byte.
 #[tactic(auto, using(crate::proofs::index::Formats::one_byte))]
 fn read_u8<R: Read>(reader: &mut R) -> Result<u8, IndexError>
-    ensures takes { IfOk result (λ byte. Consumes (R.remaining reader.old) (R.remaining reader.new) (byte ∷ [])) }
+    ensures takes { IfOk result (λ byte.
+        Consumes (R.remaining reader.old) (R.remaining reader.new) (byte ∷ [])) }
     ensures fails { IfErr result (EndsWithin 1 (R.remaining reader.old)) }
 {
     let mut bytes = [0; 1];
@@ -118,7 +122,8 @@ fn read_code<R: Read>(reader: &mut R) -> Result<u64, IndexError>
 // The code of the format, which has to be that of MultihashIndexSorted.
 #[tactic(auto, using(crate::proofs::index::Formats::format_taken, crate::proofs::index::Formats::format_other, crate::proofs::index::Formats::format_only))]
 fn read_format<R: Read>(reader: &mut R) -> Result<(), IndexError>
-    ensures takes { OnOk result (Consumes (R.remaining reader.old) (R.remaining reader.new) format_code) }
+    ensures takes { OnOk result
+        (Consumes (R.remaining reader.old) (R.remaining reader.new) format_code) }
     ensures only { ReadsFormat (R.remaining reader.old) result }
     ensures wrong { IfErr result (Blames WrongFormat (R.remaining reader.old)) }
 {
@@ -153,9 +158,14 @@ fn read_row<R: Read>(
     entries: &mut Vec<IndexEntry>,
 ) -> Result<(), IndexError>
     requires { length digest.old ≤ 64 }
-    ensures takes { OnOk result (TakesRow code (length digest.old) (R.remaining reader.old) (R.remaining reader.new) entries.old.items entries.new.items) }
-    ensures only { ReadsPart (IsRow code (length digest.old)) (R.remaining reader.old) (R.remaining reader.new) entries.old.items entries.new.items result }
-    ensures wrong { IfErr result (Blames (WrongRow code (length digest.old) entries.old.items) (R.remaining reader.old)) }
+    ensures takes { OnOk result (TakesRow code (length digest.old)
+        (state R.remaining reader.old entries.old.items)
+        (state R.remaining reader.new entries.new.items)) }
+    ensures only { ReadsPart (IsRow code (length digest.old))
+        (state R.remaining reader.old entries.old.items)
+        (state R.remaining reader.new entries.new.items) result }
+    ensures wrong { IfErr result
+        (Blames (WrongRow code (length digest.old) entries.old.items) (R.remaining reader.old)) }
 {
     read_exact(reader, digest)?;
     let offset = read_u64(reader)?;
@@ -175,9 +185,17 @@ fn read_rows<R: Read>(
     entries: &mut Vec<IndexEntry>,
 ) -> Result<(), IndexError>
     requires { digest_len ≤ 64 }
-    ensures takes { OnOk result (TakesRows code digest_len count (R.remaining reader.old) (R.remaining reader.new) entries.old.items entries.new.items) }
-    ensures only { ReadsPart (AreRows code digest_len count) (R.remaining reader.old) (R.remaining reader.new) entries.old.items entries.new.items result }
-    ensures wrong { IfErr result (λ error. AreInOrder entries.old.items → Blames (FirstWrong (AreRows code digest_len) (WrongRow code digest_len) count entries.old.items) (R.remaining reader.old) error) }
+    ensures takes { OnOk result (TakesRows code digest_len count
+        (state R.remaining reader.old entries.old.items)
+        (state R.remaining reader.new entries.new.items)) }
+    ensures only { ReadsPart (AreRows code digest_len count)
+        (state R.remaining reader.old entries.old.items)
+        (state R.remaining reader.new entries.new.items) result }
+    ensures wrong { IfErr result (λ error. AreInOrder entries.old.items
+        → Blames
+        (FirstWrong (AreRows code digest_len) (WrongRow code digest_len) count
+        entries.old.items)
+        (R.remaining reader.old) error) }
 {
     let mut digest = [0; 64];
     let mut left = count;
@@ -195,9 +213,14 @@ fn read_bucket<R: Read>(
     code: u64,
     entries: &mut Vec<IndexEntry>,
 ) -> Result<(), IndexError>
-    ensures takes { OnOk result (TakesPart (IsBucket code) (R.remaining reader.old) (R.remaining reader.new) entries.old.items entries.new.items) }
-    ensures only { ReadsPart (IsBucket code) (R.remaining reader.old) (R.remaining reader.new) entries.old.items entries.new.items result }
-    ensures wrong { IfErr result (λ error. AreInOrder entries.old.items → Blames (WrongBucket code entries.old.items) (R.remaining reader.old) error) }
+    ensures takes { OnOk result (TakesPart (IsBucket code)
+        (state R.remaining reader.old entries.old.items)
+        (state R.remaining reader.new entries.new.items)) }
+    ensures only { ReadsPart (IsBucket code)
+        (state R.remaining reader.old entries.old.items)
+        (state R.remaining reader.new entries.new.items) result }
+    ensures wrong { IfErr result (λ error. AreInOrder entries.old.items
+        → Blames (WrongBucket code entries.old.items) (R.remaining reader.old) error) }
 {
     let width = read_u32(reader)?;
     let Some(digest_len) = width.checked_sub(OFFSET_LEN) else {
@@ -222,9 +245,16 @@ fn read_buckets<R: Read>(
     count: u32,
     entries: &mut Vec<IndexEntry>,
 ) -> Result<(), IndexError>
-    ensures takes { OnOk result (TakesPart (Parts (IsBucket code) count) (R.remaining reader.old) (R.remaining reader.new) entries.old.items entries.new.items) }
-    ensures only { ReadsPart (Parts (IsBucket code) count) (R.remaining reader.old) (R.remaining reader.new) entries.old.items entries.new.items result }
-    ensures wrong { IfErr result (λ error. AreInOrder entries.old.items → Blames (FirstWrong (Parts (IsBucket code)) (WrongBucket code) count entries.old.items) (R.remaining reader.old) error) }
+    ensures takes { OnOk result (TakesPart (Parts (IsBucket code) count)
+        (state R.remaining reader.old entries.old.items)
+        (state R.remaining reader.new entries.new.items)) }
+    ensures only { ReadsPart (Parts (IsBucket code) count)
+        (state R.remaining reader.old entries.old.items)
+        (state R.remaining reader.new entries.new.items) result }
+    ensures wrong { IfErr result (λ error. AreInOrder entries.old.items
+        → Blames
+        (FirstWrong (Parts (IsBucket code)) (WrongBucket code) count entries.old.items)
+        (R.remaining reader.old) error) }
 {
     let mut left = count;
     while left > 0 {
@@ -237,9 +267,14 @@ fn read_buckets<R: Read>(
 // Reads the rows of a hash function, behind its code and how many lengths of digests there are.
 #[tactic(auto, using(crate::proofs::index::Taking::hash_taken, crate::proofs::index::Only::hash_read, crate::proofs::index::Only::hash_no_code, crate::proofs::index::Only::hash_no_count, crate::proofs::index::Blaming::code_cut, crate::proofs::index::Blaming::count_cut, crate::proofs::index::Blaming::hash_blames))]
 fn read_hash<R: Read>(reader: &mut R, entries: &mut Vec<IndexEntry>) -> Result<(), IndexError>
-    ensures takes { OnOk result (TakesPart IsHash (R.remaining reader.old) (R.remaining reader.new) entries.old.items entries.new.items) }
-    ensures only { ReadsPart IsHash (R.remaining reader.old) (R.remaining reader.new) entries.old.items entries.new.items result }
-    ensures wrong { IfErr result (λ error. AreInOrder entries.old.items → Blames (WrongHash entries.old.items) (R.remaining reader.old) error) }
+    ensures takes { OnOk result (TakesPart IsHash
+        (state R.remaining reader.old entries.old.items)
+        (state R.remaining reader.new entries.new.items)) }
+    ensures only { ReadsPart IsHash
+        (state R.remaining reader.old entries.old.items)
+        (state R.remaining reader.new entries.new.items) result }
+    ensures wrong { IfErr result (λ error. AreInOrder entries.old.items
+        → Blames (WrongHash entries.old.items) (R.remaining reader.old) error) }
 {
     let code = read_u64(reader)?;
     let count = read_u32(reader)?;
@@ -253,9 +288,16 @@ fn read_hashes<R: Read>(
     count: u32,
     entries: &mut Vec<IndexEntry>,
 ) -> Result<(), IndexError>
-    ensures takes { OnOk result (TakesPart (Parts IsHash count) (R.remaining reader.old) (R.remaining reader.new) entries.old.items entries.new.items) }
-    ensures only { ReadsPart (Parts IsHash count) (R.remaining reader.old) (R.remaining reader.new) entries.old.items entries.new.items result }
-    ensures wrong { IfErr result (λ error. AreInOrder entries.old.items → Blames (FirstWrong (Parts IsHash) WrongHash count entries.old.items) (R.remaining reader.old) error) }
+    ensures takes { OnOk result (TakesPart (Parts IsHash count)
+        (state R.remaining reader.old entries.old.items)
+        (state R.remaining reader.new entries.new.items)) }
+    ensures only { ReadsPart (Parts IsHash count)
+        (state R.remaining reader.old entries.old.items)
+        (state R.remaining reader.new entries.new.items) result }
+    ensures wrong { IfErr result (λ error. AreInOrder entries.old.items
+        → Blames
+        (FirstWrong (Parts IsHash) WrongHash count entries.old.items)
+        (R.remaining reader.old) error) }
 {
     let mut left = count;
     while left > 0 {
@@ -276,8 +318,12 @@ fn read_hashes<R: Read>(
 /// not said.
 #[tactic(auto, using(crate::proofs::index::Taking::index_taken, crate::proofs::index::Only::index_no_format, crate::proofs::index::Only::index_no_count, crate::proofs::index::Blaming::index_format, crate::proofs::index::Blaming::hashes_cut, crate::proofs::index::Blaming::index_blames))]
 pub fn read_index<R: Read>(alloc: Global, reader: &mut R) -> Result<Vec<IndexEntry>, IndexError>
-    ensures takes { IfOk result (λ entries. TakesIndex (R.remaining reader.old) (R.remaining reader.new) entries.items) }
-    ensures only { (bytes rest : List ℕ) (entries : List IndexEntry) → R.remaining reader.old ≡ Some (bytes ++ rest) → IsIndex bytes entries → AreInOrder entries
+    ensures takes { IfOk result (λ entries.
+        TakesIndex (R.remaining reader.old) (R.remaining reader.new) entries.items) }
+    ensures only { (bytes rest : List ℕ) (entries : List IndexEntry)
+        → R.remaining reader.old ≡ Some (bytes ++ rest)
+        → IsIndex bytes entries
+        → AreInOrder entries
         → MatchResult result (λ read. read.items ≡ entries) IsOfReader }
     ensures wrong { IfErr result (Blames WrongIndex (R.remaining reader.old)) }
 {

@@ -24,7 +24,8 @@ fn write_format<W: Write>(writer: &mut W) -> io::Result<()>
 // A digest and an offset.
 #[tactic(auto, unfolding(crate::specs::Index::row))]
 fn write_row<W: Write>(entry: &IndexEntry, writer: &mut W) -> io::Result<()>
-    ensures { OnOk result (Appends (W.contents writer.old) (W.contents writer.new) (row entry.now)) }
+    ensures { OnOk result
+        (Appends (W.contents writer.old) (W.contents writer.new) (row entry.now)) }
 {
     writer.write_all(entry.hash.digest())?;
     write_u64(entry.offset, writer)?;
@@ -32,7 +33,8 @@ fn write_row<W: Write>(entry: &IndexEntry, writer: &mut W) -> io::Result<()>
 }
 
 fn write_rows<W: Write>(entries: &[IndexEntry], writer: &mut W) -> io::Result<()>
-    ensures { OnOk result (Appends (W.contents writer.old) (W.contents writer.new) (rows entries.now)) }
+    ensures { OnOk result
+        (Appends (W.contents writer.old) (W.contents writer.new) (rows entries.now)) }
 {
     for entry in entries {
         write_row(entry, writer)?;
@@ -53,7 +55,8 @@ fn write_count<W: Write>(count: usize, writer: &mut W) -> io::Result<()>
 // The rows of one length, behind that length and how many bytes they have.
 #[tactic(auto, unfolding(crate::specs::Index::bucket_bytes))]
 fn write_bucket<W: Write>(bucket: &Bucket, writer: &mut W) -> io::Result<()>
-    ensures { OnOk result (Appends (W.contents writer.old) (W.contents writer.new) (bucket_bytes bucket.now)) }
+    ensures { OnOk result
+        (Appends (W.contents writer.old) (W.contents writer.new) (bucket_bytes bucket.now)) }
 {
     let width = u32::from(bucket.digest_len) + 8;
     // No memory holds so many rows that this isn't a number of 64 bits.
@@ -67,7 +70,8 @@ fn write_bucket<W: Write>(bucket: &Bucket, writer: &mut W) -> io::Result<()>
 }
 
 fn write_buckets<W: Write>(buckets: &[Bucket], writer: &mut W) -> io::Result<()>
-    ensures { OnOk result (Appends (W.contents writer.old) (W.contents writer.new) (buckets_bytes buckets.now)) }
+    ensures { OnOk result
+        (Appends (W.contents writer.old) (W.contents writer.new) (buckets_bytes buckets.now)) }
 {
     for bucket in buckets {
         write_bucket(bucket, writer)?;
@@ -78,7 +82,8 @@ fn write_buckets<W: Write>(buckets: &[Bucket], writer: &mut W) -> io::Result<()>
 // The buckets of a hash function, behind its code and how many they are.
 #[tactic(auto, unfolding(crate::specs::Index::hash_bytes))]
 fn write_hash<W: Write>(hash: &HashBuckets, writer: &mut W) -> io::Result<()>
-    ensures { OnOk result (Appends (W.contents writer.old) (W.contents writer.new) (hash_bytes hash.now)) }
+    ensures { OnOk result
+        (Appends (W.contents writer.old) (W.contents writer.new) (hash_bytes hash.now)) }
 {
     write_u64(hash.code, writer)?;
     write_count(hash.buckets.len(), writer)?;
@@ -87,7 +92,8 @@ fn write_hash<W: Write>(hash: &HashBuckets, writer: &mut W) -> io::Result<()>
 }
 
 fn write_hashes<W: Write>(hashes: &[HashBuckets], writer: &mut W) -> io::Result<()>
-    ensures { OnOk result (Appends (W.contents writer.old) (W.contents writer.new) (hashes_bytes hashes.now)) }
+    ensures { OnOk result
+        (Appends (W.contents writer.old) (W.contents writer.new) (hashes_bytes hashes.now)) }
 {
     for hash in hashes {
         write_hash(hash, writer)?;
@@ -103,7 +109,8 @@ impl CarIndex {
     ///
     /// That of the writer. Some of the bytes, from the first on, may then have been written.
     pub fn write_to<W: Write>(&self, writer: &mut W) -> io::Result<()>
-        ensures { OnOk result (Appends (W.contents writer.old) (W.contents writer.new) (index_bytes self.now)) }
+        ensures { OnOk result
+            (Appends (W.contents writer.old) (W.contents writer.new) (index_bytes self.now)) }
     {
         write_format(writer)?;
         write_count(self.hashes.len(), writer)?;

@@ -1,4 +1,4 @@
-use Rattle.std.proofs.Common.{map, sym, ◌∙◌}
+use Rattle.std.proofs.Common.{map, refl, sym, ◌∙◌}
 use Rattle.ipld_cid.specs.LinkOf.{link_of}
 use Rattle.car_files.proofs.Taking.{names_all, faults_all, names_more, names_some, map_last, no_cids}
 use Rattle.car_files.proofs.adding.add_links.Goals as goal
@@ -26,4 +26,4 @@ loop-preserved c =
 
 pub returns-clause-some : goal.returns-clause-some
 returns-clause-some c =
-    names_some (map link_of c.args.links.items) (map link_of c.loop.pending.items) c.args.index.now c.loop.index c.loop.index c.loop.faults.items c.loop.invariant (λ blocks named knows. knows)
+    names_some (map link_of c.args.links.items) (map link_of c.loop.pending.items) c.args.index.now c.loop.index c.loop.index c.loop.faults.items c.loop.invariant refl

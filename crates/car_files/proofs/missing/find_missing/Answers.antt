@@ -9,5 +9,5 @@ returns-in-Err-clause-fault g c =
 pub returns-in-Ok-missing-clause-found : goal.returns-in-Ok-missing-clause-found
 returns-in-Ok-missing-clause-found g c =
     finds_all _ _ _ _ c.args.label.now (g.E.Write.contents c.args.errors.now) (g.E.Write.contents c.add_car.new.errors) c.new-index.result c.add_car.new.index
-    c.in-Ok.seen.blocks c.in-Ok.seen.unknown c.in-Ok.seen.invalid c.in-Ok-missing.missing.items c.new-index.ensures c.in-Ok.ensures.added
+    c.in-Ok.seen c.in-Ok-missing.missing c.new-index.ensures c.in-Ok.ensures.added
     c.in-Ok-missing.ensures.once c.in-Ok-missing.ensures.exactly

@@ -1,7 +1,8 @@
-use Rattle.std.proofs.Common.{◌≡◌, ◌++◌}
-use Rattle.car_files.proofs.Indexing.{waiting}
+use Rattle.std.proofs.Common.{◌≡◌, ◌++◌, map}
+use Rattle.ipld_cid.specs.LinkOf.{link_of}
+use Rattle.car_files.specs.Index.{missing_in}
 use Rattle.car_files.proofs.index.MissingBlocks.missing.Given as goal
 
--- the CIDs so far whose block hasn't come, and those that follow
+-- the links so far whose block hasn't come, and those that follow
 abbrev pub invariant-loop-cid : goal.invariant-loop-cid
-invariant-loop-cid l = l.cids.items ++ waiting l.cid-iterator ≡ waiting l.self.came.entries
+invariant-loop-cid l = map link_of l.cids.items ++ missing_in l.cid-iterator ≡ l.self.missing

@@ -1,5 +1,5 @@
 use Rattle.std.proofs.Common.{◌≡◌, take}
-use Rattle.ipld_car.specs.IndexGrouping.{entries_in, AreGrouped}
+use Rattle.ipld_car.specs.IndexGrouping.{entries_in, AreGrouped, IsSplit}
 use Rattle.ipld_car.proofs.index.CarIndex.new.Given as goal
 
 -- the entries so far are in the index
@@ -8,4 +8,5 @@ invariant-loop-entry l =
     record {
       behind : entries_in l.index ≡ take l.entry-index l.entry-items;
       grouped : AreGrouped l.index;
+      split : IsSplit l.index;
     }
