@@ -1,4 +1,5 @@
 mod LinkTexts
+mod Lengths
 mod Integers
 mod Joining
 mod ReservedMaps
@@ -12,3 +13,4 @@ mod ParsedFloats
 mod Unreserved
 mod Differing
 pub mod RoundTrip
+pub mod BlockErrors
