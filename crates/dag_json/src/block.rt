@@ -34,11 +34,7 @@ pub(crate) fn decode_block(alloc: Global, bytes: &[u8], floats: bool) -> Result<
 }
 
 // The links of a block, where floats are read or none.
-pub(crate) fn find_links(
-    alloc: Global,
-    bytes: &[u8],
-    floats: bool,
-) -> Result<Vec<Cid>, ReadError>
+pub(crate) fn find_links(alloc: Global, bytes: &[u8], floats: bool) -> Result<Vec<Cid>, ReadError>
     ensures ok { IfOk result (λ links. links_in floats bytes.now ≡ Some (map link_of links.items)) }
     ensures err { IfErr result (λ error. (error.kind ≡ ReadErrorKind.Memory) ⊎ IsBlockError floats bytes.now error) }
 {

@@ -12,7 +12,7 @@ use Rattle.dag_cbor_blocks.specs.declared.block_error.BlockErrorKind.TheVariants
 use Rattle.dag_cbor_format.specs.declared.error.CborError.{CborError}
 use Rattle.dag_cbor_format.specs.declared.error.CborError.TheVariants.{Memory as CborMemory}
 use Rattle.dag_cbor_format.specs.Trace.{error_in, error_offset}
-use Rattle.dag_json.specs.Codec.{decoded_in, links_in, IsBlockError}
+use Rattle.dag_json.specs.Codec.{decoded_in, IsBlockError}
 use Rattle.dag_json.specs.Encodes.{EncodesTreeIn}
 use Rattle.dag_json.specs.Lemmas.CodecLaws.{decoded_encodes}
 use Rattle.dag_json.specs.declared.read_error.ReadError.{ReadError}

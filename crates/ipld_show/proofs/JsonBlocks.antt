@@ -1,5 +1,5 @@
 -- Blocks of DAG-JSON as blocks of DAG-CBOR.
-use Rattle.std.proofs.Common.{◌≡◌, ◌⊎◌, inl, inr, ℕ, true, List, Result, Err, sym, subst}
+use Rattle.std.proofs.Common.{◌≡◌, inl, inr, ℕ, true, List, Err, sym, subst}
 use Rattle.ipld_tree.specs.declared.limits.Limits.{Limits}
 use Rattle.dag_json.specs.Codec.{limits_of, IsBlockError}
 use Rattle.dag_json.specs.Offset.{SaysWhere}

@@ -1,28 +1,16 @@
 -- Blocks that are read, and written.
-use Rattle.std.proofs.Common.{◌≡◌, ◌≤◌, ◌<◌, ◌⊎◌, ◌++◌, inl, inr, ℕ, suc, Bool, true, false, List, [], length, map, Option, Some, None, IfSome, MatchOption, option_and_then, Result, Ok, Err, IfOk, IfErr, refl, sym, ap, subst, ◌∙◌, arith}
+use Rattle.std.proofs.Common.{◌≡◌, ◌⊎◌, inl, inr, ℕ, false, List, Option, Some, None, IfSome, MatchOption, option_and_then, Result, Ok, Err, IfOk, IfErr, refl, sym, ap, subst, ◌∙◌}
 use Rattle.std.specs.Prelude.{if◌then◌else◌}
 use Rattle.std.specs.Str.{IsUtf8}
-use Rattle.std.proofs.lemmas.List.{append-nil}
-use Rattle.ipld_cid.specs.Cid.{Link}
-use Rattle.ipld_cid.specs.LinkOf.{link_of}
-use Rattle.ipld_cid.specs.declared.cid.CidGeneric.{CidGeneric}
 use Rattle.ipld_codec.specs.Codec.{Failure, memory, MemoryOr, reading}
-use Rattle.ipld_tree.specs.Appended.{Appends}
 use Rattle.ipld_tree.specs.IsTree.{IsTree}
 use Rattle.ipld_tree.specs.IsWhole.{IsWhole}
 use Rattle.ipld_tree.specs.Lemmas.EqualLaws.{tree_decides}
 use Rattle.ipld_tree.specs.Tree.{Tree}
 use Rattle.ipld_tree.specs.TreeOf.{tree_of}
 use Rattle.ipld_tree.specs.declared.ipld.Ipld.{Ipld}
-use Rattle.ipld_tree.specs.declared.limits.Limits.{Limits}
-use Rattle.json.specs.Json as json
-use Rattle.json.specs.Tree.{json_tokens}
-use Rattle.dag_json.specs.Encodes.{EncodesTree, EncodesWithin, count}
-use Rattle.dag_json.specs.Offset.{SaysWhere}
-use Rattle.dag_json.specs.ReadContract.{ReadsBytes}
 use Rattle.dag_json.specs.Written.{written}
 use Rattle.dag_json.specs.declared.read_error.ReadError.{ReadError}
-use Rattle.dag_json.specs.declared.read_error.ReadErrorKind.{ReadErrorKind}
 use Rattle.dag_json.specs.declared.read_error.ReadErrorKind.TheVariants as error
 use Rattle.dag_json.proofs.RoundTrip.{written_encodes}
 use Rattle.dag_json.specs.Codec.{decoded, links_found, is_decoded, if_decoded, codec_text, codec_failure, IsBlockError, IsTextError, IsTextErrorOf}
@@ -35,7 +23,7 @@ use Rattle.dag_json.proofs.BlockErrors.{none_decoded, no_links_found}
 pub not_read : (s : List ℕ) (e : ReadError) (f : DagJsonCodecError) → (e.kind ≡ error.Memory) ⊎ IsBlockError false s e
     → ((e.kind ≡ error.Memory) × (f ≡ Memory)) ⊎ ((e.kind ≡ error.Memory → ⊥) × (f ≡ Text e)) → (f ≡ Memory) ⊎ ((codec_failure f ≡ None) × (decoded s ≡ None))
 not_read s e f h (inl gone) = inl gone.1
-not_read s e f (inl memory) (inr other) = absurd (other.0 memory)
+not_read s e f (inl none) (inr other) = absurd (other.0 none)
 not_read s e f (inr h) (inr other) = inr (ap codec_failure other.1, none_decoded false s e h)
 
 -- ---- a block is written
@@ -81,7 +69,7 @@ reader_rejected (Err f) o block known h =
 pub text_error : (s : List ℕ) (e : ReadError) (f : DagJsonCodecError) → (e.kind ≡ error.Memory) ⊎ IsBlockError false s e
     → ((e.kind ≡ error.Memory) × (f ≡ Memory)) ⊎ ((e.kind ≡ error.Memory → ⊥) × (f ≡ Text e)) → (f ≡ Memory) ⊎ IsTextError s f
 text_error s e f h (inl gone) = inl gone.1
-text_error s e f (inl memory) (inr other) = absurd (other.0 memory)
+text_error s e f (inl none) (inr other) = absurd (other.0 none)
 text_error s e f (inr h) (inr other) = inr (subst (IsTextError s) (sym other.1) h)
 
 -- why a block has no links

@@ -16,7 +16,7 @@ use Rattle.ipld_tree.specs.Walk.{links_of}
 use Rattle.json.specs.Json as json
 use Rattle.json.specs.Lex.{tokens}
 use Rattle.json.specs.Tree.{json_tokens, items_tokens, members_tokens, depth, items_depth, members_depth}
-use Rattle.dag_json.specs.Encodes.{EncodesTree, EncodesTreeIn, EncodesWithinIn, count, items_count, members_count, JsonWithin}
+use Rattle.dag_json.specs.Encodes.{EncodesTree, EncodesTreeIn, EncodesWithinIn, count, items_count, members_count}
 use Rattle.dag_json.specs.ReadMachine.{read_tokens, run, start}
 use Rattle.dag_json.specs.Written.{written}
 use Rattle.dag_json.specs.declared.read_error.ReadErrorKind.{ReadErrorKind}
