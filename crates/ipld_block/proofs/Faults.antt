@@ -22,7 +22,7 @@ use Rattle.dag_pb.specs.declared.error.PbErrorKind.TheVariants as kinds
 use Rattle.dag_pb.specs.NodeReading.{links_found}
 use Rattle.dag_pb.specs.Views.{IsOutOfMemory}
 use Rattle.ipld_block.specs.declared.codec.BlockCodec.{BlockCodec}
-use Rattle.ipld_block.specs.declared.codec.BlockCodec.TheVariants.{DagCbor, DagPb, DagJson}
+use Rattle.ipld_block.specs.declared.codec.BlockCodec.TheVariants.{DagCbor, DagPb, DagJson, Raw}
 use Rattle.ipld_block.specs.declared.error.CheckError.{CheckError}
 use Rattle.ipld_block.specs.declared.error.CheckError.TheVariants.{Memory, Invalid}
 use Rattle.ipld_block.specs.declared.error.InvalidBlock.{InvalidBlock}

@@ -1,18 +1,16 @@
 -- What the errors print.
-use Rattle.std.specs.Prelude.{ℕ, List, ◌++◌, codes, Some, None}
-use Rattle.std.specs.Fmt.{decimal}
-use Rattle.dag_json.specs.Errors.{float_sentence}
+use Rattle.std.specs.Prelude.{ℕ, List, codes, Some, None}
 use Rattle.std.specs.declared.option.Option.{Option}
 use Rattle.ipld_block.specs.declared.error.InvalidBlock.{InvalidBlock}
 use Rattle.ipld_block.specs.declared.error.InvalidBlock.TheVariants.{Cbor, Pb, Json, NotCanonical}
 use Rattle.ipld_block.specs.declared.error.CheckError.{CheckError}
 use Rattle.ipld_block.specs.declared.error.CheckError.TheVariants.{Memory, Invalid}
 
--- what is wrong with a block, in a sentence; of an error of DAG-CBOR or DAG-PB it isn't said
+-- what is wrong with a block, in a sentence; of an error of a codec it isn't said
 abbrev pub sentence_of : InvalidBlock → Option (List ℕ)
 sentence_of (Cbor error) = None
 sentence_of (Pb error) = None
-sentence_of (Json error) = Some (codes "no block of DAG-JSON: " ++ (float_sentence error.kind ++ (codes " at byte " ++ decimal error.offset)))
+sentence_of (Json error) = None
 sentence_of NotCanonical = Some (codes "a block, but not in canonical form: the keys of a map are not sorted length first")
 
 -- why nothing is known of a block

@@ -1,9 +1,17 @@
 -- Blocks of DAG-JSON as blocks of DAG-CBOR.
-use Rattle.std.proofs.Common.{◌≡◌, inl, inr, ℕ, true, List, Err, sym, subst}
+use Rattle.std.proofs.Common.{◌≡◌, inl, inr, ℕ, true, List, None, Err, sym, subst}
+use Rattle.ipld_tokens.specs.Item.{Item}
+use Rattle.ipld_tree.specs.Tree.{Tree}
 use Rattle.ipld_tree.specs.declared.limits.Limits.{Limits}
+use Rattle.dag_cbor_blocks.specs.declared.tape.TapeEntry.{TapeEntry}
+use Rattle.dag_cbor_format.specs.Trace.{error_in}
+use Rattle.dag_cbor_tape.specs.Canonical.{Orders}
+use Rattle.dag_cbor_tape.specs.Describes.{Describes}
 use Rattle.dag_json.specs.Codec.{limits_of, IsBlockError}
+use Rattle.dag_json.specs.Encodes.{EncodesWithinIn}
 use Rattle.dag_json.specs.Offset.{SaysWhere}
 use Rattle.dag_json.specs.ReadContract.{ReadsBytes}
+use Rattle.dag_json.specs.Tape.{IsTape}
 use Rattle.dag_json.specs.TapeReading.{ReadsTape}
 use Rattle.dag_json.specs.declared.read_error.ReadError.{ReadError}
 use Rattle.dag_json.specs.declared.read_error.ReadErrorKind.TheVariants as json
@@ -11,7 +19,7 @@ use Rattle.ipld_block.specs.Blocks.{IsInvalid, MadeOfJson}
 use Rattle.ipld_block.specs.declared.codec.BlockCodec.TheVariants.{DagJson}
 use Rattle.ipld_block.specs.declared.error.CheckError.{CheckError}
 use Rattle.ipld_block.specs.declared.error.CheckError.TheVariants.{Memory, Invalid}
-use Rattle.ipld_show.specs.Blocks.{IsNoBlock, IsShown}
+use Rattle.ipld_show.specs.Blocks.{StandsForJson, IsNoBlock, IsShown}
 use Rattle.ipld_show.specs.declared.error.ShowError.{ShowError}
 
 -- what isn't read as a tape isn't read as a tree
@@ -29,3 +37,19 @@ pub no_json : (limits : Limits) (s : List ℕ) (e : ReadError) (checked : CheckE
 no_json limits s e Memory made are exact stopped m is = subst (IsNoBlock DagJson s) (sym is) tt
 no_json limits s e (Invalid why) made are exact stopped m is =
     subst (IsNoBlock DagJson s) (sym is) (subst (IsInvalid DagJson s) (sym m.0) (block_error limits s e are m.1 exact stopped))
+
+-- the block of the tape of a text stands for it
+pub stands : (limits : Limits) (s over block : List ℕ) (es : List TapeEntry) → (t : Tree) × EncodesWithinIn true limits t s × IsTape over t es
+    → (item : Item 64) × (written : List ℕ) × Describes over item es written × Orders item written block → error_in true block ≡ None → StandsForJson s block
+stands limits s over block es read made none = record {
+  tree = read.0;
+  encodes = read.1.tree;
+  contents = over;
+  entries = es;
+  tape = read.2;
+  item = made.0;
+  in_turn = made.1;
+  describes = made.2;
+  orders = made.3;
+  is_block = none;
+}

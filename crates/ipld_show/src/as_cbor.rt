@@ -116,6 +116,7 @@ pub(crate) fn node_as_cbor(alloc: Global, bytes: &[u8]) -> Result<Vec<u8>, ShowE
 }
 
 // The tree of a block of DAG-JSON, which may have floats, as a canonical block.
+#[tactic(auto, using(crate::proofs::JsonBlocks::stands))]
 pub(crate) fn json_as_cbor(alloc: Global, bytes: &[u8]) -> Result<Vec<u8>, ShowError>
     ensures made { IfOk result (λ block. StandsForJson bytes.now block.items) }
     ensures rejected { IfErr result (IsNoBlock BlockCodec.DagJson bytes.now) }
@@ -124,11 +125,15 @@ pub(crate) fn json_as_cbor(alloc: Global, bytes: &[u8]) -> Result<Vec<u8>, ShowE
         Ok(tape) => tape,
         Err(error) => return Err(ShowError::from(CheckError::from(error))),
     };
-    match encode_tape(alloc, &tape.entries, &tape.contents) {
-        // For the proof alone: what is written of a tape is a block.
-        Ok(block) if check(alloc, BlockCodec::DagCbor, &block).is_ok() => Ok(block),
+    let block = match encode_tape(alloc, &tape.entries, &tape.contents) {
+        Ok(block) => block,
         // No entry of the tape of a text is at fault, so an allocation failed.
-        _ => Err(ShowError::Memory),
+        Err(_) => return Err(ShowError::Memory),
+    };
+    // For the proof alone: what is written of a tape is a block.
+    match check(alloc, BlockCodec::DagCbor, &block) {
+        Ok(()) => Ok(block),
+        Err(_) => Err(ShowError::Memory),
     }
 }
 
