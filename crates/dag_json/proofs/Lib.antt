@@ -1,5 +1,4 @@
 mod LinkTexts
-mod Lengths
 mod Integers
 mod Joining
 mod ReservedMaps
@@ -12,5 +11,6 @@ pub mod Stopping
 mod ParsedFloats
 mod Unreserved
 mod Differing
+mod Lengths
 pub mod RoundTrip
 pub mod BlockErrors
