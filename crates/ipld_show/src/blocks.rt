@@ -8,8 +8,8 @@ ghost use Rattle.ipld_show.specs.JsonText.{IsJson, IsJsonError};
 ghost use Rattle.ipld_show.specs.OnPath.{IsLinkOnPath};
 
 use crate::as_cbor::{bytes_as_cbor, json_as_cbor, node_as_cbor};
-use crate::dag_json::write_json;
 use crate::error::ShowError;
+use crate::json_text::write_json;
 use crate::path::{LinkOnPath, link_before_end, value_at};
 use crate::tree_text::write_tree;
 use ipld_block::{BlockCodec, check};

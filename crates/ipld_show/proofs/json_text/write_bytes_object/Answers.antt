@@ -3,7 +3,7 @@ use Rattle.std.proofs.KnownBytes.{Appends-trans}
 use Rattle.std.specs.Io.KnownBytes.{Appends}
 use Rattle.base64.specs.GeneralPurpose.{encode_of}
 use Rattle.base64.specs.Engines.{standard_no_pad}
-use Rattle.ipld_show.proofs.dag_json.write_bytes_object.Goals as goal
+use Rattle.ipld_show.proofs.json_text.write_bytes_object.Goals as goal
 
 pub returns : goal.returns
 returns g c =

@@ -4,7 +4,7 @@ use Rattle.dag_cbor_format.specs.declared.item.ItemHead.TheVariants as begin
 use Rattle.ipld_show.proofs.Items.{head_is, no_error}
 use Rattle.ipld_show.proofs.Jsons.{scalar_written, output_error}
 use Rattle.ipld_show.proofs.Trees.{has_cid}
-use Rattle.ipld_show.proofs.dag_json.write_value.Goals as goal
+use Rattle.ipld_show.proofs.json_text.write_value.Goals as goal
 
 pub returns-in_default : goal.returns-in_default
 returns-in_default g c = λ whole w n k. absurd (no_error k.value c.args.place.rest.now k.part.mid c.in_default.field-0 k.part.holds.begins c.in_default.ensures.rejected)

@@ -1,7 +1,7 @@
 use Rattle.std.proofs.Common.{◌++◌, length, reverse, ap, refl, subst, ◌∙◌, arith}
 use Rattle.ipld_show.specs.JsonFrames.{Leads}
 use Rattle.ipld_show.proofs.Jsons.{running_first, running_next, running_last, not_running, output_error}
-use Rattle.ipld_show.proofs.dag_json.write_json.Goals as goal
+use Rattle.ipld_show.proofs.json_text.write_json.Goals as goal
 
 pub loop-init : goal.loop-init
 loop-init g c = λ d behind b.

@@ -1,10 +1,10 @@
 use Rattle.std.proofs.Common.{◌-◌, ◌++◌, reverse, codes, sym, subst, arith}
 use Rattle.ipld_show.specs.JsonFrames.{Coming}
 use Rattle.ipld_show.specs.JsonScalars.{comma}
-use Rattle.ipld_show.specs.declared.dag_json.Frame.TheVariants as frame
+use Rattle.ipld_show.specs.declared.json_text.Frame.TheVariants as frame
 use Rattle.ipld_show.proofs.Jsons.{next_item_comes, list_ends}
 use Rattle.ipld_show.proofs.Trees.{reverse_pop}
-use Rattle.ipld_show.proofs.dag_json.write_next_item.Goals as goal
+use Rattle.ipld_show.proofs.json_text.write_next_item.Goals as goal
 
 pub returns-then-items-gt0-clause-goes_on : goal.returns-then-items-gt0-clause-goes_on
 returns-then-items-gt0-clause-goes_on g c = λ whole total w n b.

@@ -1,8 +1,8 @@
 use Rattle.std.proofs.Common.{reverse}
-use Rattle.ipld_show.specs.declared.dag_json.Frame.TheVariants as frame
+use Rattle.ipld_show.specs.declared.json_text.Frame.TheVariants as frame
 use Rattle.ipld_show.proofs.Jsons.{list_begins}
 use Rattle.ipld_show.proofs.Trees.{reverse_pop}
-use Rattle.ipld_show.proofs.dag_json.enter_list.Goals as goal
+use Rattle.ipld_show.proofs.json_text.enter_list.Goals as goal
 
 pub returns : goal.returns
 returns g c = λ whole total w n k i.

@@ -2,7 +2,7 @@ use Rattle.std.proofs.Common.{◌++◌, reverse, vec_len, subst, arith}
 use Rattle.ipld_show.specs.JsonFrames.{Behind, Steps, LeavesIt}
 use Rattle.ipld_show.proofs.Jsons.{step_leads, step_ends}
 use Rattle.ipld_show.proofs.Trees.{reverse_pop}
-use Rattle.ipld_show.proofs.dag_json.next_value_place.Goals as goal
+use Rattle.ipld_show.proofs.json_text.next_value_place.Goals as goal
 
 pub returns-in-Ok-Value : goal.returns-in-Ok-Value
 returns-in-Ok-Value g c = λ whole total w n b.

@@ -2,11 +2,11 @@ use Rattle.std.proofs.Common.{Bool, map, reverse, refl, subst, ◌∙◌}
 use Rattle.dag_cbor_format.specs.declared.item.ItemHead.TheVariants as begin
 use Rattle.ipld_show.specs.JsonText.{AreReserved}
 use Rattle.ipld_show.specs.Places.{KnownEntry}
-use Rattle.ipld_show.specs.declared.dag_json.Frame.TheVariants as frame
+use Rattle.ipld_show.specs.declared.json_text.Frame.TheVariants as frame
 use Rattle.ipld_show.proofs.Jsons.{map_begins, map_reserved, output_error}
 use Rattle.ipld_show.proofs.Reached.{entries_inside, is_map_container}
 use Rattle.ipld_show.proofs.Trees.{reverse_pop}
-use Rattle.ipld_show.proofs.dag_json.enter_map.Goals as goal
+use Rattle.ipld_show.proofs.json_text.enter_map.Goals as goal
 
 pub returns-in-Err : goal.returns-in-Err
 returns-in-Err g c = λ whole w n k i.

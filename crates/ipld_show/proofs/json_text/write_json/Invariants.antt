@@ -1,7 +1,7 @@
 use Rattle.std.proofs.Common.{ℕ, List, length, reverse}
 use Rattle.ipld_show.specs.DataItem.{DataItem, BeginsWithItem}
 use Rattle.ipld_show.proofs.Jsons.{Running}
-use Rattle.ipld_show.proofs.dag_json.write_json.Given as goal
+use Rattle.ipld_show.proofs.json_text.write_json.Given as goal
 
 abbrev pub invariant-loop : goal.invariant-loop
 invariant-loop g l =

@@ -1,6 +1,6 @@
 use Rattle.std.proofs.Common.{◌∷◌, reverse, subst}
 use Rattle.ipld_show.specs.JsonFrames.{Behind}
-use Rattle.ipld_show.proofs.dag_json.write_next.Goals as goal
+use Rattle.ipld_show.proofs.json_text.write_next.Goals as goal
 
 pub returns-in-List-clause-goes_on : goal.returns-in-List-clause-goes_on
 returns-in-List-clause-goes_on g c = λ whole total w n b.

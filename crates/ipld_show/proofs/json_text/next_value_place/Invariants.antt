@@ -2,7 +2,7 @@ use Rattle.std.proofs.Common.{ℕ, List, ◌++◌, reverse, vec_len}
 use Rattle.std.specs.Io.KnownBytes.{Appends}
 use Rattle.ipld_show.specs.DataItem.{DataItem}
 use Rattle.ipld_show.specs.JsonFrames.{Behind}
-use Rattle.ipld_show.proofs.dag_json.next_value_place.Given as goal
+use Rattle.ipld_show.proofs.json_text.next_value_place.Given as goal
 
 abbrev pub invariant-loop-frame : goal.invariant-loop-frame
 invariant-loop-frame g l =

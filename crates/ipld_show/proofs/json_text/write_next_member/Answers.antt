@@ -2,10 +2,10 @@ use Rattle.std.proofs.Common.{◌++◌, reverse, codes, sym, subst, rules}
 use Rattle.std.proofs.KnownBytes.{Appends-trans}
 use Rattle.ipld_show.specs.JsonFrames.{Coming}
 use Rattle.ipld_show.specs.JsonScalars.{comma, key_json}
-use Rattle.ipld_show.specs.declared.dag_json.Frame.TheVariants as frame
+use Rattle.ipld_show.specs.declared.json_text.Frame.TheVariants as frame
 use Rattle.ipld_show.proofs.Jsons.{next_entry_comes, map_ends}
 use Rattle.ipld_show.proofs.Trees.{reverse_pop}
-use Rattle.ipld_show.proofs.dag_json.write_next_member.Goals as goal
+use Rattle.ipld_show.proofs.json_text.write_next_member.Goals as goal
 
 pub returns-in-Some-clause-goes_on : goal.returns-in-Some-clause-goes_on
 returns-in-Some-clause-goes_on g c = λ whole total w n rest listed b.
