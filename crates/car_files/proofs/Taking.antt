@@ -14,12 +14,13 @@ use Rattle.dag_cbor_format.specs.declared.error.CborError.{CborError}
 use Rattle.dag_cbor_format.specs.Found.{links_among}
 use Rattle.dag_cbor_format.specs.Reading.{unless_error}
 use Rattle.dag_cbor_format.specs.Trace.{error_in, links_read, trace_of, tokens_in}
+use Rattle.dag_json.proofs.BlockErrors.{no_links_found}
 use Rattle.ipld_block.specs.Blocks.{HasLinks, IsInvalid}
 use Rattle.ipld_block.specs.Codes.{codec_of_code}
 use Rattle.ipld_block.specs.declared.codec.BlockCodec.{BlockCodec}
-use Rattle.ipld_block.specs.declared.codec.BlockCodec.TheVariants.{DagCbor, DagPb, Raw}
+use Rattle.ipld_block.specs.declared.codec.BlockCodec.TheVariants.{DagCbor, DagPb, DagJson, Raw}
 use Rattle.ipld_block.specs.declared.error.InvalidBlock.{InvalidBlock}
-use Rattle.ipld_block.specs.declared.error.InvalidBlock.TheVariants.{Cbor, Pb, NotCanonical}
+use Rattle.ipld_block.specs.declared.error.InvalidBlock.TheVariants.{Cbor, Pb, Json, NotCanonical}
 use Rattle.car_files.specs.Blocks.{links_by, links_in, BlockHas, BlockFault, IsBlockOf}
 use Rattle.car_files.specs.Carried.{carrier, IsCarried, AreCarried, CarriesFaults}
 use Rattle.car_files.specs.Has.{has}
@@ -37,6 +38,7 @@ plain (l ∷ ls) = cond (is_identity l) (plain ls) (l ∷ plain ls)
 by_codec : (codec : BlockCodec) (bytes : List ℕ) (links : List Link) → HasLinks codec bytes links → links ≡ links_by codec bytes
 by_codec DagCbor bytes links h = sym (ap (λ (found : Option (List Link)). unwrap_or found []) h)
 by_codec DagPb bytes links h = sym (ap (λ found. result_unwrap_or found []) h)
+by_codec DagJson bytes links h = sym (ap (λ (found : Option (List Link)). unwrap_or found []) h)
 by_codec Raw bytes links h = h
 
 -- the links that were read
@@ -57,10 +59,16 @@ unread bytes error e = ap (λ (found : Option CborError). unless_error found (So
 none_by : (codec : BlockCodec) (bytes : List ℕ) (why : InvalidBlock) → IsInvalid codec bytes why → [] ≡ links_by codec bytes
 none_by DagCbor bytes (Cbor error) w = sym (ap (λ (found : Option (List Link)). unwrap_or found []) (unread bytes w.0 w.2))
 none_by DagCbor bytes (Pb error) w = absurd w
+none_by DagCbor bytes (Json error) w = absurd w
 none_by DagCbor bytes NotCanonical w = absurd w
 none_by DagPb bytes (Cbor error) w = absurd w
 none_by DagPb bytes (Pb error) w = sym (ap (λ found. result_unwrap_or found []) w)
+none_by DagPb bytes (Json error) w = absurd w
 none_by DagPb bytes NotCanonical w = absurd w
+none_by DagJson bytes (Cbor error) w = absurd w
+none_by DagJson bytes (Pb error) w = absurd w
+none_by DagJson bytes (Json error) w = sym (ap (λ (found : Option (List Link)). unwrap_or found []) (no_links_found true bytes error w))
+none_by DagJson bytes NotCanonical w = absurd w
 none_by Raw bytes why w = absurd w
 
 pub fault_links : (code : ℕ) (bytes : List ℕ) (why : InvalidBlock) → BlockFault code bytes why → [] ≡ links_in code bytes

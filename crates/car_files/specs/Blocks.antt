@@ -4,11 +4,12 @@ use Rattle.std.specs.Option.{unwrap_or, option_map_or}
 use Rattle.std.specs.Result.{result_unwrap_or}
 use Rattle.ipld_cid.specs.Cid.{Link}
 use Rattle.dag_cbor_format.specs.Trace.{links_read}
+use Rattle.dag_json.specs.Codec as json
 use Rattle.dag_pb.specs.NodeReading.{links_found}
 use Rattle.ipld_block.specs.Blocks.{HasLinks, IsInvalid}
 use Rattle.ipld_block.specs.Codes.{codec_of_code}
 use Rattle.ipld_block.specs.declared.codec.BlockCodec.{BlockCodec}
-use Rattle.ipld_block.specs.declared.codec.BlockCodec.TheVariants.{DagCbor, DagPb, Raw}
+use Rattle.ipld_block.specs.declared.codec.BlockCodec.TheVariants.{DagCbor, DagPb, DagJson, Raw}
 use Rattle.ipld_block.specs.declared.error.InvalidBlock.{InvalidBlock}
 
 -- that blocks may have floats
@@ -19,14 +20,15 @@ with_floats = true
 abbrev pub links_by : BlockCodec → List ℕ → List Link
 links_by DagCbor bytes = unwrap_or (links_read with_floats bytes) []
 links_by DagPb bytes = result_unwrap_or (links_found bytes) []
+links_by DagJson bytes = unwrap_or (json.links_in true bytes) []
 links_by Raw bytes = []
 
 -- the links of a block of the codec of this code, none where its blocks aren't read or the bytes are no block
 unfoldable pub links_in : ℕ → List ℕ → List Link
 links_in code bytes = option_map_or (λ codec. links_by codec bytes) (codec_of_code code) []
 
--- True if the code is of a codec whose blocks are read, and these are the block's links (DAG-CBOR
--- and DAG-PB specifications).
+-- True if the code is of a codec whose blocks are read, and these are the block's links (DAG-CBOR,
+-- DAG-PB and DAG-JSON specifications).
 abbrev pub BlockHas : ℕ → List ℕ → List Link → Type 0
 BlockHas code bytes links = (codec : BlockCodec) × (codec_of_code code ≡ Some codec) × HasLinks codec bytes links
 

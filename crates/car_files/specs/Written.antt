@@ -15,10 +15,11 @@ use Rattle.ipld_car.specs.declared.reader.CarReader.{CarReader}
 use Rattle.ipld_car.specs.declared.version.CarVersion.{CarVersion}
 use Rattle.ipld_car.specs.declared.version.CarVersion.TheVariants.{V1, V2}
 use Rattle.dag_cbor_blocks.specs.BlockErrors.{kind_name}
+use Rattle.dag_json.specs.Errors as json
 use Rattle.dag_pb.specs.ErrorNames.{name_of}
 use Rattle.ipld_block.specs.Codes.{codec_of_code, codec_name_of}
 use Rattle.ipld_block.specs.declared.error.InvalidBlock.{InvalidBlock}
-use Rattle.ipld_block.specs.declared.error.InvalidBlock.TheVariants.{Cbor, Pb, NotCanonical}
+use Rattle.ipld_block.specs.declared.error.InvalidBlock.TheVariants.{Cbor, Pb, Json as InvalidJson, NotCanonical}
 use Rattle.ipld_block.specs.Texts.{usual_text}
 use Rattle.car_files.specs.declared.list.Form.{Form}
 use Rattle.car_files.specs.declared.list.Form.TheVariants.{Blocks, Links, Dot, Json}
@@ -110,6 +111,7 @@ count_text (invalid why) = codes "no block of its codec\n"
 abbrev pub error_text : InvalidBlock → List ℕ
 error_text (Cbor error) = codes ",\"error\":\"" ++ (kind_name error.kind ++ (codes "\",\"at\":" ++ decimal error.offset))
 error_text (Pb error) = codes ",\"error\":\"" ++ (name_of error.kind ++ (codes "\",\"at\":" ++ decimal error.offset))
+error_text (InvalidJson error) = codes ",\"error\":\"" ++ (json.kind_name error.kind ++ (codes "\",\"at\":" ++ decimal error.offset))
 error_text NotCanonical = codes ",\"error\":\"NotCanonical\""
 
 -- the links, where they are known, as a member of an object of JSON, or what is wrong

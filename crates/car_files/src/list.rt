@@ -255,6 +255,14 @@ fn write_error<W: Write>(why: &InvalidBlock, writer: &mut W) -> Result<(), CarFi
             )?;
             Ok(())
         }
+        InvalidBlock::Json(error) => {
+            write!(
+                writer,
+                ",\"error\":\"{}\",\"at\":{}",
+                error.kind, error.offset
+            )?;
+            Ok(())
+        }
         InvalidBlock::NotCanonical => {
             writer.write_all(b",\"error\":\"NotCanonical\"")?;
             Ok(())

@@ -10,4 +10,6 @@ pub mod Stopping
 mod ParsedFloats
 mod Unreserved
 mod Differing
+mod Lengths
 pub mod RoundTrip
+pub mod BlockErrors

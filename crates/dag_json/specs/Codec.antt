@@ -14,6 +14,7 @@ use Rattle.dag_json.specs.ReadContract.{ReadsBytes}
 use Rattle.dag_json.specs.ReadMachine.{read_tokens}
 use Rattle.dag_json.specs.Reserved.{first_reserved, Counts}
 use Rattle.dag_json.specs.Written.{written}
+use Rattle.dag_json.specs.declared.read_error.ReadError.{ReadError}
 use Rattle.dag_json.specs.declared.read_error.ReadErrorKind.TheVariants as kind
 use Rattle.dag_json.specs.declared.codec.error.DagJsonCodecError.{DagJsonCodecError}
 use Rattle.dag_json.specs.declared.codec.error.DagJsonCodecError.TheVariants.{Memory, Read, Write, Text, Reserved}
@@ -22,14 +23,22 @@ use Rattle.dag_json.specs.declared.codec.error.DagJsonCodecError.TheVariants.{Me
 abbrev pub no_limits : List ℕ → Limits
 no_limits s = record { levels = length (tokens s); values = length (tokens s) }
 
--- The tree that a block encodes, as reading it finds, or nothing (IPLD DAG-JSON; multicodec table,
--- 0x0129).
-unfoldable pub decoded : List ℕ → Option Tree
-decoded s = if is_utf8 s then result_ok (read_tokens false (no_limits s) (tokens s)) else None
+-- The tree that a block encodes, with floats or without, as reading it finds, or nothing (IPLD
+-- DAG-JSON; multicodec table, 0x0129).
+unfoldable pub decoded_in : Bool → List ℕ → Option Tree
+decoded_in floats s = if is_utf8 s then result_ok (read_tokens floats (no_limits s) (tokens s)) else None
 
--- The links of the tree that a block encodes, in the order of its walk.
+-- The links of the tree that a block encodes, with floats or without, in the order of its walk.
+abbrev pub links_in : Bool → List ℕ → Option (List Link)
+links_in floats s = option_map links_of (decoded_in floats s)
+
+-- The tree that a block encodes, without floats, or nothing.
+abbrev pub decoded : List ℕ → Option Tree
+decoded s = decoded_in false s
+
+-- The links of the tree that a block encodes, without floats, in the order of its walk.
 abbrev pub links_found : List ℕ → Option (List Link)
-links_found s = option_map links_of (decoded s)
+links_found s = links_in false s
 
 -- the tree is the one that was decoded
 abbrev pub is_decoded : Tree → Option Tree → Bool
@@ -58,9 +67,15 @@ codec_failure (Reserved place) = None
 abbrev pub limits_of : List ℕ → Limits
 limits_of s = record { levels = length s; values = max (length s) 1 }
 
--- The error is the one that reading the block comes to, and says at which byte. Of bytes that aren't UTF-8 it says so, and how far they are.
+-- True if the error is the first of the block, with floats or without, and its offset is where
+-- reading stops. Of bytes that are not UTF-8 it reports that, and how many of them are. No
+-- allocation failed.
+abbrev pub IsBlockError : Bool → List ℕ → ReadError → Type 0
+IsBlockError floats s e = (e.kind ≡ kind.Memory → ⊥) × ReadsBytes floats (limits_of s) s (Err e) × SaysWhere floats (limits_of s) s e
+
+-- the error is the first of the block, without floats
 abbrev pub IsTextError : List ℕ → DagJsonCodecError → Type 0
-IsTextError s (Text e) = (e.kind ≡ kind.Memory → ⊥) × ReadsBytes false (limits_of s) s (Err e) × SaysWhere false (limits_of s) s e
+IsTextError s (Text e) = IsBlockError false s e
 IsTextError s Memory = ⊥
 IsTextError s Read = ⊥
 IsTextError s Write = ⊥

@@ -39,6 +39,12 @@ kind_sentence TooDeep = codes "arrays and objects nest deeper than the limit"
 kind_sentence TooMany = codes "there are more values than the limit"
 kind_sentence NotCanonical = codes "the text is not the canonical one"
 
+-- what is wrong with a text that may have floats, in a sentence
+abbrev pub float_sentence : ReadErrorKind → List ℕ
+float_sentence Float = codes "the number is beyond the floats of 64 bits"
+float_sentence IntegerRange = codes "the integer is below -2^64 or above 2^64 - 1"
+float_sentence kind = kind_sentence kind
+
 -- what is printed: the sentence where `#` is among the options, as in `{kind:#}`, and else the name
 abbrev pub printed_kind : Bool → ReadErrorKind → List ℕ
 printed_kind alternate kind = if alternate then kind_sentence kind else kind_name kind

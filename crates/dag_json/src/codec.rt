@@ -9,10 +9,11 @@ ghost use Rattle.dag_json.specs.Codec.{decoded, links_found, codec_text, codec_f
 
 mod error;
 
-use crate::{DagJsonError, ReadError, ReadErrorKind, from_slice, to_vec};
+use crate::block::{decode_block, find_links};
+use crate::{DagJsonError, ReadError, ReadErrorKind, to_vec};
 pub use error::DagJsonCodecError;
 use ipld_codec::{Codec, LinkIter, Links, RawCodec, RawError, TreeCodec};
-use ipld_tree::{Ipld, Limits};
+use ipld_tree::Ipld;
 use std::alloc::Global;
 use std::io::{BufRead, ErrorKind, Write};
 
@@ -26,18 +27,13 @@ use std::io::{BufRead, ErrorKind, Write};
 pub struct DagJsonCodec;
 
 // The tree of a block.
-fn decode_block(alloc: Global, bytes: &[u8]) -> Result<Ipld, DagJsonCodecError>
+fn decode_tree(alloc: Global, bytes: &[u8]) -> Result<Ipld, DagJsonCodecError>
     ensures ok { IfOk result (λ tree. decoded bytes.now ≡ Some (tree_of tree)) }
     ensures err { IfErr result (λ error. (error ≡ DagJsonCodecError.Memory)
         ⊎ ((codec_failure error ≡ None) × (decoded bytes.now ≡ None))) }
     ensures errors { IfErr result (λ error. (error ≡ DagJsonCodecError.Memory) ⊎ IsTextError bytes.now error) }
 {
-    // No text passes these.
-    let limits = Limits {
-        levels: bytes.len(),
-        values: bytes.len().max(1),
-    };
-    match from_slice(alloc, bytes, &limits) {
+    match decode_block(alloc, bytes, false) {
         Ok(tree) => Ok(tree),
         Err(error) => Err(error_of(error)),
     }
@@ -101,16 +97,9 @@ impl Links for DagJsonCodec {
             (links_found bytes.now ≡ None) (λ failure. failure ≡ memory)) }
         ensures errors { IfErr result (λ error. (error ≡ DagJsonCodecError.Memory) ⊎ IsTextError bytes.now error) }
     {
-        let tree = match decode_block(alloc, bytes) {
-            Ok(tree) => tree,
-            Err(error) => return Err(error),
-        };
-        let mut cids = Vec::new(alloc);
-        let gathered = tree.references(alloc, &mut cids);
-        tree.discard();
-        match gathered {
-            Ok(()) => Ok(LinkIter::new(cids)),
-            Err(_) => Err(DagJsonCodecError::Memory),
+        match find_links(alloc, bytes, false) {
+            Ok(cids) => Ok(LinkIter::new(cids)),
+            Err(error) => Err(error_of(error)),
         }
     }
 }
@@ -153,7 +142,7 @@ impl Codec<Ipld> for DagJsonCodec {
             ⊎ ((error ≡ DagJsonCodecError.Read) ⊎ IsTextErrorOf (R.remaining reader.old) error)) }
     {
         match read_block(alloc, reader) {
-            Ok(block) => decode_block(alloc, &block),
+            Ok(block) => decode_tree(alloc, &block),
             Err(error) => Err(error),
         }
     }
@@ -200,7 +189,7 @@ impl Codec<Ipld> for DagJsonCodec {
             (decoded bytes.now ≡ None) (MemoryOr reading)) }
         ensures errors { IfErr result (λ error. (error ≡ DagJsonCodecError.Memory) ⊎ IsTextError bytes.now error) }
     {
-        decode_block(alloc, bytes)
+        decode_tree(alloc, bytes)
     }
 
     /// The text of a tree.

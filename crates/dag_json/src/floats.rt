@@ -25,19 +25,24 @@
 //! }
 //! ```
 
-ghost use Rattle.std.specs.Prelude.{◌≡◌, true, IfOk, IfErr};
+ghost use Rattle.std.specs.Prelude.{◌≡◌, ◌⊎◌, true, Some, map, IfOk, IfErr};
 ghost use Rattle.std.specs.Float.{binary64};
 ghost use Rattle.std.specs.Float.Parse.{parse_float};
+ghost use Rattle.ipld_cid.specs.LinkOf.{link_of};
 ghost use Rattle.ipld_tree.specs.Tree.{Tree};
 ghost use Rattle.ipld_tree.specs.TreeOf.{tree_of};
+ghost use Rattle.dag_json.specs.Codec.{links_in, IsBlockError};
 ghost use Rattle.dag_json.specs.Encodes.{EncodesWithinIn};
+ghost use Rattle.dag_json.specs.Errors.{float_sentence};
 ghost use Rattle.dag_json.specs.Floats.{finite_number, float_read, number_as, number_in};
 ghost use Rattle.dag_json.specs.Offset.{SaysWhere};
 ghost use Rattle.dag_json.specs.ReadContract.{ReadsBytes, UnlessMemory};
 
+use crate::block::find_links;
 use crate::decode::read_text;
 use crate::read_error::{ReadError, ReadErrorKind};
 use crate::scalar::read_number;
+use ipld_cid::Cid;
 use ipld_tree::{Ipld, Limits};
 use std::alloc::Global;
 use std::str;
@@ -140,4 +145,29 @@ pub fn from_slice(alloc: Global, bytes: &[u8], limits: &Limits) -> Result<Ipld, 
             offset: error.valid_up_to(),
         }),
     }
+}
+
+/// Returns what an error of a text that may have floats reports, in a sentence: as the error's `Display` with `#`, but for numbers.
+pub fn describe(kind: ReadErrorKind) -> &'static str
+    ensures { result.now ≡ float_sentence kind }
+{
+    match kind {
+        ReadErrorKind::Float => "the number is beyond the floats of 64 bits",
+        ReadErrorKind::IntegerRange => "the integer is below -2^64 or above 2^64 - 1",
+        kind => kind.describe(),
+    }
+}
+
+/// Returns the links of a block of DAG-JSON that may have floats, in the order of a walk of its tree.
+///
+/// The block is read as by [`from_slice`], within no limits but its length: it doesn't recurse, and allocates the tree of the block.
+///
+/// # Errors
+///
+/// Those of [`from_slice`], but never `TooDeep` or `TooMany`.
+pub fn links_of_block(alloc: Global, bytes: &[u8]) -> Result<Vec<Cid>, ReadError>
+    ensures found { IfOk result (λ links. links_in true bytes.now ≡ Some (map link_of links.items)) }
+    ensures rejected { IfErr result (λ error. (error.kind ≡ ReadErrorKind.Memory) ⊎ IsBlockError true bytes.now error) }
+{
+    find_links(alloc, bytes, true)
 }

@@ -52,6 +52,7 @@
 //! [`DagJsonCodec`] is DAG-JSON as a `Codec` of `ipld_codec`.
 #![tactic(auto)]
 
+mod block;
 mod codec;
 mod decode;
 mod encode;
@@ -65,6 +66,7 @@ mod scalar;
 mod tape;
 mod tree;
 
+pub use block::block_limits;
 pub use codec::{DagJsonCodec, DagJsonCodecError};
 pub use decode::{from_canonical, from_slice, from_str};
 pub use encode::{to_string, to_vec};

@@ -57,7 +57,7 @@ pub enum ReadErrorKind {
 
 impl ReadErrorKind {
     // What is wrong, in a sentence.
-    fn describe(&self) -> &'static str
+    pub(crate) fn describe(&self) -> &'static str
         ensures { result.now ≡ kind_sentence self.now }
     {
         match self {

@@ -7,3 +7,4 @@ pub mod LinkReading
 pub mod NodeReading
 pub mod Views
 pub mod Spans
+pub mod Codec

@@ -13,8 +13,11 @@
 //!
 //! Reading is as strict as the specification: fields other than those of a node and of a link, a field that stands twice or out of order,
 //! and another wire type are errors. A [`PbError`] says what is wrong, and at which byte of the block its field begins. No call recurses.
+//!
+//! [`DagPbCodec`] has the trait `Links` of `ipld_codec`.
 #![tactic(auto)]
 
+mod codec;
 mod error;
 pub mod laws;
 mod link;
@@ -23,6 +26,7 @@ mod reader;
 mod spans;
 mod wire;
 
+pub use codec::DagPbCodec;
 pub use error::{PbError, PbErrorKind};
 pub use link::PbLink;
 pub use node::{PbNode, links_of_block, read_node};

@@ -8,27 +8,35 @@ use Rattle.dag_cbor_format.specs.declared.error.CborError.{CborError}
 use Rattle.dag_cbor_format.specs.declared.error.CborError.TheVariants.{Memory as CborMemory}
 use Rattle.dag_cbor_format.specs.KeysAscend.{is_sorted}
 use Rattle.dag_cbor_format.specs.Trace.{error_in, error_offset, links_read}
+use Rattle.dag_json.specs.Codec.{links_in, IsBlockError}
+use Rattle.dag_json.specs.Encodes.{EncodesTreeIn}
+use Rattle.dag_json.specs.declared.read_error.ReadError.{ReadError}
+use Rattle.dag_json.specs.declared.read_error.ReadErrorKind.TheVariants.{Memory as JsonMemory}
 use Rattle.dag_pb.specs.declared.error.PbError.{PbError}
 use Rattle.dag_pb.specs.declared.error.PbErrorKind.TheVariants.{Memory as PbMemory}
 use Rattle.dag_pb.specs.NodeReading.{links_found}
+use Rattle.ipld_tree.specs.Tree.{Tree}
 use Rattle.ipld_block.specs.declared.codec.BlockCodec.{BlockCodec}
-use Rattle.ipld_block.specs.declared.codec.BlockCodec.TheVariants.{DagCbor, DagPb, Raw}
+use Rattle.ipld_block.specs.declared.codec.BlockCodec.TheVariants.{DagCbor, DagPb, DagJson, Raw}
 use Rattle.ipld_block.specs.declared.error.CheckError.{CheckError}
 use Rattle.ipld_block.specs.declared.error.CheckError.TheVariants.{Memory, Invalid}
 use Rattle.ipld_block.specs.declared.error.InvalidBlock.{InvalidBlock}
-use Rattle.ipld_block.specs.declared.error.InvalidBlock.TheVariants.{Cbor, Pb, NotCanonical}
+use Rattle.ipld_block.specs.declared.error.InvalidBlock.TheVariants.{Cbor, Pb, Json, NotCanonical}
 
 -- True if these are the links of a block of this codec: all of DAG-CBOR, floats allowed; those of
--- the node of DAG-PB; and none of plain bytes (DAG-CBOR and DAG-PB specifications).
+-- the node of DAG-PB; those of the tree of DAG-JSON, floats allowed; and none of plain bytes
+-- (DAG-CBOR, DAG-PB and DAG-JSON specifications).
 abbrev pub HasLinks : BlockCodec → List ℕ → List Link → Type 0
 HasLinks DagCbor bytes links = links_read true bytes ≡ Some links
 HasLinks DagPb bytes links = links_found bytes ≡ Ok links
+HasLinks DagJson bytes links = links_in true bytes ≡ Some links
 HasLinks Raw bytes links = links ≡ []
 
--- True if the bytes are a block of this codec (DAG-CBOR and DAG-PB specifications).
+-- True if the bytes are a block of this codec (DAG-CBOR, DAG-PB and DAG-JSON specifications).
 abbrev pub IsBlock : BlockCodec → List ℕ → Type 0
 IsBlock DagCbor bytes = error_in true bytes ≡ None
 IsBlock DagPb bytes = (links : List Link) × (links_found bytes ≡ Ok links)
+IsBlock DagJson bytes = (t : Tree) × EncodesTreeIn true t bytes
 IsBlock Raw bytes = ⊤
 
 -- the first error of bytes that are no block of DAG-CBOR, and at which byte it lies
@@ -37,14 +45,20 @@ IsNoCbor bytes error =
     (first : CborError) × (error.kind ≡ OfFormat first) × (error_in true bytes ≡ Some first) × (error.offset ≡ error_offset true bytes)
 
 -- True if the bytes are not a block of the codec, for this reason and at this place; no allocation
--- failed (DAG-CBOR and DAG-PB specifications).
+-- failed (DAG-CBOR, DAG-PB and DAG-JSON specifications).
 abbrev pub IsInvalid : BlockCodec → List ℕ → InvalidBlock → Type 0
 IsInvalid DagCbor bytes (Cbor error) = IsNoCbor bytes error
 IsInvalid DagCbor bytes (Pb error) = ⊥
+IsInvalid DagCbor bytes (Json error) = ⊥
 IsInvalid DagCbor bytes NotCanonical = ⊥
 IsInvalid DagPb bytes (Cbor error) = ⊥
 IsInvalid DagPb bytes (Pb error) = links_found bytes ≡ Err error
+IsInvalid DagPb bytes (Json error) = ⊥
 IsInvalid DagPb bytes NotCanonical = ⊥
+IsInvalid DagJson bytes (Cbor error) = ⊥
+IsInvalid DagJson bytes (Pb error) = ⊥
+IsInvalid DagJson bytes (Json error) = IsBlockError true bytes error
+IsInvalid DagJson bytes NotCanonical = ⊥
 IsInvalid Raw bytes why = ⊥
 
 -- True if the bytes are not a block of DAG-CBOR, for this reason and at this place, or are a block
@@ -52,6 +66,7 @@ IsInvalid Raw bytes why = ⊥
 abbrev pub IsNotCanonical : List ℕ → InvalidBlock → Type 0
 IsNotCanonical bytes (Cbor error) = IsNoCbor bytes error
 IsNotCanonical bytes (Pb error) = ⊥
+IsNotCanonical bytes (Json error) = ⊥
 IsNotCanonical bytes NotCanonical = is_sorted true bytes ≡ Some false
 
 -- True if an allocation failed, or `P` is true of why the bytes are invalid.
@@ -74,3 +89,8 @@ MadeOfCbor error (Invalid why) = (why ≡ Cbor error) × ((first : CborError) ×
 abbrev pub MadeOfPb : PbError → CheckError → Type 0
 MadeOfPb error Memory = error.kind ≡ PbMemory
 MadeOfPb error (Invalid why) = (why ≡ Pb error) × (error.kind ≢ PbMemory)
+
+-- the same of DAG-JSON
+abbrev pub MadeOfJson : ReadError → CheckError → Type 0
+MadeOfJson error Memory = error.kind ≡ JsonMemory
+MadeOfJson error (Invalid why) = (why ≡ Json error) × (error.kind ≢ JsonMemory)

@@ -1,11 +1,16 @@
 -- Codecs by their codes of the multicodec table.
 use Rattle.std.specs.Prelude.{ℕ, ◌≡◌, ◌≢◌, ◌==◌, if◌then◌else◌, List, codes, Option, Some, None}
 use Rattle.ipld_block.specs.declared.codec.BlockCodec.{BlockCodec}
-use Rattle.ipld_block.specs.declared.codec.BlockCodec.TheVariants.{DagCbor, DagPb, Raw}
+use Rattle.ipld_block.specs.declared.codec.BlockCodec.TheVariants.{DagCbor, DagPb, DagJson, Raw}
 
 -- the codec of this code, if its blocks are read
 abbrev pub codec_of_code : ℕ → Option BlockCodec
-codec_of_code code = if code == 0x71 then Some DagCbor else if code == 0x70 then Some DagPb else if code == 0x55 then Some Raw else None
+codec_of_code code =
+    if code == 0x71 then Some DagCbor
+    else if code == 0x70 then Some DagPb
+    else if code == 0x0129 then Some DagJson
+    else if code == 0x55 then Some Raw
+    else None
 
 -- the name of a codec in the multicodec table, of those that content is often in
 unfoldable pub codec_name_of : ℕ → Option (List ℕ)
@@ -27,8 +32,9 @@ codec_name_of code =
 abbrev pub NamesCodec : List ℕ → Option BlockCodec → Type 0
 NamesCodec name (Some DagCbor) = name ≡ codes "dag-cbor"
 NamesCodec name (Some DagPb) = name ≡ codes "dag-pb"
+NamesCodec name (Some DagJson) = name ≡ codes "dag-json"
 NamesCodec name (Some Raw) = name ≡ codes "raw"
-NamesCodec name None = (name ≢ codes "dag-cbor") × (name ≢ codes "dag-pb") × (name ≢ codes "raw")
+NamesCodec name None = (name ≢ codes "dag-cbor") × (name ≢ codes "dag-pb") × (name ≢ codes "dag-json") × (name ≢ codes "raw")
 
 -- the name of a hash function in the multicodec table, of those that are often used
 unfoldable pub hash_name_of : ℕ → Option (List ℕ)

@@ -2,7 +2,7 @@
 use Rattle.std.specs.Prelude.{ℕ, List, codes, Some, None}
 use Rattle.std.specs.declared.option.Option.{Option}
 use Rattle.ipld_block.specs.declared.error.InvalidBlock.{InvalidBlock}
-use Rattle.ipld_block.specs.declared.error.InvalidBlock.TheVariants.{Cbor, Pb, NotCanonical}
+use Rattle.ipld_block.specs.declared.error.InvalidBlock.TheVariants.{Cbor, Pb, Json, NotCanonical}
 use Rattle.ipld_block.specs.declared.error.CheckError.{CheckError}
 use Rattle.ipld_block.specs.declared.error.CheckError.TheVariants.{Memory, Invalid}
 
@@ -10,6 +10,7 @@ use Rattle.ipld_block.specs.declared.error.CheckError.TheVariants.{Memory, Inval
 abbrev pub sentence_of : InvalidBlock → Option (List ℕ)
 sentence_of (Cbor error) = None
 sentence_of (Pb error) = None
+sentence_of (Json error) = None
 sentence_of NotCanonical = Some (codes "a block, but not in canonical form: the keys of a map are not sorted length first")
 
 -- why nothing is known of a block

@@ -11,6 +11,7 @@ use dag_cbor_blocks::{
     BlockError, BlockErrorKind, ReadOptions, check_block, is_canonical, links_of_block,
 };
 use dag_cbor_format::CborError;
+use dag_json::floats;
 use ipld_cid::Cid;
 use ipld_tree::Limits;
 use std::alloc::Global;
@@ -48,10 +49,13 @@ fn check_cbor(alloc: Global, bytes: &[u8]) -> Result<(), CheckError>
 
 /// The links of a block of this codec, in the order of its bytes; plain bytes have none. Bytes that are no block have an error.
 ///
+/// Those of a block of DAG-JSON come in the order of a walk of its tree, in which the keys of a map come in the order of their bytes. The
+/// call allocates that tree, and doesn't recurse.
+///
 /// # Errors
 ///
 /// `Invalid` with what is wrong with the bytes, and where; `Memory` where an allocation failed. Plain bytes have neither.
-#[tactic(auto, using(crate::proofs::Faults::no_cbor_by, crate::proofs::Faults::no_pb_by))]
+#[tactic(auto, using(crate::proofs::Faults::no_cbor_by, crate::proofs::Faults::no_pb_by, crate::proofs::Faults::no_json_by))]
 pub fn links_of(alloc: Global, codec: BlockCodec, bytes: &[u8]) -> Result<Vec<Cid>, CheckError>
     ensures found { IfOk result (λ links. HasLinks codec bytes.now (map link_of links.items)) }
     ensures rejected { IfErr result (λ error. IfInvalid error (IsInvalid codec bytes.now)) }
@@ -66,6 +70,10 @@ pub fn links_of(alloc: Global, codec: BlockCodec, bytes: &[u8]) -> Result<Vec<Ci
             Ok(links) => Ok(links),
             Err(error) => Err(CheckError::from(error)),
         },
+        BlockCodec::DagJson => match floats::links_of_block(alloc, bytes) {
+            Ok(links) => Ok(links),
+            Err(error) => Err(CheckError::from(error)),
+        },
         BlockCodec::Raw => Ok(Vec::new(alloc)),
     }
 }
@@ -75,6 +83,7 @@ pub fn links_of(alloc: Global, codec: BlockCodec, bytes: &[u8]) -> Result<Vec<Ci
 /// # Errors
 ///
 /// Those of [`links_of`].
+#[tactic(auto, using(crate::proofs::Faults::is_block))]
 pub fn check(alloc: Global, codec: BlockCodec, bytes: &[u8]) -> Result<(), CheckError>
     ensures valid { OnOk result (IsBlock codec bytes.now) }
     ensures rejected { IfErr result (λ error. IfInvalid error (IsInvalid codec bytes.now)) }
@@ -82,7 +91,7 @@ pub fn check(alloc: Global, codec: BlockCodec, bytes: &[u8]) -> Result<(), Check
 {
     match codec {
         BlockCodec::DagCbor => check_cbor(alloc, bytes),
-        BlockCodec::DagPb => match links_of(alloc, codec, bytes) {
+        BlockCodec::DagPb | BlockCodec::DagJson => match links_of(alloc, codec, bytes) {
             Ok(_) => Ok(()),
             Err(error) => Err(error),
         },

@@ -5,6 +5,9 @@ ghost use Rattle.ipld_block.specs.Codes.{codec_name_of, hash_name_of};
 
 use ipld_cid::{DAG_CBOR, DAG_PB, RAW};
 
+// The code of DAG-JSON in the multicodec table.
+const DAG_JSON: u64 = 0x0129;
+
 /// A codec whose blocks are read.
 #[derive(Clone, Copy, Debug, PartialEq, Eq)]
 pub enum BlockCodec {
@@ -12,6 +15,8 @@ pub enum BlockCodec {
     DagCbor,
     /// DAG-PB, 0x70.
     DagPb,
+    /// DAG-JSON, 0x0129.
+    DagJson,
     /// Plain bytes, 0x55.
     Raw,
 }
@@ -26,6 +31,7 @@ impl BlockCodec {
         match self {
             BlockCodec::DagCbor => DAG_CBOR,
             BlockCodec::DagPb => DAG_PB,
+            BlockCodec::DagJson => DAG_JSON,
             BlockCodec::Raw => RAW,
         }
     }
@@ -37,18 +43,20 @@ impl BlockCodec {
         match code {
             DAG_CBOR => Some(BlockCodec::DagCbor),
             DAG_PB => Some(BlockCodec::DagPb),
+            DAG_JSON => Some(BlockCodec::DagJson),
             RAW => Some(BlockCodec::Raw),
             _ => None,
         }
     }
 
-    /// The codec of this name in the multicodec table, if its blocks are read: `dag-cbor`, `dag-pb` or `raw`.
+    /// The codec of this name in the multicodec table, if its blocks are read: `dag-cbor`, `dag-pb`, `dag-json` or `raw`.
     pub fn from_name(name: &str) -> Option<Self>
         ensures { NamesCodec name.now result }
     {
         match name {
             "dag-cbor" => Some(BlockCodec::DagCbor),
             "dag-pb" => Some(BlockCodec::DagPb),
+            "dag-json" => Some(BlockCodec::DagJson),
             "raw" => Some(BlockCodec::Raw),
             _ => None,
         }

@@ -1,6 +1,7 @@
 //! What is wrong with bytes that are no block.
 
 use dag_cbor_blocks::BlockError;
+use dag_json::{ReadError, ReadErrorKind, floats};
 use dag_pb::{PbError, PbErrorKind};
 use std::alloc::{AllocError, AllocFailed};
 use std::{error, fmt};
@@ -14,6 +15,8 @@ pub enum InvalidBlock {
     Cbor(BlockError),
     /// The bytes are no block of DAG-PB.
     Pb(PbError),
+    /// The bytes are no block of DAG-JSON, which may have floats.
+    Json(ReadError),
     /// The bytes are a block of DAG-CBOR, but not in canonical form: the keys of a map aren't sorted length first.
     NotCanonical,
 }
@@ -29,6 +32,11 @@ impl fmt::Display for InvalidBlock {
         match self {
             InvalidBlock::Cbor(error) => write!(f, "no block of DAG-CBOR: {error:#}"),
             InvalidBlock::Pb(error) => write!(f, "no block of DAG-PB: {error:#}"),
+            InvalidBlock::Json(error) => {
+                let why = floats::describe(error.kind);
+                let offset = error.offset;
+                write!(f, "no block of DAG-JSON: {why} at byte {offset}")
+            }
             InvalidBlock::NotCanonical => f.write_str(
                 "a block, but not in canonical form: the keys of a map are not sorted length first",
             ),
@@ -95,6 +103,19 @@ impl From<PbError> for CheckError {
         match error.kind {
             PbErrorKind::Memory => CheckError::Memory,
             _ => CheckError::Invalid(InvalidBlock::Pb(error)),
+        }
+    }
+}
+
+impl From<ReadError> for CheckError {
+    ghost use Rattle.ipld_block.specs.Blocks.{MadeOfJson};
+
+    ghost from_gives = { λ error made. MadeOfJson error made };
+
+    fn from(error: ReadError) -> Self {
+        match error.kind {
+            ReadErrorKind::Memory => CheckError::Memory,
+            _ => CheckError::Invalid(InvalidBlock::Json(error)),
         }
     }
 }

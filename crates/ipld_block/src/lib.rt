@@ -14,7 +14,7 @@
 //!
 //! [`cid_of`] returns the CID of a block, by the SHA2-256 of the toolchain's `sha2`.
 //!
-//! The codecs are DAG-CBOR, floats of 64 bits too, DAG-PB and plain bytes. What is wrong with bytes that are no block is an [`InvalidBlock`],
+//! The codecs are DAG-CBOR and DAG-JSON, floats of 64 bits too, DAG-PB and plain bytes. What is wrong with bytes that are no block is an [`InvalidBlock`],
 //! in each crate that reads blocks.
 #![tactic(auto)]
 

@@ -62,6 +62,11 @@ pub fn write_invalid<W: Write>(
             ",\"error\":\"{}\",\"at\":{}",
             error.kind, error.offset
         )?,
+        InvalidBlock::Json(error) => write!(
+            writer,
+            ",\"error\":\"{}\",\"at\":{}",
+            error.kind, error.offset
+        )?,
         InvalidBlock::NotCanonical => writer.write_all(b",\"error\":\"NotCanonical\"")?,
     }
     let message = format!(in alloc; "{}", Explanation::new(alloc, block, why))?;

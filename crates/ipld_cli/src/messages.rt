@@ -16,6 +16,7 @@ mod named_cid;
 mod no_cid;
 mod outcome;
 mod start;
+mod text_place;
 mod write_failure;
 
 pub use car_error::{DigestExplanation, OpeningExplanation, SectionExplanation, beginning_of};
@@ -24,4 +25,5 @@ pub use hint::Hint;
 pub use named_cid::NamedCid;
 pub use no_cid::NoCid;
 pub use outcome::Outcome;
+pub use text_place::TextPlace;
 pub use write_failure::WriteFailure;

@@ -22,7 +22,7 @@ use Rattle.dag_cbor_format.proofs.CanonicalEncoding.{writes_encoded}
 use Rattle.dag_cbor_format.proofs.CidLaws.{cid_laws}
 use Rattle.dag_cbor_format.proofs.FloatLaws.{plain_item}
 use Rattle.ipld_block.specs.declared.codec.BlockCodec.{BlockCodec}
-use Rattle.ipld_block.specs.declared.codec.BlockCodec.TheVariants.{DagCbor, DagPb, Raw}
+use Rattle.ipld_block.specs.declared.codec.BlockCodec.TheVariants.{DagCbor, DagPb, DagJson, Raw}
 use Rattle.ipld_block.specs.declared.error.InvalidBlock.{InvalidBlock}
 use Rattle.ipld_show.specs.AtPath.{AtPath, found, no_segment, not_a_container, at_segments, LeadsTo}
 use Rattle.ipld_block.specs.Blocks.{IsInvalid, IfInvalid}
@@ -157,6 +157,7 @@ canonical_item t block is =
 pub item_in : (codec : BlockCodec) (bytes block : List ℕ) → IsCborOf codec bytes block → (d : DataItem) × BeginsWithItem d block []
 item_in DagCbor bytes block h = let i = block_item block (ap (error_in true) h.0 ∙ h.1) in (i.0, i.2)
 item_in DagPb bytes block h = let i = canonical_item (node_tree h.node) block h.encodes in (i.0, i.1)
+item_in DagJson bytes block h = let i = block_item block h.is_block in (i.0, i.2)
 item_in Raw bytes block h = let i = canonical_item (tree.bytes bytes) block h in (i.0, i.1)
 
 -- what was made of it, or itself, is such a block

@@ -26,9 +26,9 @@ use Rattle.ipld_show.specs.TreeLevels.{HasCid}
 use Rattle.ipld_show.specs.declared.containers.Extent.{Extent}
 use Rattle.ipld_show.specs.declared.places.Place.{Place}
 use Rattle.ipld_show.specs.declared.places.Entry.{Entry}
-use Rattle.ipld_show.specs.declared.dag_json.Frame.{Frame}
-use Rattle.ipld_show.specs.declared.dag_json.Frame.TheVariants as frame
-use Rattle.ipld_show.specs.declared.dag_json.Step.TheVariants.{Value, End}
+use Rattle.ipld_show.specs.declared.json_text.Frame.{Frame}
+use Rattle.ipld_show.specs.declared.json_text.Frame.TheVariants as frame
+use Rattle.ipld_show.specs.declared.json_text.Step.TheVariants.{Value, End}
 use Rattle.ipld_show.specs.declared.error.ShowError.{ShowError}
 use Rattle.ipld_show.specs.declared.error.ShowError.TheVariants.{Reserved}
 use Rattle.ipld_show.proofs.Skips.{some_bytes}

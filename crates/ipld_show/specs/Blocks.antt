@@ -6,13 +6,20 @@ use Rattle.sha2.specs.Sha256.{sha256}
 use Rattle.ipld_cid.specs.Cid.{Link}
 use Rattle.ipld_cid.specs.declared.cid.Version.TheVariants.{V1}
 use Rattle.ipld_tree.specs.Path.{segments}
+use Rattle.ipld_tokens.specs.Item.{Item}
+use Rattle.ipld_tree.specs.Tree.{Tree}
 use Rattle.ipld_tree.specs.Tree as tree
 use Rattle.dag_cbor_format.specs.Trace.{error_in}
 use Rattle.dag_cbor_format.specs.Canonical.{canonical}
+use Rattle.dag_cbor_blocks.specs.declared.tape.TapeEntry.{TapeEntry}
+use Rattle.dag_cbor_tape.specs.Canonical.{Orders}
+use Rattle.dag_cbor_tape.specs.Describes.{Describes}
+use Rattle.dag_json.specs.Encodes.{EncodesTreeIn}
+use Rattle.dag_json.specs.Tape.{IsTape}
 use Rattle.dag_pb.specs.Node.{NodeParts, IsNode}
 use Rattle.ipld_block.specs.Blocks.{IsInvalid}
 use Rattle.ipld_block.specs.declared.codec.BlockCodec.{BlockCodec}
-use Rattle.ipld_block.specs.declared.codec.BlockCodec.TheVariants.{DagCbor, DagPb, Raw}
+use Rattle.ipld_block.specs.declared.codec.BlockCodec.TheVariants.{DagCbor, DagPb, DagJson, Raw}
 use Rattle.ipld_block.specs.declared.error.CheckError.{CheckError}
 use Rattle.ipld_block.specs.declared.error.CheckError.TheVariants.{Memory as OutOfMemory, Invalid as IsInvalidBlock}
 use Rattle.ipld_show.specs.AtPath.{found, at_segments, LeadsTo}
@@ -29,6 +36,22 @@ pub record StandsForNode (bytes block : List ℕ) : Type 0 where
   pub is_node : IsNode node bytes
   pub encodes : canonical (node_tree node) ≡ Some block
 
+-- The bytes are DAG-JSON that encodes a tree, with floats or without, and the block is the canonical
+-- one of the item that the tape of this tree describes.
+pub record StandsForJson (bytes block : List ℕ) : Type 0 where
+  pub tree : Tree
+  pub encodes : EncodesTreeIn true tree bytes
+  -- its tape, over these contents
+  pub contents : List ℕ
+  pub entries : List TapeEntry
+  pub tape : IsTape contents tree entries
+  -- the item of the tape, and its bytes in the order of the tape
+  pub item : Item 64
+  pub in_turn : List ℕ
+  pub describes : Describes contents item entries in_turn
+  pub orders : Orders item in_turn block
+  pub is_block : error_in true block ≡ None
+
 -- an allocation failed, or this is what is wrong with the bytes, which are no block of the codec, and where
 abbrev pub IsNoBlock : BlockCodec → List ℕ → ShowError → Type 0
 IsNoBlock codec bytes Memory = Unit {0}
@@ -39,11 +62,12 @@ IsNoBlock codec bytes _ = ⊥
 abbrev pub IsNoNode : List ℕ → ShowError → Type 0
 IsNoNode bytes error = IsNoBlock DagPb bytes error
 
--- This block of DAG-CBOR has the tree of these bytes, a block of the codec: it is the bytes themselves, or the canonical block of the tree of a node of DAG-PB, or
--- that of plain bytes.
+-- This block of DAG-CBOR has the tree of these bytes, a block of the codec: it is the bytes themselves, or the canonical block of the tree of a node of DAG-PB, of that
+-- of DAG-JSON, or of plain bytes.
 abbrev pub IsCborOf : BlockCodec → List ℕ → List ℕ → Type 0
 IsCborOf DagCbor bytes block = (block ≡ bytes) × (error_in true bytes ≡ None)
 IsCborOf DagPb bytes block = StandsForNode bytes block
+IsCborOf DagJson bytes block = StandsForJson bytes block
 IsCborOf Raw bytes block = canonical (tree.bytes bytes) ≡ Some block
 
 -- the data item of these bytes, a block of the codec: that of such a block

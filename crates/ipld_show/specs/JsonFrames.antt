@@ -9,10 +9,10 @@ use Rattle.ipld_show.specs.Places.{HoldsPart, ItemsStand, KnownEntry}
 use Rattle.ipld_show.specs.declared.containers.Extent.{Extent}
 use Rattle.ipld_show.specs.declared.places.Place.{Place}
 use Rattle.ipld_show.specs.declared.places.Entry.{Entry}
-use Rattle.ipld_show.specs.declared.dag_json.Frame.{Frame}
-use Rattle.ipld_show.specs.declared.dag_json.Frame.TheVariants as frame
-use Rattle.ipld_show.specs.declared.dag_json.Step.{Step}
-use Rattle.ipld_show.specs.declared.dag_json.Step.TheVariants.{Value, End}
+use Rattle.ipld_show.specs.declared.json_text.Frame.{Frame}
+use Rattle.ipld_show.specs.declared.json_text.Frame.TheVariants as frame
+use Rattle.ipld_show.specs.declared.json_text.Step.{Step}
+use Rattle.ipld_show.specs.declared.json_text.Step.TheVariants.{Value, End}
 
 -- ---- how many items are in one, itself among them
 

@@ -5,15 +5,17 @@ ghost use Rattle.dag_cbor_format.specs.Canonical.{canonical, canonical_items};
 ghost use Rattle.dag_cbor_format.specs.Writing.{Adds};
 ghost use Rattle.dag_pb.specs.Views.{parts_of_link, parts_of_node};
 ghost use Rattle.ipld_tree.specs.Tree as tree;
-ghost use Rattle.ipld_show.specs.Blocks.{StandsForNode, IsNoNode};
+ghost use Rattle.ipld_show.specs.Blocks.{StandsForNode, StandsForJson, IsNoBlock, IsNoNode};
 ghost use Rattle.ipld_show.specs.Entries.{written_entry};
 ghost use Rattle.ipld_show.specs.Node.{link_tree, link_trees, node_tree};
 
 use crate::error::ShowError;
 use dag_cbor_format::Major;
 use dag_cbor_format::write::{write_bytes, write_head, write_link, write_text};
+use dag_cbor_tape::encode_tape;
+use dag_json::{block_limits, tape_from_slice};
 use dag_pb::{PbLink, PbNode, read_node};
-use ipld_block::CheckError;
+use ipld_block::{BlockCodec, CheckError, check};
 use std::alloc::{AllocError, Global};
 
 // Adds the entry of a link's name, where it has one.
@@ -108,6 +110,28 @@ pub(crate) fn node_as_cbor(alloc: Global, bytes: &[u8]) -> Result<Vec<u8>, ShowE
         Err(_) => return Err(ShowError::Memory),
     };
     match write_pb_node(&mut block, &node) {
+        Ok(()) => Ok(block),
+        Err(_) => Err(ShowError::Memory),
+    }
+}
+
+// The tree of a block of DAG-JSON, which may have floats, as a canonical block.
+#[tactic(auto, using(crate::proofs::JsonBlocks::stands))]
+pub(crate) fn json_as_cbor(alloc: Global, bytes: &[u8]) -> Result<Vec<u8>, ShowError>
+    ensures made { IfOk result (λ block. StandsForJson bytes.now block.items) }
+    ensures rejected { IfErr result (IsNoBlock BlockCodec.DagJson bytes.now) }
+{
+    let tape = match tape_from_slice(alloc, bytes, &block_limits(bytes)) {
+        Ok(tape) => tape,
+        Err(error) => return Err(ShowError::from(CheckError::from(error))),
+    };
+    let block = match encode_tape(alloc, &tape.entries, &tape.contents) {
+        Ok(block) => block,
+        // No entry of the tape of a text is at fault, so an allocation failed.
+        Err(_) => return Err(ShowError::Memory),
+    };
+    // For the proof alone: what is written of a tape is a block.
+    match check(alloc, BlockCodec::DagCbor, &block) {
         Ok(()) => Ok(block),
         Err(_) => Err(ShowError::Memory),
     }

@@ -7,9 +7,9 @@ ghost use Rattle.ipld_show.specs.DataItem.{DataItem, BeginsWithItem};
 ghost use Rattle.ipld_show.specs.JsonText.{IsJson, IsJsonError};
 ghost use Rattle.ipld_show.specs.OnPath.{IsLinkOnPath};
 
-use crate::as_cbor::{bytes_as_cbor, node_as_cbor};
-use crate::dag_json::write_json;
+use crate::as_cbor::{bytes_as_cbor, json_as_cbor, node_as_cbor};
 use crate::error::ShowError;
+use crate::json_text::write_json;
 use crate::path::{LinkOnPath, link_before_end, value_at};
 use crate::tree_text::write_tree;
 use ipld_block::{BlockCodec, check};
@@ -27,6 +27,10 @@ fn as_cbor(alloc: Global, codec: BlockCodec, bytes: &[u8]) -> Result<Option<Vec<
             Err(error) => Err(ShowError::from(error)),
         },
         BlockCodec::DagPb => match node_as_cbor(alloc, bytes) {
+            Ok(block) => Ok(Some(block)),
+            Err(error) => Err(error),
+        },
+        BlockCodec::DagJson => match json_as_cbor(alloc, bytes) {
             Ok(block) => Ok(Some(block)),
             Err(error) => Err(error),
         },
@@ -116,7 +120,7 @@ pub fn show<W: Write>(
 ///
 /// - `Invalid` where the bytes are no block.
 /// - `NoSegment` and `NotAContainer` where the path leads to nothing in the block.
-/// - `Memory` where an allocation failed: a block of DAG-PB or of plain bytes is copied.
+/// - `Memory` where an allocation failed: a block of DAG-PB, of DAG-JSON or of plain bytes is made one of DAG-CBOR first.
 pub fn link_on_path(
     alloc: Global,
     codec: BlockCodec,

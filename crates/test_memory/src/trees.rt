@@ -86,6 +86,9 @@ fn read_with_floats(rt: HostRuntime) -> Result<(), Ended> {
         ),
         _ => return Err(Ended::Refused("floats::from_slice")),
     }
+    let links = floats::links_of_block(rt.alloc(), text.as_slice());
+    let links = reported("floats::links_of_block", links)?;
+    assert_eq!(rt; links.as_slice(), [cid(&A)?].as_slice());
     let outcome = tape_from_slice(rt.alloc(), text.as_slice(), &limits);
     let tape = reported("tape_from_slice", outcome)?;
     let block = encode_tape(rt.alloc(), &tape.entries, &tape.contents);

@@ -25,7 +25,7 @@
 //!   lies: with floats, and without where that differs. `cuts f6`: the same of each of its beginnings; `changes 128 f6`: with each byte
 //!   changed in turn; `within 2 9 f6`: with floats, within limits.
 //! - `decoded 2 9 f6`: decodes a block of DAG-CBOR within limits on its levels and values. `size f6`: its levels, values and links.
-//! - `car 1000 0aa16776..`: what is in a CAR, within a limit.
+//! - `car 1000 0aa16776..`: what is in a CAR, within a limit. `linksof dag-json 7b7d`: the links of a block of any codec, or what is wrong with it.
 //!
 //! The expected outcomes were written by short programs in Python, by plain recursion over the formats' definitions: varints and CIDs of
 //! multiformats, `base64.b32encode`, bases by integers of any size, `hashlib`, RFC 8949, `json.dumps` for DAG-JSON, and Rust's `parse` for indexes; those of CARs by
@@ -38,6 +38,7 @@ mod blocks;
 mod bytes;
 mod calls;
 mod cars;
+mod codecs;
 mod convert;
 mod debug;
 mod deep;
@@ -127,6 +128,7 @@ fn of_blocks(alloc: Global, word: &str, rest: &str) -> Result<String, AllocError
         "size" => parts::size(alloc, rest),
         "typed" => values::in_block(alloc, rest),
         "car" => cars::car(alloc, rest),
+        "linksof" => codecs::links(alloc, rest),
         _ => String::from_str(alloc, "no such word"),
     }
 }

@@ -16,13 +16,13 @@ use Rattle.ipld_tree.specs.Walk.{links_of}
 use Rattle.json.specs.Json as json
 use Rattle.json.specs.Lex.{tokens}
 use Rattle.json.specs.Tree.{json_tokens, items_tokens, members_tokens, depth, items_depth, members_depth}
-use Rattle.dag_json.specs.Encodes.{EncodesTree, EncodesWithin, count, items_count, members_count, JsonWithin}
+use Rattle.dag_json.specs.Encodes.{EncodesTree, EncodesTreeIn, EncodesWithinIn, count, items_count, members_count}
 use Rattle.dag_json.specs.ReadMachine.{read_tokens, run, start}
 use Rattle.dag_json.specs.Written.{written}
 use Rattle.dag_json.specs.declared.read_error.ReadErrorKind.{ReadErrorKind}
 use Rattle.dag_json.specs.Lemmas.Reading.{encoded_once, ok_done, whole_read}
 use Rattle.dag_json.specs.Lemmas.Standing.{found}
-use Rattle.dag_json.specs.Codec.{no_limits, decoded, links_found, is_decoded, if_decoded, codec_text}
+use Rattle.dag_json.specs.Codec.{no_limits, decoded, decoded_in, links_found, is_decoded, if_decoded, codec_text}
 
 -- ---- JSON has no more levels and values than tokens
 
@@ -65,8 +65,8 @@ mutual
       let first = count_tokens j in let more = members_count_tokens os in let all = length-append (json_tokens j) (members_tokens os) in omega arith
 
 -- so it passes no limits that its text doesn't
-pub within_tokens : (t : Tree) (s : List ℕ) → EncodesTree t s → EncodesWithin (no_limits s) t s
-within_tokens t s e =
+within_tokens : (floats : Bool) (t : Tree) (s : List ℕ) → EncodesTreeIn floats t s → EncodesWithinIn floats (no_limits s) t s
+within_tokens floats t s e =
     let long = ap length e.is_json in
     let levels = depth_tokens e.json in
     let values = count_tokens e.json in
@@ -78,33 +78,33 @@ from_ok : (r : Result Tree ReadErrorKind) (t : Tree) → result_ok r ≡ Some t 
 from_ok (Ok u) t e = ap Ok cc
 from_ok (Err x) t e = absurd cc
 
-decoded_by : (b : Bool) (t : Tree) (s : List ℕ) → is_utf8 s ≡ b → (if b then result_ok (read_tokens false (no_limits s) (tokens s)) else None) ≡ Some t → EncodesTree t s
-decoded_by false t s utf8 e = absurd cc
-decoded_by true t s utf8 e =
-    let read = from_ok (read_tokens false (no_limits s) (tokens s)) t e in
-    let f = found false (no_limits s) (tokens s) t (ok_done (run false (no_limits s) start (tokens s)) t read) in
+decoded_by : (floats b : Bool) (t : Tree) (s : List ℕ) → is_utf8 s ≡ b → (if b then result_ok (read_tokens floats (no_limits s) (tokens s)) else None) ≡ Some t → EncodesTreeIn floats t s
+decoded_by floats false t s utf8 e = absurd cc
+decoded_by floats true t s utf8 e =
+    let read = from_ok (read_tokens floats (no_limits s) (tokens s)) t e in
+    let f = found floats (no_limits s) (tokens s) t (ok_done (run floats (no_limits s) start (tokens s)) t read) in
     record { utf8 = IsUtf8-from_is_utf8 s utf8; json = f.0; is_json = f.1; encodes = f.2 }
 
-pub decoded_encodes : (t : Tree) (s : List ℕ) → decoded s ≡ Some t → EncodesTree t s
-unfolding decoded
-decoded_encodes t s e = decoded_by (is_utf8 s) t s refl e
+pub decoded_encodes : (floats : Bool) (t : Tree) (s : List ℕ) → decoded_in floats s ≡ Some t → EncodesTreeIn floats t s
+unfolding decoded_in
+decoded_encodes floats t s e = decoded_by floats (is_utf8 s) t s refl e
 
-pub encoded_decodes : (t : Tree) (s : List ℕ) → EncodesTree t s → decoded s ≡ Some t
-unfolding decoded
-encoded_decodes t s e =
-    ap (λ b. if b then result_ok (read_tokens false (no_limits s) (tokens s)) else None) (is_utf8-from_IsUtf8 s e.utf8) ∙ ap result_ok (whole_read false (no_limits s) t s (within_tokens t s e))
+pub encoded_decodes : (floats : Bool) (t : Tree) (s : List ℕ) → EncodesTreeIn floats t s → decoded_in floats s ≡ Some t
+unfolding decoded_in
+encoded_decodes floats t s e =
+    ap (λ b. if b then result_ok (read_tokens floats (no_limits s) (tokens s)) else None) (is_utf8-from_IsUtf8 s e.utf8) ∙ ap result_ok (whole_read floats (no_limits s) t s (within_tokens floats t s e))
 
 pub json_encoded_once : EncodedOnce EncodesTree
 json_encoded_once t u s e f = encoded_once t u s e f
 
 pub json_decodes_encoded : DecodesEncoded EncodesTree decoded
-json_decodes_encoded t s = (decoded_encodes t s, encoded_decodes t s)
+json_decodes_encoded t s = (decoded_encodes false t s, encoded_decodes false t s)
 
 -- ---- what is written
 
 decoded_is : (t : Tree) (s : List ℕ) (o : Option Tree) → decoded s ≡ o → is_decoded t o ≡ true → EncodesTree t s
 decoded_is t s None e is = absurd cc
-decoded_is t s (Some u) e is = decoded_encodes t s (e ∙ ap Some ((tree_decides u t).0 is))
+decoded_is t s (Some u) e is = decoded_encodes false t s (e ∙ ap Some ((tree_decides u t).0 is))
 
 if_is : (b : Bool) (x s : List ℕ) → (if b then Some x else None) ≡ Some s → (b ≡ true) × (x ≡ s)
 if_is true x s e = (refl, cc)

@@ -2,10 +2,12 @@
 
 use clap::ArgMatches;
 use dag_cbor_tape::{EncodeErrorKind, encode_tape};
-use dag_json::{ReadError, ReadErrorKind, from_canonical, from_slice, tape_from_slice, to_vec};
+use dag_json::{
+    ReadError, ReadErrorKind, floats, from_canonical, from_slice, tape_from_slice, to_vec,
+};
 use ipld_cli::{
-    Content, Outcome, Output, OutputError, output_of, read_file, report, report_out_of_memory,
-    report_unreadable, report_unwritable, write,
+    Content, Outcome, Output, OutputError, TextPlace, output_of, read_file, report,
+    report_out_of_memory, report_unreadable, report_unwritable, write,
 };
 use ipld_codec::{Codec, RawCodec, RawError};
 use ipld_show::write_json;
@@ -189,34 +191,6 @@ fn bytes_of(alloc: Global, tree: &Ipld) -> Result<Vec<u8>, EncodeError> {
     }
 }
 
-// A place in a text: the line and the column, counted from 1, the column in bytes.
-#[derive(Clone, Copy, Drop)]
-struct Place {
-    line: usize,
-    column: usize,
-}
-
-impl fmt::Display for Place {
-    fn fmt<W: fmt::Write>(&self, f: &mut fmt::Formatter<W>) -> fmt::Result {
-        write!(f, "line {}, column {}", self.line, self.column)
-    }
-}
-
-// Where a byte stands.
-fn place_of(text: &[u8], offset: usize) -> Place {
-    let mut line = 1usize;
-    let mut column = 1usize;
-    for byte in text.iter().take(offset) {
-        if *byte == b'\n' {
-            line = line.saturating_add(1);
-            column = 1;
-        } else {
-            column = column.saturating_add(1);
-        }
-    }
-    Place { line, column }
-}
-
 // What is wrong with a text, in the words of the format that was asked for.
 #[derive(Clone, Copy, Drop)]
 struct Wrong {
@@ -226,16 +200,13 @@ struct Wrong {
 
 impl fmt::Display for Wrong {
     fn fmt<W: fmt::Write>(&self, f: &mut fmt::Formatter<W>) -> fmt::Result {
-        match (self.format, self.error.kind) {
-            (Format::DagCbor, ReadErrorKind::Float) => {
-                f.write_str("the number is beyond the floats of 64 bits")?
+        match self.format {
+            Format::DagCbor => {
+                let (why, offset) = (floats::describe(self.error.kind), self.error.offset);
+                write!(f, "{why} at byte {offset}")
             }
-            (Format::DagCbor, ReadErrorKind::IntegerRange) => {
-                f.write_str("the integer is below -2^64 or above 2^64 - 1")?
-            }
-            _ => return write!(f, "{:#}", self.error),
+            Format::DagJson | Format::Raw => write!(f, "{:#}", self.error),
         }
-        write!(f, " at byte {}", self.error.offset)
     }
 }
 
@@ -256,7 +227,7 @@ fn report_error(
             rt, file,
         ),
         EncodeError::Text(error) => {
-            let place = place_of(text, error.offset);
+            let place = TextPlace::of_offset(text, error.offset);
             let wrong = Wrong {
                 error: *error,
                 format,

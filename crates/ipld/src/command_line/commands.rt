@@ -7,7 +7,7 @@ pub(super) const ABOUT: &str = "Reads IPLD blocks, CIDs and CAR files";
 
 pub(super) const WORDS: &str = "\
 Words:
-  block   bytes that stand for one value: DAG-CBOR, DAG-PB (files and folders of IPFS), or plain bytes (raw)
+  block   bytes that stand for one value: DAG-CBOR, DAG-PB (files and folders of IPFS), DAG-JSON, or plain bytes (raw)
   CID     a content identifier: the codec of a block and the hash of its bytes; the name of the block
   link    a CID that stands in a block
   FILE    a file, or - for standard input
@@ -32,8 +32,8 @@ const FLAG: Argument = Argument {
 const BLOCK_CODEC: Argument = Argument {
     name: "codec",
     short: Some('c'),
-    kind: Kind::Codec(&["dag-cbor", "dag-pb", "raw"]),
-    help: "What the bytes are: dag-cbor, dag-pb or raw",
+    kind: Kind::Codec(&["dag-cbor", "dag-pb", "dag-json", "raw"]),
+    help: "What the bytes are: dag-cbor, dag-pb, dag-json or raw",
     ..FLAG
 };
 

@@ -1,8 +1,10 @@
 //! What stands at the byte where a block goes wrong, in a sentence.
 
 use crate::messages::start::{ItemStart, item_start};
+use crate::messages::text_place::TextPlace;
 use dag_cbor::item::read_key;
 use dag_cbor::{BlockErrorKind, CborError};
+use dag_json::{ReadError, floats};
 use ipld_block::{BlockCodec, CheckError, InvalidBlock, check};
 use std::alloc::Global;
 use std::fmt;
@@ -16,7 +18,7 @@ const SHORT_KEY: usize = 64;
 /// What is wrong with bytes that are no block, by a second look at the byte where they go wrong.
 ///
 /// Its `Display` is a sentence as that of [`InvalidBlock`], which says of DAG-CBOR what stands there: which tag, which simple value, a float
-/// of how many bits, what a string that is cut was to have.
+/// of how many bits, what a string that is cut was to have. Of DAG-JSON it has the line and the column.
 #[derive(Clone, Copy, Debug)]
 pub struct Explanation<'a> {
     block: &'a [u8],
@@ -32,7 +34,7 @@ impl<'a> Explanation<'a> {
     pub fn new(alloc: Global, block: &'a [u8], why: InvalidBlock) -> Self {
         let is_behind_tag = match why {
             InvalidBlock::Cbor(error) => is_behind_tag(alloc, block, error.offset),
-            InvalidBlock::Pb(_) | InvalidBlock::NotCanonical => false,
+            InvalidBlock::Pb(_) | InvalidBlock::Json(_) | InvalidBlock::NotCanonical => false,
         };
         Explanation {
             block,
@@ -60,8 +62,10 @@ fn is_behind_tag(alloc: Global, block: &[u8], offset: usize) -> bool {
 
 impl<'a> fmt::Display for Explanation<'a> {
     fn fmt<W: fmt::Write>(&self, f: &mut fmt::Formatter<W>) -> fmt::Result {
-        let InvalidBlock::Cbor(error) = self.why else {
-            return self.why.fmt(f);
+        let error = match self.why {
+            InvalidBlock::Cbor(error) => error,
+            InvalidBlock::Json(error) => return self.write_json(f, error),
+            why => return why.fmt(f),
         };
         let Some(item) = self.block.get(error.offset..) else {
             return self.why.fmt(f);
@@ -77,6 +81,18 @@ impl<'a> fmt::Display for Explanation<'a> {
 }
 
 impl<'a> Explanation<'a> {
+    // What is wrong with the text, and in which line.
+    fn write_json<W: fmt::Write>(
+        &self,
+        f: &mut fmt::Formatter<W>,
+        error: ReadError,
+    ) -> fmt::Result {
+        let place = TextPlace::of_offset(self.block, error.offset);
+        let why = floats::describe(error.kind);
+        let offset = error.offset;
+        write!(f, "no block of DAG-JSON: {place}: {why} at byte {offset}")
+    }
+
     // What is wrong with the item.
     fn write_cbor<W: fmt::Write>(
         &self,

@@ -33,6 +33,7 @@ impl fmt::Display for Hint {
             Hint::Car => " (it is a CAR file: ipld car reads it)",
             Hint::Block(BlockCodec::DagCbor) => " (it is a block of DAG-CBOR: --codec dag-cbor)",
             Hint::Block(BlockCodec::DagPb) => " (it is a block of DAG-PB: --codec dag-pb)",
+            Hint::Block(BlockCodec::DagJson) => " (it is a block of DAG-JSON: --codec dag-json)",
             Hint::Block(BlockCodec::Raw) => "",
             Hint::NoCar => " (it is a block of DAG-CBOR: ipld show reads it)",
             Hint::CidText => " (it is the text of a CID: ipld cid --text reads it)",
@@ -79,6 +80,11 @@ impl Hint {
     /// finds no memory, it knows less.
     pub fn of_no_block(alloc: Global, codec: BlockCodec, bytes: &[u8]) -> Hint {
         match hint_of_text(bytes) {
+            // What is wrong with the text was said.
+            Some(Hint::Text) if codec == BlockCodec::DagJson => Hint::Unknown,
+            Some(Hint::Text) if check(alloc, BlockCodec::DagJson, bytes).is_ok() => {
+                Hint::Block(BlockCodec::DagJson)
+            }
             Some(hint) => hint,
             None if CarReader::new(alloc, bytes, DEFAULT_LIMIT).is_ok() => Hint::Car,
             None => hint_of_block(alloc, codec, bytes),

@@ -1,9 +1,0 @@
-use Rattle.std.proofs.Common.{ℕ, List, length, reverse}
-use Rattle.ipld_show.specs.DataItem.{DataItem, BeginsWithItem}
-use Rattle.ipld_show.proofs.Jsons.{Running}
-use Rattle.ipld_show.proofs.dag_json.write_json.Given as goal
-
-abbrev pub invariant-loop : goal.invariant-loop
-invariant-loop g l =
-    (d : DataItem) (behind : List ℕ) → BeginsWithItem d l.value behind
-    → Running d (length l.value) (reverse l.frames.items) l.place (g.W.Write.contents l.initial.writer) (g.W.Write.contents l.writer) l.counter

@@ -1,0 +1,46 @@
+//! Blocks of any codec.
+
+use dag_pb::DagPbCodec;
+use ipld_block::{BlockCodec, check, links_of};
+use ipld_codec::{Links, RawCodec};
+use std::alloc::{AllocError, Global};
+
+/// The links of a block, each behind a blank, or what is wrong with it: the name of its codec, a blank and the block.
+pub fn links(alloc: Global, row: &str) -> Result<String, AllocError> {
+    let (name, digits) = row.split_once(' ').unwrap_or((row, ""));
+    let (Some(codec), Ok(block)) = (BlockCodec::from_name(name), hex::decode(alloc, digits)) else {
+        return String::from_str(alloc, "no codec and block");
+    };
+    let links = match (links_of(alloc, codec, &block), check(alloc, codec, &block)) {
+        (Ok(links), Ok(())) => links,
+        (Err(error), Err(other)) if error == other => return format!(in alloc; "{error}"),
+        _ => return String::from_str(alloc, "another outcome of check"),
+    };
+    if !is_count(alloc, codec, &block, links.len()) {
+        return String::from_str(alloc, "other links of the codec");
+    }
+    let mut text = String::from_str(alloc, "links")?;
+    for link in &links {
+        let link = format!(in alloc; " {link}")?;
+        text.push_str(&link)?;
+    }
+    Ok(text)
+}
+
+// Whether the type of the codec finds so many links.
+fn is_count(alloc: Global, codec: BlockCodec, block: &[u8], count: usize) -> bool {
+    match codec {
+        BlockCodec::DagPb => count_links::<DagPbCodec>(alloc, block) == Some(count),
+        BlockCodec::Raw => count_links::<RawCodec>(alloc, block) == Some(count),
+        // Their types read no floats.
+        BlockCodec::DagCbor | BlockCodec::DagJson => true,
+    }
+}
+
+// How many links a block has.
+fn count_links<C: Links>(alloc: Global, block: &[u8]) -> Option<usize> {
+    match C::links(alloc, block) {
+        Ok(links) => Some(links.count()),
+        Err(_) => None,
+    }
+}
