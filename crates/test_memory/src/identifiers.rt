@@ -75,13 +75,12 @@ fn written_in_bases(rt: HostRuntime) -> Result<(), Ended> {
 
 #[test]
 fn written_as_usual(rt: HostRuntime) -> Result<(), Ended> {
-    let text = reported("usual_text", usual_text(rt.alloc(), &cid(&V0)?))?;
-    assert_eq!(rt;
-        text.as_str(),
-        "QmNLei78zWmzUdbeRB3CiUfAizWUrbeeZh5K1rhAQKCh51"
-    );
-    let text = reported("usual_text", usual_text(rt.alloc(), &cid(&V1)?))?;
-    assert_eq!(rt; text.as_str(), V1_TEXT);
+    let old = cid(&V0)?;
+    let text = reported("usual_text", usual_text(rt.alloc(), &old))?;
+    assert_eq!(rt; text.as_str(), "QmNLei78zWmzUdbeRB3CiUfAizWUrbeeZh5K1rhAQKCh51");
+    let new = cid(&V1)?;
+    let printed = reported("usual_text", usual_text(rt.alloc(), &new))?;
+    assert_eq!(rt; printed.as_str(), V1_TEXT);
     Ok(())
 }
 

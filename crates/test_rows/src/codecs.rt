@@ -11,11 +11,19 @@ pub fn links(alloc: Global, row: &str) -> Result<String, AllocError> {
     let (Some(codec), Ok(block)) = (BlockCodec::from_name(name), hex::decode(alloc, digits)) else {
         return String::from_str(alloc, "no codec and block");
     };
-    let links = match (links_of(alloc, codec, &block), check(alloc, codec, &block)) {
-        (Ok(links), Ok(())) => links,
-        (Err(error), Err(other)) if error == other => return format!(in alloc; "{error}"),
-        _ => return String::from_str(alloc, "another outcome of check"),
+    let checked = check(alloc, codec, &block);
+    let links = match links_of(alloc, codec, &block) {
+        Ok(links) => links,
+        Err(error) => {
+            return match checked {
+                Err(other) if other == error => format!(in alloc; "{error}"),
+                _ => String::from_str(alloc, "another outcome of check"),
+            };
+        }
     };
+    if checked.is_err() {
+        return String::from_str(alloc, "another outcome of check");
+    }
     if !is_count(alloc, codec, &block, links.len()) {
         return String::from_str(alloc, "other links of the codec");
     }
