@@ -77,7 +77,10 @@ fn written_in_bases(rt: HostRuntime) -> Result<(), Ended> {
 fn written_as_usual(rt: HostRuntime) -> Result<(), Ended> {
     let old = cid(&V0)?;
     let text = reported("usual_text", usual_text(rt.alloc(), &old))?;
-    assert_eq!(rt; text.as_str(), "QmNLei78zWmzUdbeRB3CiUfAizWUrbeeZh5K1rhAQKCh51");
+    assert_eq!(rt;
+        text.as_str(),
+        "QmNLei78zWmzUdbeRB3CiUfAizWUrbeeZh5K1rhAQKCh51"
+    );
     let new = cid(&V1)?;
     let printed = reported("usual_text", usual_text(rt.alloc(), &new))?;
     assert_eq!(rt; printed.as_str(), V1_TEXT);
