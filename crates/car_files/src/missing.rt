@@ -26,7 +26,8 @@ use std::io::{BufRead, Write};
 pub struct Missing {
     /// What was seen of the blocks of the file.
     pub seen: Seen,
-    /// The CIDs of the blocks that are missing, each once, those first that the file names first.
+    /// The CIDs of the blocks that are missing, each once, in the order in which the file has them first. Those in a block that a CID
+    /// carries (by the identity hash) come from the last to the first.
     pub missing: Vec<Cid>,
 }
 
