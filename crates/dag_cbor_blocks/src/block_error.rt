@@ -58,8 +58,6 @@ impl fmt::Display for BlockErrorKind {
     }
 }
 
-impl error::Error for BlockErrorKind {}
-
 /// Why a block isn't read within limits, and where reading stopped.
 ///
 /// Its `Display` is that of the kind, also with `#`, then ` at byte `, and the offset.

@@ -91,8 +91,6 @@ impl fmt::Display for EncodeErrorKind {
     }
 }
 
-impl error::Error for EncodeErrorKind {}
-
 impl From<AllocError> for EncodeErrorKind {
     ghost use Rattle.std.specs.Prelude.{◌≡◌};
     ghost use Rattle.dag_cbor_tape.specs.declared.error.EncodeErrorKind.TheVariants.{Memory};

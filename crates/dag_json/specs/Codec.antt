@@ -1,23 +1,22 @@
 -- DAG-JSON as a codec (multicodec "dag-json", 0x0129).
-use Rattle.std.specs.Prelude.{◌≡◌, ℕ, if◌then◌else◌, Bool, false, List, length, max, Option, Some, None, Err, option_map, option_and_then}
+use Rattle.std.specs.Prelude.{◌≡◌, ◌⊎◌, ℕ, if◌then◌else◌, Bool, false, List, length, max, Option, Some, None, Err, option_map, option_and_then}
 use Rattle.std.specs.Result.{result_ok}
 use Rattle.std.specs.Str.{is_utf8}
 use Rattle.ipld_cid.specs.Cid.{Link}
 use Rattle.ipld_codec.specs.Codec.{Failure, memory, reading, writing}
 use Rattle.ipld_tree.specs.Equal.{tree_eq}
 use Rattle.ipld_tree.specs.Tree.{Tree}
-use Rattle.ipld_tree.specs.Walk.{links_of, preorder}
+use Rattle.ipld_tree.specs.Walk.{links_of}
 use Rattle.ipld_tree.specs.declared.limits.Limits.{Limits}
 use Rattle.json.specs.Lex.{tokens}
 use Rattle.dag_json.specs.Offset.{SaysWhere}
 use Rattle.dag_json.specs.ReadContract.{ReadsBytes}
 use Rattle.dag_json.specs.ReadMachine.{read_tokens}
-use Rattle.dag_json.specs.Reserved.{first_reserved, Counts}
 use Rattle.dag_json.specs.Written.{written}
 use Rattle.dag_json.specs.declared.read_error.ReadError.{ReadError}
 use Rattle.dag_json.specs.declared.read_error.ReadErrorKind.TheVariants as kind
-use Rattle.dag_json.specs.declared.codec.error.DagJsonCodecError.{DagJsonCodecError}
-use Rattle.dag_json.specs.declared.codec.error.DagJsonCodecError.TheVariants.{Memory, Read, Write, Text, Reserved}
+use Rattle.dag_json.specs.declared.error.DagJsonError.{DagJsonError}
+use Rattle.dag_json.specs.declared.error.DagJsonError.TheVariants.{Memory, Read, Write, Text, Reserved}
 
 -- limits that no JSON passes that has the tokens of the text
 abbrev pub no_limits : List ℕ → Limits
@@ -56,7 +55,7 @@ codec_text t = option_and_then (if_decoded t) (written t)
 
 -- The failure that an error reports, of an allocation, a reader or a writer, or nothing if the
 -- error is in the value or in the block.
-abbrev pub codec_failure : DagJsonCodecError → Option Failure
+abbrev pub codec_failure : DagJsonError → Option Failure
 codec_failure Memory = Some memory
 codec_failure Read = Some reading
 codec_failure Write = Some writing
@@ -74,22 +73,15 @@ abbrev pub IsBlockError : Bool → List ℕ → ReadError → Type 0
 IsBlockError floats s e = (e.kind ≡ kind.Memory → ⊥) × ReadsBytes floats (limits_of s) s (Err e) × SaysWhere floats (limits_of s) s e
 
 -- the error is the first of the block, without floats
-abbrev pub IsTextError : List ℕ → DagJsonCodecError → Type 0
+abbrev pub IsTextError : List ℕ → DagJsonError → Type 0
 IsTextError s (Text e) = IsBlockError false s e
-IsTextError s Memory = ⊥
-IsTextError s Read = ⊥
-IsTextError s Write = ⊥
-IsTextError s (Reserved place) = ⊥
+IsTextError s _ = ⊥
 
 -- the error is the one that reading the bytes comes to that a reader had, where these are known, and else some bytes
-abbrev pub IsTextErrorOf : Option (List ℕ) → DagJsonCodecError → Type 0
+abbrev pub IsTextErrorOf : Option (List ℕ) → DagJsonError → Type 0
 IsTextErrorOf None error = (block : List ℕ) × IsTextError block error
 IsTextErrorOf (Some block) error = IsTextError block error
 
--- the error says how many values of the tree come before its first reserved map, or is `usize::MAX` where that is more
-abbrev pub IsReservedIn : Tree → DagJsonCodecError → Type 0
-IsReservedIn t (Reserved place) = Counts (first_reserved (preorder t)) (Some place)
-IsReservedIn t Memory = ⊥
-IsReservedIn t Read = ⊥
-IsReservedIn t Write = ⊥
-IsReservedIn t (Text e) = ⊥
+-- a failed allocation is reported as such, and any other error of a text with where it is
+abbrev pub IsErrorOfText : ReadError → DagJsonError → Type 0
+IsErrorOfText e made = ((e.kind ≡ kind.Memory) × (made ≡ Memory)) ⊎ ((e.kind ≡ kind.Memory → ⊥) × (made ≡ Text e))

@@ -1,5 +1,6 @@
 -- What the errors print.
-use Rattle.std.specs.Prelude.{ℕ, Bool, List, ◌++◌, codes, if◌then◌else◌}
+use Rattle.std.specs.Prelude.{ℕ, Bool, List, ◌++◌, codes, Some, if◌then◌else◌}
+use Rattle.std.specs.declared.option.Option.{Option}
 use Rattle.std.specs.Fmt.{decimal}
 use Rattle.dag_json.specs.declared.error.DagJsonError.{DagJsonError}
 use Rattle.dag_json.specs.declared.error.DagJsonError.TheVariants as tree
@@ -65,12 +66,18 @@ printed alternate error = printed_kind alternate error.kind ++ place_of error.of
 abbrev pub reserved_value : ℕ → List ℕ
 reserved_value place = codes "value " ++ (decimal place ++ codes " is a map that DAG-JSON reads as a link or as bytes")
 
--- what an error of writing prints by `{}`
-abbrev pub write_name : DagJsonError → List ℕ
-write_name tree.Memory = codes "Memory"
-write_name (tree.Reserved place) = codes "Reserved"
+-- what an error of writing or of the codec prints by `{}`, where `text` is what the error of a text prints
+abbrev pub write_name : (ReadError → Option (List ℕ)) → DagJsonError → Option (List ℕ)
+write_name text tree.Memory = Some (codes "Memory")
+write_name text tree.Read = Some (codes "Read")
+write_name text tree.Write = Some (codes "Write")
+write_name text (tree.Text error) = text error
+write_name text (tree.Reserved place) = Some (codes "Reserved")
 
 -- what it prints under options, by whether `#` is among them
-abbrev pub printed_write : Bool → DagJsonError → List ℕ
-printed_write alternate tree.Memory = if alternate then codes "out of memory" else codes "Memory"
-printed_write alternate (tree.Reserved place) = if alternate then reserved_value place else codes "Reserved"
+abbrev pub printed_write : (ReadError → Option (List ℕ)) → Bool → DagJsonError → Option (List ℕ)
+printed_write text alternate tree.Memory = Some (if alternate then codes "out of memory" else codes "Memory")
+printed_write text alternate tree.Read = Some (if alternate then codes "the reader failed" else codes "Read")
+printed_write text alternate tree.Write = Some (if alternate then codes "the writer failed" else codes "Write")
+printed_write text alternate (tree.Text error) = text error
+printed_write text alternate (tree.Reserved place) = Some (if alternate then reserved_value place else codes "Reserved")

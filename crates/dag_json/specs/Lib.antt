@@ -18,7 +18,6 @@ pub mod Cursors
 pub mod Errors
 pub mod Codec
 pub mod Lemmas
-pub mod CodecErrors
 pub mod Tape
 pub mod TapeWriting
 pub mod TapeOpen

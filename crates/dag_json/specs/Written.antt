@@ -5,7 +5,7 @@ use Rattle.ipld_tree.specs.Walk.{preorder}
 use Rattle.dag_json.specs.Form.{text_of}
 use Rattle.dag_json.specs.Reserved.{has_reserved, first_reserved, Counts}
 use Rattle.dag_json.specs.declared.error.DagJsonError.{DagJsonError}
-use Rattle.dag_json.specs.declared.error.DagJsonError.TheVariants.{Memory, Reserved}
+use Rattle.dag_json.specs.declared.error.DagJsonError.TheVariants.{Reserved}
 
 -- The text of a tree, or nothing if a map in the tree is reserved.
 abbrev pub written : Tree → Option (List ℕ)
@@ -14,5 +14,5 @@ written t = if has_reserved t then None else Some (text_of t)
 -- True if the error reports how many values come before the first reserved map, or `usize::MAX` if
 -- that is more.
 abbrev pub IsReserved : Tree → DagJsonError → Type 0
-IsReserved t Memory = ⊥
 IsReserved t (Reserved place) = Counts (first_reserved (preorder t)) (Some place)
+IsReserved t _ = ⊥

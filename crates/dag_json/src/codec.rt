@@ -5,13 +5,11 @@ ghost use Rattle.ipld_codec.specs.Codec.{memory, reading, writing, MemoryOr, Wri
 ghost use Rattle.ipld_codec.specs.LinkIter.{links_left};
 ghost use Rattle.ipld_tree.specs.Tree.{Tree};
 ghost use Rattle.ipld_tree.specs.TreeOf.{tree_of};
-ghost use Rattle.dag_json.specs.Codec.{decoded, links_found, codec_text, codec_failure, IsTextError, IsTextErrorOf, IsReservedIn};
-
-mod error;
+ghost use Rattle.dag_json.specs.Codec.{decoded, links_found, codec_text, codec_failure, IsTextError, IsTextErrorOf};
+ghost use Rattle.dag_json.specs.Written.{IsReserved};
 
 use crate::block::{decode_block, find_links};
-use crate::{DagJsonError, ReadError, ReadErrorKind, to_vec};
-pub use error::DagJsonCodecError;
+use crate::{DagJsonError, to_vec};
 use ipld_codec::{Codec, LinkIter, Links, RawCodec, RawError, TreeCodec};
 use ipld_tree::Ipld;
 use std::alloc::Global;
@@ -27,60 +25,42 @@ use std::io::{BufRead, ErrorKind, Write};
 pub struct DagJsonCodec;
 
 // The tree of a block.
-fn decode_tree(alloc: Global, bytes: &[u8]) -> Result<Ipld, DagJsonCodecError>
+fn decode_tree(alloc: Global, bytes: &[u8]) -> Result<Ipld, DagJsonError>
     ensures ok { IfOk result (λ tree. decoded bytes.now ≡ Some (tree_of tree)) }
-    ensures err { IfErr result (λ error. (error ≡ DagJsonCodecError.Memory)
+    ensures err { IfErr result (λ error. (error ≡ DagJsonError.Memory)
         ⊎ ((codec_failure error ≡ None) × (decoded bytes.now ≡ None))) }
-    ensures errors { IfErr result (λ error. (error ≡ DagJsonCodecError.Memory) ⊎ IsTextError bytes.now error) }
+    ensures errors { IfErr result (λ error. (error ≡ DagJsonError.Memory) ⊎ IsTextError bytes.now error) }
 {
-    match decode_block(alloc, bytes, false) {
-        Ok(tree) => Ok(tree),
-        Err(error) => Err(error_of(error)),
-    }
-}
-
-// The error of a block that isn't read.
-fn error_of(error: ReadError) -> DagJsonCodecError
-    ensures { ((error.kind ≡ ReadErrorKind.Memory) × (result ≡ DagJsonCodecError.Memory))
-        ⊎ ((error.kind ≡ ReadErrorKind.Memory → ⊥) × (result ≡ DagJsonCodecError.Text error)) }
-{
-    match error.kind {
-        ReadErrorKind::Memory => DagJsonCodecError::Memory,
-        _ => DagJsonCodecError::Text(error),
-    }
+    Ok(decode_block(alloc, bytes, false)?)
 }
 
 // The block of a tree.
-fn encode_block(alloc: Global, value: &Ipld) -> Result<Vec<u8>, DagJsonCodecError>
+fn encode_block(alloc: Global, value: &Ipld) -> Result<Vec<u8>, DagJsonError>
     ensures ok { IfOk result (λ text. codec_text (tree_of value.now) ≡ Some text.items) }
-    ensures err { IfErr result (λ error. (error ≡ DagJsonCodecError.Memory)
+    ensures err { IfErr result (λ error. (error ≡ DagJsonError.Memory)
         ⊎ ((codec_failure error ≡ None) × (codec_text (tree_of value.now) ≡ None))) }
-    ensures errors { IfErr result (λ error. (error ≡ DagJsonCodecError.Memory) ⊎ IsReservedIn (tree_of value.now) error) }
+    ensures errors { IfErr result (λ error. (error ≡ DagJsonError.Memory) ⊎ IsReserved (tree_of value.now) error) }
 {
     // For the proof alone: the keys of each map ascend.
     value.try_nesting(alloc)?;
-    match to_vec(alloc, value) {
-        Ok(text) => Ok(text),
-        Err(DagJsonError::Memory) => Err(DagJsonCodecError::Memory),
-        Err(DagJsonError::Reserved(place)) => Err(DagJsonCodecError::Reserved(place)),
-    }
+    to_vec(alloc, value)
 }
 
 // All that the reader still has.
-fn read_block<R: BufRead>(alloc: Global, reader: &mut R) -> Result<Vec<u8>, DagJsonCodecError>
+fn read_block<R: BufRead>(alloc: Global, reader: &mut R) -> Result<Vec<u8>, DagJsonError>
     ensures ok { IfOk result (λ bytes. IfSome (R.remaining reader.old) (λ block. block ≡ bytes.items)) }
     ensures read_out { OnOk result (IsReadOut (R.remaining reader.old) (R.remaining reader.new)) }
-    ensures err { IfErr result (λ error. (error ≡ DagJsonCodecError.Memory) ⊎ (error ≡ DagJsonCodecError.Read)) }
+    ensures err { IfErr result (λ error. (error ≡ DagJsonError.Memory) ⊎ (error ≡ DagJsonError.Read)) }
 {
     match RawCodec::decode(alloc, reader) {
         Ok(Ipld::Bytes(bytes)) => Ok(bytes),
-        Err(RawError::Memory) => Err(DagJsonCodecError::Memory),
-        _ => Err(DagJsonCodecError::Read),
+        Err(RawError::Memory) => Err(DagJsonError::Memory),
+        _ => Err(DagJsonError::Read),
     }
 }
 
 impl Links for DagJsonCodec {
-    type LinksError = DagJsonCodecError;
+    type LinksError = DagJsonError;
 
     ghost found = { links_found };
 
@@ -91,23 +71,21 @@ impl Links for DagJsonCodec {
     /// # Errors
     ///
     /// `Memory` where an allocation failed, else `Text`, as of [`Codec::decode_from_slice`].
-    fn links(alloc: Global, bytes: &[u8]) -> Result<LinkIter, DagJsonCodecError>
+    fn links(alloc: Global, bytes: &[u8]) -> Result<LinkIter, DagJsonError>
         ensures ok { IfOk result (λ links. links_found bytes.now ≡ Some (links_left links)) }
         ensures err { IfErr result (λ error. MatchOption (codec_failure error)
             (links_found bytes.now ≡ None) (λ failure. failure ≡ memory)) }
-        ensures errors { IfErr result (λ error. (error ≡ DagJsonCodecError.Memory) ⊎ IsTextError bytes.now error) }
+        ensures errors { IfErr result (λ error. (error ≡ DagJsonError.Memory) ⊎ IsTextError bytes.now error) }
     {
-        match find_links(alloc, bytes, false) {
-            Ok(cids) => Ok(LinkIter::new(cids)),
-            Err(error) => Err(error_of(error)),
-        }
+        let cids = find_links(alloc, bytes, false)?;
+        Ok(LinkIter::new(cids))
     }
 }
 
 impl Codec<Ipld> for DagJsonCodec {
     const CODE: u64 = 0x0129;
 
-    type Error = DagJsonCodecError;
+    type Error = DagJsonError;
 
     ghost use Rattle.dag_json.specs.Encodes.{EncodesTree};
     ghost use Rattle.dag_json.specs.Lemmas.CodecLaws.{json_encoded_once, json_decodes_encoded, json_writes_encoded};
@@ -133,13 +111,13 @@ impl Codec<Ipld> for DagJsonCodec {
     /// - `Read` where the reader failed or did not end.
     /// - `Memory` where an allocation failed.
     /// - Else `Text`, the first error of the block. `Write` and `Reserved` are never returned.
-    fn decode<R: BufRead>(alloc: Global, reader: &mut R) -> Result<Ipld, DagJsonCodecError>
+    fn decode<R: BufRead>(alloc: Global, reader: &mut R) -> Result<Ipld, DagJsonError>
         ensures ok { IfOk result (λ value. IfSome (R.remaining reader.old) (λ block. decoded block ≡ Some (tree_of value))) }
         ensures read_out { OnOk result (IsReadOut (R.remaining reader.old) (R.remaining reader.new)) }
         ensures err { IfErr result (λ error. MatchOption (codec_failure error)
             (IfSome (R.remaining reader.old) (λ block. decoded block ≡ None)) (MemoryOr reading)) }
-        ensures errors { IfErr result (λ error. (error ≡ DagJsonCodecError.Memory)
-            ⊎ ((error ≡ DagJsonCodecError.Read) ⊎ IsTextErrorOf (R.remaining reader.old) error)) }
+        ensures errors { IfErr result (λ error. (error ≡ DagJsonError.Memory)
+            ⊎ ((error ≡ DagJsonError.Read) ⊎ IsTextErrorOf (R.remaining reader.old) error)) }
     {
         match read_block(alloc, reader) {
             Ok(block) => decode_tree(alloc, &block),
@@ -158,14 +136,14 @@ impl Codec<Ipld> for DagJsonCodec {
         alloc: Global,
         writer: &mut W,
         value: &Ipld,
-    ) -> Result<(), DagJsonCodecError>
+    ) -> Result<(), DagJsonError>
         ensures ok { OnOk result (Writes (codec_text (tree_of value.now)) (W.contents writer.old) (W.contents writer.new)) }
         ensures err { IfErr result (λ error. MatchOption (codec_failure error)
             (codec_text (tree_of value.now) ≡ None) (MemoryOr writing)) }
-        ensures errors { IfErr result (λ error. (error ≡ DagJsonCodecError.Memory)
-            ⊎ ((error ≡ DagJsonCodecError.Write) ⊎ IsReservedIn (tree_of value.now) error)) }
+        ensures errors { IfErr result (λ error. (error ≡ DagJsonError.Memory)
+            ⊎ ((error ≡ DagJsonError.Write) ⊎ IsReserved (tree_of value.now) error)) }
         ensures rejected { codec_text (tree_of value.now) ≡ None → (writer.new ≡ writer.old)
-            × IsErrAnd result (λ error. (error ≡ DagJsonCodecError.Memory) ⊎ IsReservedIn (tree_of value.now) error) }
+            × IsErrAnd result (λ error. (error ≡ DagJsonError.Memory) ⊎ IsReserved (tree_of value.now) error) }
     {
         let text = match encode_block(alloc, value) {
             Ok(text) => text,
@@ -173,8 +151,8 @@ impl Codec<Ipld> for DagJsonCodec {
         };
         match writer.write_all(&text) {
             Ok(()) => Ok(()),
-            Err(error) if error.kind() == ErrorKind::OutOfMemory => Err(DagJsonCodecError::Memory),
-            Err(_) => Err(DagJsonCodecError::Write),
+            Err(error) if error.kind() == ErrorKind::OutOfMemory => Err(DagJsonError::Memory),
+            Err(_) => Err(DagJsonError::Write),
         }
     }
 
@@ -183,11 +161,11 @@ impl Codec<Ipld> for DagJsonCodec {
     /// # Errors
     ///
     /// `Memory` where an allocation failed, else `Text`.
-    fn decode_from_slice(alloc: Global, bytes: &[u8]) -> Result<Ipld, DagJsonCodecError>
+    fn decode_from_slice(alloc: Global, bytes: &[u8]) -> Result<Ipld, DagJsonError>
         ensures ok { IfOk result (λ value. decoded bytes.now ≡ Some (tree_of value)) }
         ensures err { IfErr result (λ error. MatchOption (codec_failure error)
             (decoded bytes.now ≡ None) (MemoryOr reading)) }
-        ensures errors { IfErr result (λ error. (error ≡ DagJsonCodecError.Memory) ⊎ IsTextError bytes.now error) }
+        ensures errors { IfErr result (λ error. (error ≡ DagJsonError.Memory) ⊎ IsTextError bytes.now error) }
     {
         decode_tree(alloc, bytes)
     }
@@ -197,11 +175,11 @@ impl Codec<Ipld> for DagJsonCodec {
     /// # Errors
     ///
     /// `Memory` where an allocation failed, else `Reserved`.
-    fn encode_to_vec(alloc: Global, value: &Ipld) -> Result<Vec<u8>, DagJsonCodecError>
+    fn encode_to_vec(alloc: Global, value: &Ipld) -> Result<Vec<u8>, DagJsonError>
         ensures ok { IfOk result (λ text. codec_text (tree_of value.now) ≡ Some text.items) }
         ensures err { IfErr result (λ error. MatchOption (codec_failure error)
             (codec_text (tree_of value.now) ≡ None) (MemoryOr writing)) }
-        ensures errors { IfErr result (λ error. (error ≡ DagJsonCodecError.Memory) ⊎ IsReservedIn (tree_of value.now) error) }
+        ensures errors { IfErr result (λ error. (error ≡ DagJsonError.Memory) ⊎ IsReserved (tree_of value.now) error) }
     {
         encode_block(alloc, value)
     }

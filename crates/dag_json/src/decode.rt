@@ -165,7 +165,7 @@ fn first_difference(
         Ok(text) if text.as_slice() == bytes => Ok(None),
         Ok(text) => Ok(Some(common_len(&text, bytes))),
         Err(DagJsonError::Memory) => Err(ReadErrorKind::Memory),
-        Err(DagJsonError::Reserved(_)) => Err(ReadErrorKind::Reserved),
+        Err(_) => Err(ReadErrorKind::Reserved),
     }
 }
 

@@ -1,20 +1,27 @@
-//! Why a tree isn't written.
+//! Why a tree isn't written, or a call of the codec failed.
 
 ghost use Rattle.std.specs.Fmt.{WritesStyledOnOk};
 ghost use Rattle.dag_json.specs.declared.error.DagJsonError.TheVariants.{Memory};
 ghost use Rattle.dag_json.specs.Errors.{reserved_value};
 
+use crate::read_error::{ReadError, ReadErrorKind};
 use itoa::Buffer;
 use std::alloc::{AllocError, AllocFailed};
 use std::{error, fmt};
 
-/// Why a tree isn't written as DAG-JSON.
+/// Why a tree isn't written as DAG-JSON, or a call of [`DagJsonCodec`](crate::DagJsonCodec) failed.
 ///
-/// Its `Display` is the variant's name, without its content; with `#`, as in `{error:#}`, it is a sentence that says what is wrong.
+/// Its `Display` is the variant's name, of a text that of its error; with `#`, as in `{error:#}`, it is a sentence that says what is wrong.
 #[derive(Clone, Copy, Debug, PartialEq, Eq)]
 pub enum DagJsonError {
-    /// An allocation failed.
+    /// An allocation failed, here or, as it reports, in the writer.
     Memory,
+    /// The reader failed, or did not end.
+    Read,
+    /// The writer failed.
+    Write,
+    /// The block is no DAG-JSON, and where. Its kind is never `Memory`, `TooDeep`, `TooMany` or `NotCanonical`.
+    Text(ReadError),
     /// A map has the first key `/`, and behind it a string, or a map with the first key `bytes` and a string behind that. DAG-JSON reserves
     /// these maps for links and bytes. The number says which value of the tree the first such map is, from 0 for the tree itself, in the
     /// order of [`Ipld::iter`](ipld_tree::Ipld::iter); where that is no number of a `usize`, it is `usize::MAX`.
@@ -41,14 +48,26 @@ impl<T: Drop> From<AllocFailed<T>> for DagJsonError {
     }
 }
 
+impl From<ReadError> for DagJsonError {
+    ghost use Rattle.dag_json.specs.Codec.{IsErrorOfText};
+
+    ghost from_gives = { λ error made. IsErrorOfText error made };
+
+    fn from(error: ReadError) -> Self {
+        match error.kind {
+            ReadErrorKind::Memory => DagJsonError::Memory,
+            _ => DagJsonError::Text(error),
+        }
+    }
+}
+
 impl fmt::Display for DagJsonError {
-    ghost use Rattle.std.specs.Prelude.{Some};
     ghost use Rattle.std.specs.Fmt.{spec_alternate};
     ghost use Rattle.dag_json.specs.Errors.{write_name, printed_write};
 
-    ghost output = { λ error. Some (write_name error) };
+    ghost output = { write_name ⟦<ReadError as fmt::Display>⟧.output };
 
-    ghost styled_output = { λ error spec. Some (printed_write (spec_alternate spec) error) };
+    ghost styled_output = { λ error spec. printed_write (λ text. ⟦<ReadError as fmt::Display>⟧.styled_output text spec) (spec_alternate spec) error };
 
     fn fmt<W: fmt::Write>(&self, f: &mut fmt::Formatter<W>) -> fmt::Result {
         match self {
@@ -57,6 +76,17 @@ impl fmt::Display for DagJsonError {
             } else {
                 "Memory"
             }),
+            DagJsonError::Read => f.write_str(if f.alternate() {
+                "the reader failed"
+            } else {
+                "Read"
+            }),
+            DagJsonError::Write => f.write_str(if f.alternate() {
+                "the writer failed"
+            } else {
+                "Write"
+            }),
+            DagJsonError::Text(error) => error.fmt(f),
             DagJsonError::Reserved(place) => {
                 if f.alternate() {
                     write_reserved(f, *place)

@@ -67,7 +67,7 @@ mod tape;
 mod tree;
 
 pub use block::block_limits;
-pub use codec::{DagJsonCodec, DagJsonCodecError};
+pub use codec::DagJsonCodec;
 pub use decode::{from_canonical, from_slice, from_str};
 pub use encode::{to_string, to_vec};
 pub use error::DagJsonError;

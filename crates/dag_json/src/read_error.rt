@@ -117,8 +117,6 @@ impl fmt::Display for ReadErrorKind {
     }
 }
 
-impl error::Error for ReadErrorKind {}
-
 /// Why a text isn't read as DAG-JSON, and where.
 ///
 /// Its `Display` is that of the kind, also with `#`, then ` at byte `, and the offset.

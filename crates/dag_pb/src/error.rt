@@ -88,8 +88,6 @@ impl fmt::Display for PbErrorKind {
     }
 }
 
-impl error::Error for PbErrorKind {}
-
 /// Why bytes are no block of DAG-PB, and where: the first error from the left.
 ///
 /// Its `Display` is that of the kind, also with `#`, then ` at byte `, and the offset.

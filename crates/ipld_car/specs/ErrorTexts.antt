@@ -5,8 +5,6 @@ use Rattle.std.specs.Fmt.{decimal, ◌++?◌}
 use Rattle.ipld_car.specs.declared.error.CarError.{CarError}
 use Rattle.ipld_car.specs.declared.error.CarErrorKind.{CarErrorKind}
 use Rattle.ipld_car.specs.declared.error.CarErrorKind.TheVariants.{Memory, Read, UnexpectedEnd, ShortPayload, LengthNotShortest, LengthTooLarge, Empty, TooLong, Cid, HeaderBlock, NotAHeader, Payload}
-use Rattle.ipld_car.specs.declared.error.CarWriteError.{CarWriteError}
-use Rattle.ipld_car.specs.declared.error.CarWriteError.TheVariants as write
 
 -- the sentence of a kind, whatever the options; of the errors of a reader, of a CID and of a block it isn't said
 abbrev pub sentence_of : CarErrorKind → Option (List ℕ)
@@ -30,8 +28,3 @@ place_of offset = codes " at byte " ++ decimal offset
 -- what an error prints
 abbrev pub text_of : CarError → Option (List ℕ)
 text_of error = sentence_of error.kind ++? Some (place_of error.offset)
-
--- what an error of writing prints; of one of a writer it isn't said
-abbrev pub write_sentence : CarWriteError → Option (List ℕ)
-write_sentence write.Memory = Some (codes "out of memory")
-write_sentence (write.Write error) = None

@@ -1,4 +1,4 @@
-//! Why a CAR isn't read or written, and where.
+//! Why a CAR isn't read, and where.
 
 ghost use Rattle.std.specs.Prelude.{◌++◌};
 ghost use Rattle.std.specs.Fmt.{WritesOnOk, WritesStyledOnOk, decimal};
@@ -62,17 +62,6 @@ pub struct CarError {
     pub offset: u64,
 }
 
-/// Why a CAR isn't written.
-///
-/// Its `Display` is a sentence that says what is wrong.
-#[derive(Debug, Drop)]
-pub enum CarWriteError {
-    /// An allocation failed.
-    Memory,
-    /// The writer failed.
-    Write(io::Error),
-}
-
 impl fmt::Display for CarErrorKind {
     ghost use Rattle.ipld_car.specs.ErrorTexts.{sentence_of};
 
@@ -125,8 +114,6 @@ impl fmt::Display for CarErrorKind {
     }
 }
 
-impl error::Error for CarErrorKind {}
-
 impl fmt::Display for CarError {
     ghost use Rattle.ipld_car.specs.ErrorTexts.{text_of};
 
@@ -167,20 +154,3 @@ pub(crate) fn write_number<W: fmt::Write>(
 }
 
 impl error::Error for CarError {}
-
-impl fmt::Display for CarWriteError {
-    ghost use Rattle.ipld_car.specs.ErrorTexts.{write_sentence};
-
-    ghost output = { write_sentence };
-
-    ghost styled_output = { λ error _. write_sentence error };
-
-    fn fmt<W: fmt::Write>(&self, f: &mut fmt::Formatter<W>) -> fmt::Result {
-        match self {
-            CarWriteError::Memory => f.write_str("out of memory"),
-            CarWriteError::Write(error) => write!(f, "the writer failed: {error}"),
-        }
-    }
-}
-
-impl error::Error for CarWriteError {}

@@ -49,7 +49,7 @@ mod version2;
 mod write_all;
 mod writer;
 
-pub use error::{CarError, CarErrorKind, CarWriteError};
+pub use error::{CarError, CarErrorKind};
 pub use index::{
     CarHeader, CarIndex, HEADER_END, IndexEntry, IndexError, entries_of, read_index, write_header,
 };

@@ -5,17 +5,16 @@ ghost use Rattle.ipld_cid.specs.Bytes.{bytes_of};
 ghost use Rattle.ipld_cid.specs.LinkOf.{link_of};
 ghost use Rattle.ipld_cid.specs.Varint.{varint_of};
 ghost use Rattle.ipld_car.specs.Header.{IsHeader};
-ghost use Rattle.ipld_car.specs.WriteErrors.{IsWriteError, IsFlushError};
+ghost use Rattle.ipld_car.specs.WriteErrors.{IsWriteError};
 ghost use Rattle.ipld_car.specs.Writing.{WritesHeader, WritesSection, WritesSectionPart};
 
-use crate::error::CarWriteError;
 use crate::header::header_of;
 use crate::write_all::write_all;
 use dag_cbor::DagCborCodec;
 use ipld_cid::{ByteBuffer, Cid};
 use ipld_codec::Codec;
 use std::alloc::{AllocError, Global};
-use std::io::{ErrorKind, Write};
+use std::io::{self, Write};
 
 /// A CAR of version 1 that is written section by section (CARv1).
 #[derive(Drop)]
@@ -72,30 +71,25 @@ impl<W: Write> CarWriter<W> {
     ///
     /// # Errors
     ///
-    /// - `Memory` where an allocation failed, also where the writer says that it found no memory.
-    /// - `Write` where the writer failed. A write that was interrupted is tried again.
+    /// That of the writer, or one of the kind `OutOfMemory` if an allocation failed. A write that was interrupted is tried again. A writer
+    /// that takes no byte has failed with `WriteZero`, and one that is interrupted 2^64 - 1 times with `Other`.
     ///
     /// Some bytes of the header, from the first on, may have been written. The writer is dropped.
     #[tactic(auto, using(crate::proofs::Written::writes_header))]
-    pub fn new(alloc: Global, writer: W, roots: &[Cid]) -> Result<CarWriter<W>, CarWriteError>
+    pub fn new(alloc: Global, writer: W, roots: &[Cid]) -> io::Result<CarWriter<W>>
     where
         W: Drop,
         ensures written { IfOk result (λ car.
             WritesHeader (W.contents writer) (W.contents car.writer) (map link_of roots.now)) }
         ensures fault { IfErr result IsWriteError }
     {
-        let header = match header_bytes(alloc, roots) {
-            Ok(header) => header,
-            Err(AllocError) => return Err(CarWriteError::Memory),
-        };
+        let header = header_bytes(alloc, roots)?;
         let mut writer = writer;
-        match write_all(&mut writer, &header) {
-            Ok(()) => Ok(CarWriter {
-                writer,
-                front: header,
-            }),
-            Err(error) => Err(error),
-        }
+        write_all(&mut writer, &header)?;
+        Ok(CarWriter {
+            writer,
+            front: header,
+        })
     }
 
     /// Writes a block behind its CID, in two writes. That the CID is the block's isn't checked.
@@ -107,7 +101,7 @@ impl<W: Write> CarWriter<W> {
     /// Those of [`new`](Self::new). Some bytes of the section, from the first on, may then have been written, and never all: what was
     /// written is no CAR unless they are taken back.
     #[tactic(auto, using(crate::proofs::WrittenParts::writes_section, crate::proofs::WrittenParts::writes_none, crate::proofs::WrittenParts::writes_front_part, crate::proofs::WrittenParts::writes_block_part))]
-    pub fn write_section(&mut self, cid: &Cid, data: &[u8]) -> Result<(), CarWriteError>
+    pub fn write_section(&mut self, cid: &Cid, data: &[u8]) -> io::Result<()>
         ensures written { OnOk result
             (WritesSection (W.contents self.old.writer) (W.contents self.new.writer)
             (record { cid = link_of cid.now; bytes = data.now })) }
@@ -116,39 +110,23 @@ impl<W: Write> CarWriter<W> {
             (record { cid = link_of cid.now; bytes = data.now })) }
         ensures fault { IfErr result IsWriteError }
     {
-        match put_front(&mut self.front, cid, data.len()) {
-            Ok(()) => {}
-            Err(AllocError) => return Err(CarWriteError::Memory),
-        }
-        match write_all(&mut self.writer, &self.front) {
-            Ok(()) => {}
-            Err(error) => return Err(error),
-        }
-        match write_all(&mut self.writer, data) {
-            Ok(()) => Ok(()),
-            Err(error) => Err(error),
-        }
+        put_front(&mut self.front, cid, data.len())?;
+        write_all(&mut self.writer, &self.front)?;
+        write_all(&mut self.writer, data)
     }
 
     /// Flushes the writer, and returns it.
     ///
     /// # Errors
     ///
-    /// - `Memory` where the writer says that it found no memory.
-    /// - `Write` where the flush failed, also where it was interrupted. The writer is dropped.
-    pub fn finish(self) -> Result<W, CarWriteError>
+    /// That of the flush, also if it was interrupted. The writer is dropped.
+    pub fn finish(self) -> io::Result<W>
     where
         W: Drop,
         ensures kept { IfOk result (λ writer. Keeps (W.contents self.writer) (W.contents writer)) }
-        ensures fault { IfErr result IsFlushError }
     {
         let mut writer = self.writer;
-        match writer.flush() {
-            Ok(()) => Ok(writer),
-            Err(error) => match error.kind() {
-                ErrorKind::OutOfMemory => Err(CarWriteError::Memory),
-                _ => Err(CarWriteError::Write(error)),
-            },
-        }
+        writer.flush()?;
+        Ok(writer)
     }
 }

@@ -1,8 +1,11 @@
 //! A CAR that is to be written.
 
+ghost use Rattle.std.specs.Prelude.{◌≡◌, ◌+◌, ◌<◌, ◌^◌, length};
+ghost use Rattle.ipld_cid.specs.Varint.{varint_of};
+
 use crate::output::{Content, OutputError};
 use ipld_car::{CarHeader, CarIndex, CarWriter, HEADER_END, IndexEntry, write_header};
-use ipld_cid::Cid;
+use ipld_cid::{ByteBuffer, Cid};
 use std::alloc::Global;
 use std::io::Write;
 
@@ -15,14 +18,13 @@ pub struct NewBlock<'a> {
     pub bytes: &'a [u8],
 }
 
-// How many bytes a varint has.
-fn varint_len(number: u64) -> u64 {
-    u64::from((64 - (number | 1).leading_zeros()).div_ceil(7))
-}
-
-/// How many bytes so many have with their length before them, as a header and a section have it.
-pub fn framed_len(len: u64) -> u64 {
-    varint_len(len).saturating_add(len)
+/// How many bytes so many have with their length before them, as a header and a section have it, or 2^64 - 1 if that is more.
+pub fn framed_len(len: u64) -> u64
+    ensures { length (varint_of len) + len < 2 ^ 64 → result ≡ length (varint_of len) + len }
+{
+    let mut varint = ByteBuffer::<10>::new();
+    varint.push_varint(len);
+    (varint.len() as u64).saturating_add(len)
 }
 
 impl<'a> NewBlock<'a> {

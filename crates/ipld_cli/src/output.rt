@@ -3,7 +3,6 @@
 use crate::complaints::report;
 use crate::input::BUFFER;
 use crate::messages::Outcome;
-use ipld_car::CarWriteError;
 use std::alloc::{AllocError, AllocFailed};
 use std::fs::{self, File, Metadata, OpenOptions, Permissions};
 use std::io::{self, BufWriter, ErrorKind, Write};
@@ -61,7 +60,10 @@ impl error::Error for OutputError {}
 
 impl From<io::Error> for OutputError {
     fn from(error: io::Error) -> Self {
-        OutputError::System(error)
+        match error.kind() {
+            ErrorKind::OutOfMemory => OutputError::Memory,
+            _ => OutputError::System(error),
+        }
     }
 }
 
@@ -74,15 +76,6 @@ impl From<AllocError> for OutputError {
 impl<T: Drop> From<AllocFailed<T>> for OutputError {
     fn from(_error: AllocFailed<T>) -> Self {
         OutputError::Memory
-    }
-}
-
-impl From<CarWriteError> for OutputError {
-    fn from(error: CarWriteError) -> Self {
-        match error {
-            CarWriteError::Memory => OutputError::Memory,
-            CarWriteError::Write(error) => OutputError::System(error),
-        }
     }
 }
 

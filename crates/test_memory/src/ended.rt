@@ -6,7 +6,7 @@ use dag_cbor::{BlockError, BlockErrorKind, CborError};
 use dag_cbor_serde::{DecodeError, EncodeError};
 use dag_cbor_tape::EncodeErrorKind;
 use dag_json::{DagJsonError, ReadErrorKind};
-use ipld_car::{CarError, CarErrorKind, CarWriteError};
+use ipld_car::{CarError, CarErrorKind};
 use ipld_cid::CidError;
 use ipld_cid_text::ToStringError;
 use ipld_core::codec::RawError;
@@ -14,7 +14,7 @@ use ipld_core::serde::{ReadError, Stopped, TokenError};
 use ipld_links_run::RunFault;
 use ipld_ser::SerdeError;
 use std::alloc::{AllocError, AllocFailed};
-use std::io::ErrorKind;
+use std::io::{self, ErrorKind};
 
 /// Why a test ended before its last line.
 #[derive(Clone, Copy, Debug, PartialEq, Eq)]
@@ -177,9 +177,9 @@ impl Rejection for CarError {
     }
 }
 
-impl Rejection for CarWriteError {
+impl Rejection for io::Error {
     fn is_out_of_memory(&self) -> bool {
-        matches!(self, CarWriteError::Memory)
+        self.kind() == ErrorKind::OutOfMemory
     }
 }
 

@@ -5,7 +5,7 @@ use crate::block_commands::links::report_not_valid;
 use clap::ArgMatches;
 use ipld_block::{BlockCodec, check, cid_of};
 use ipld_cid::{Cid, DAG_PB, Version};
-use ipld_cid_text::{Base, parse_any, to_string_of_base};
+use ipld_cid_text::{Base, parse_any, to_string_of_base, usual_text};
 use ipld_cli::{
     NoCid, Outcome, PerWord, json, parse_cid_argument, read_file, report, report_unreadable,
     run_over,
@@ -72,15 +72,6 @@ impl CidOptions {
         }
     }
 
-    // The base of the text of a CID.
-    fn base_of(&self, cid: &Cid) -> Base {
-        match (self.base, cid.version()) {
-            (Some(base), _) => base,
-            (None, Version::V0) => Base::Base58Btc,
-            (None, Version::V1) => Base::Base32Lower,
-        }
-    }
-
     // A CID in the version that is asked for, where it has that.
     fn in_version(&self, cid: &Cid) -> Option<Cid> {
         match self.version {
@@ -104,8 +95,12 @@ fn write_cid<W: Write>(
     if !is_text && !options.json {
         return write_cid_parts(alloc, cid, writer);
     }
-    let Ok(text) = to_string_of_base(alloc, cid, options.base_of(cid)) else {
-        return Err(ShowError::Memory);
+    let text = match options.base {
+        Some(base) => match to_string_of_base(alloc, cid, base) {
+            Ok(text) => text,
+            Err(_) => return Err(ShowError::Memory),
+        },
+        None => usual_text(alloc, cid)?,
     };
     if options.json {
         return json::write_cid_object(alloc, file, cid, &text, writer);
@@ -127,7 +122,8 @@ fn print_one<W: Write>(
         let why = "no CID of version 0: those are of DAG-PB, with a SHA2-256 digest";
         return Ok(report(rt, what, &why, Outcome::NotSo));
     };
-    if cid.version() == Version::V0 && options.base_of(&cid) != Base::Base58Btc {
+    let only_base58 = options.base.is_none_or(|base| base == Base::Base58Btc);
+    if cid.version() == Version::V0 && !only_base58 {
         let why =
             "a CID of version 0 has a text in base58btc alone: --v1 makes it one of version 1";
         return Ok(report(rt, what, &why, Outcome::NotSo));

@@ -1,7 +1,7 @@
 //! CIDs in messages.
 
-use ipld_cid::{Cid, Version};
-use ipld_cid_text::{Base, to_string_of_base};
+use ipld_cid::Cid;
+use ipld_cid_text::usual_text;
 use std::alloc::Global;
 use std::fmt;
 
@@ -21,12 +21,10 @@ impl<'a> NamedCid<'a> {
 
 impl<'a> fmt::Display for NamedCid<'a> {
     fn fmt<W: fmt::Write>(&self, f: &mut fmt::Formatter<W>) -> fmt::Result {
-        if self.cid.version() == Version::V0 {
-            if let Ok(text) = to_string_of_base(self.alloc, self.cid, Base::Base58Btc) {
-                return f.write_str(&text);
-            }
+        match usual_text(self.alloc, self.cid) {
+            Ok(text) => f.write_str(&text),
+            // Where there is no memory, that of version 0 is in hexadecimal.
+            Err(_) => write!(f, "{}", self.cid),
         }
-        // Where there is no memory, it is in hexadecimal.
-        write!(f, "{}", self.cid)
     }
 }

@@ -6,5 +6,5 @@ use Rattle.ipld_car.proofs.write_all.write_all.Goals as goal
 
 pub loop-preserved : goal.loop-preserved
 loop-preserved g c =
-    let grown = piece_written _ _ _ _ _ _ c.loop.invariant.0 c.in-Ok.ensures.ok.1 in
-    (subst (λ r. WritesFront (g.W.Write.contents c.args.writer.now) (g.W.Write.contents c.write_piece.new.writer) c.args.bytes.now r) (sym (take_rest c.loop.rest.now c.in-Ok.count)) grown, search rules)
+    let grown = piece_written _ _ _ _ _ _ c.loop.invariant.0 c.in_ok-count.ensures.ok.1 in
+    (subst (λ r. WritesFront (g.W.Write.contents c.args.writer.now) (g.W.Write.contents c.write_piece.new.writer) c.args.bytes.now r) (sym (take_rest c.loop.rest.now c.in_ok-count.count)) grown, search rules)
