@@ -1,10 +1,11 @@
 -- What reading a part of a block does: a visitor takes what was read, and the rest is ahead.
-use Rattle.std.specs.Prelude.{◌≡◌, ◌⊎◌, ◌<◌, ℕ, Bool, false, List, length, Some, None, Result, Ok, Err}
+use Rattle.std.specs.Prelude.{◌≡◌, ◌⊎◌, ◌<◌, ◌+◌, ℕ, Bool, true, false, List, length, Some, None, Result, Ok, Err}
 use Rattle.dag_cbor_format.specs.declared.error.CborError.{CborError}
 use Rattle.dag_cbor_format.specs.declared.error.CborError.TheVariants.{Memory}
 use Rattle.dag_cbor_format.specs.declared.major.Major.{Major}
-use Rattle.dag_cbor_format.specs.ItemHeader.{item_header_after}
-use Rattle.dag_cbor_format.specs.Errors.{item_error}
+use Rattle.dag_cbor_format.specs.Floats.{error_of_float, if_finite}
+use Rattle.dag_cbor_format.specs.ItemHeader.{front, item_header_at, item_header_after}
+use Rattle.dag_cbor_format.specs.Errors.{item_error, item_header_error}
 use Rattle.dag_cbor_format.specs.Reading.{begun, item_step_in}
 use Rattle.dag_cbor_format.specs.Trace.{Event, Trace, traced, trace_ahead}
 use Rattle.ipld_tree.specs.declared.limits.Limits.{Limits}
@@ -48,3 +49,39 @@ pub record Fails (kinds : List OpenKind) (due : Bool) (trace : Trace) (left : �
 abbrev pub Reads : {V A : Type 0} → Bool → (V → List Event → A) → V → List OpenKind → Bool → Trace → ℕ → ℕ → Result PartKind CborError → V → Position → Type 0
 Reads floats answer old kinds due trace left limit (Ok part) new after = Advances floats answer old kinds due part trace left limit new after
 Reads floats answer old kinds due trace left limit (Err error) new after = (error ≡ Memory) ⊎ Fails kinds due trace left error after.begun
+
+-- ---- what the functions of the loop do
+
+-- a visitor and a position, before a part is read or after it
+pub record Reading (V : Type 0) : Type 0 where
+  pub visitor : V
+  pub position : Position
+
+-- an item behind its head, of this major type and with this argument
+abbrev pub ReadsContent : {V A : Type 0} → Bool → (V → List Event → A) → Major × ℕ → Reading V → Result PartKind CborError → Reading V → Type 0
+ReadsContent floats answer head old result new =
+    Reads floats answer old.visitor (kinds_of old.position) true (headed floats head.0 head.1 old.position) old.position.begun (steps_left old.position + 3) result new.visitor new.position
+
+-- a float behind its first byte
+abbrev pub ReadsFloat : {V A : Type 0} → Bool → (V → List Event → A) → Reading V → Result PartKind CborError → Reading V → Type 0
+ReadsFloat floats answer old result new =
+    let bits = front 8 old.position.rest.now in
+    let step = begun (frames_of old.position) (error_of_float bits) (if_finite bits) in
+    Reads floats answer old.visitor (kinds_of old.position) true (traced old.position.begun (trace_ahead floats) step) old.position.begun (steps_left old.position + 3) result new.visitor new.position
+
+-- an item that is no float
+abbrev pub ReadsHeaded : {V A : Type 0} → Bool → (V → List Event → A) → Reading V → Result PartKind CborError → Reading V → Type 0
+ReadsHeaded floats answer old result new =
+    let bytes = old.position.rest.now in
+    let step = begun (frames_of old.position) (item_header_error bytes) (item_header_at bytes) in
+    Reads floats answer old.visitor (kinds_of old.position) true (traced (length bytes) (trace_ahead floats) step) (length bytes) (steps_left old.position) result new.visitor new.position
+
+-- an item
+abbrev pub ReadsItem : {V A : Type 0} → Bool → (V → List Event → A) → Reading V → Result PartKind CborError → Reading V → Type 0
+ReadsItem floats answer old result new =
+    Reads floats answer old.visitor (kinds_of old.position) true (item_ahead floats old.position) (length old.position.rest.now) (steps_left old.position) result new.visitor new.position
+
+-- what comes next in what is open
+abbrev pub ReadsPart : {V A : Type 0} → Bool → (V → List Event → A) → Reading V → Result PartKind CborError → Reading V → Type 0
+ReadsPart floats answer old result new =
+    Reads floats answer old.visitor (kinds_of old.position) false (ahead_of floats old.position) (length old.position.rest.now) (steps_left old.position) result new.visitor new.position

@@ -8,6 +8,7 @@ use Rattle.dag_cbor_blocks.specs.Counting.{too_deep, too_many, excess_of_block, 
 use Rattle.dag_cbor_blocks.specs.declared.block_error.BlockError.{BlockError}
 use Rattle.dag_cbor_blocks.specs.declared.block_error.BlockErrorKind.{BlockErrorKind}
 use Rattle.dag_cbor_blocks.specs.declared.block_error.BlockErrorKind.TheVariants.{Cbor, TooDeep, TooMany}
+use Rattle.dag_cbor_blocks.specs.declared.options.ReadOptions.{ReadOptions}
 
 -- the limit that the bytes pass first, or the first error of the bytes where they pass none before it, or an allocation failed
 abbrev pub Stops : Limits → List ℕ → BlockErrorKind → Type 0
@@ -30,14 +31,14 @@ TakesWhole floats answer old limits block new =
     ((trace_of floats block).error ≡ None) × (answer new [] ≡ answer old (trace_of floats block).events) × (limit_passed floats limits block ≡ None)
 
 -- it has, or why it hasn't, and so many bytes are left where that lies
-abbrev pub VisitsParts : {V A : Type 0} → Bool → (V → List Event → A) → V → Limits → List ℕ → Result (Unit {0}) BlockErrorKind → V → ℕ → Type 0
-VisitsParts floats answer old limits block (Ok done) new left = TakesWhole floats answer old limits block new
-VisitsParts floats answer old limits block (Err kind) new left = StopsAt floats limits block kind (length block - left)
+abbrev pub VisitsParts : {V A : Type 0} → ReadOptions → (V → List Event → A) → V → List ℕ → Result (Unit {0}) BlockErrorKind → V → ℕ → Type 0
+VisitsParts options answer old block (Ok done) new left = TakesWhole options.floats answer old options.limits block new
+VisitsParts options answer old block (Err kind) new left = StopsAt options.floats options.limits block kind (length block - left)
 
 -- it has, or why it hasn't, and at which byte
-abbrev pub EventsWithin : {V A : Type 0} → Bool → (V → List Event → A) → V → Limits → List ℕ → Result (Unit {0}) BlockError → V → Type 0
-EventsWithin floats answer old limits block (Ok done) new = TakesWhole floats answer old limits block new
-EventsWithin floats answer old limits block (Err error) new = StopsAt floats limits block error.kind error.offset
+abbrev pub EventsWithin : {V A : Type 0} → ReadOptions → (V → List Event → A) → V → List ℕ → Result (Unit {0}) BlockError → V → Type 0
+EventsWithin options answer old block (Ok done) new = TakesWhole options.floats answer old options.limits block new
+EventsWithin options answer old block (Err error) new = StopsAt options.floats options.limits block error.kind error.offset
 
 -- the same of a visitor that is given back
 abbrev pub ReturnsVisitor : {V A : Type 0} → Bool → (V → List Event → A) → V → Limits → List ℕ → Result V BlockError → Type 0

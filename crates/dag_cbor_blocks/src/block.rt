@@ -1,15 +1,10 @@
 //! A block read once, in a loop, part by part.
 
-ghost use Rattle.std.specs.Prelude.{◌≡◌, ◌+◌, true, false, [], length};
-ghost use Rattle.dag_cbor_format.specs.Errors as wrong;
-ghost use Rattle.dag_cbor_format.specs.Floats as floats;
-ghost use Rattle.dag_cbor_format.specs.ItemHeader as reading;
-ghost use Rattle.dag_cbor_format.specs.Reading.{begun};
-ghost use Rattle.dag_cbor_format.specs.Trace.{traced, trace_ahead};
-ghost use Rattle.dag_cbor_blocks.specs.Position.{frames_of, kinds_of, is_open, steps_left};
+ghost use Rattle.std.specs.Prelude.{◌≡◌, true, []};
+ghost use Rattle.dag_cbor_blocks.specs.Position.{frames_of, is_open};
 ghost use Rattle.dag_cbor_blocks.specs.Visit.{VisitsEvents};
 ghost use Rattle.dag_cbor_blocks.specs.Within.{VisitsParts, EventsWithin};
-ghost use Rattle.dag_cbor_blocks.specs.BlockReading.{ahead_of, item_ahead, headed, Reads};
+ghost use Rattle.dag_cbor_blocks.specs.BlockReading.{ReadsContent, ReadsFloat, ReadsHeaded, ReadsItem, ReadsPart};
 
 use crate::block_error::{BlockError, BlockErrorKind};
 use crate::counter::{Counter, PartKind};
@@ -30,7 +25,8 @@ fn read_unsigned<'a, const FLOATS: bool, V: BorrowingVisitor<'a>>(
     visitor: &mut V,
     number: u64,
 ) -> Result<PartKind, CborError>
-    ensures { Reads FLOATS V.answer visitor.old (kinds_of position.old) true (headed FLOATS Major.Unsigned number position.old) position.old.begun (steps_left position.old + 3) result visitor.new position.new }
+    ensures { ReadsContent FLOATS V.answer (Major.Unsigned, number) (record { visitor = visitor.old; position = position.old })
+        result (record { visitor = visitor.new; position = position.new }) }
 {
     visitor.visit(&Event::Integer(i128::from(number)), position.rest.len())?;
     Ok(PartKind::Scalar)
@@ -43,7 +39,8 @@ fn read_negative<'a, const FLOATS: bool, V: BorrowingVisitor<'a>>(
     visitor: &mut V,
     argument: u64,
 ) -> Result<PartKind, CborError>
-    ensures { Reads FLOATS V.answer visitor.old (kinds_of position.old) true (headed FLOATS Major.Negative argument position.old) position.old.begun (steps_left position.old + 3) result visitor.new position.new }
+    ensures { ReadsContent FLOATS V.answer (Major.Negative, argument) (record { visitor = visitor.old; position = position.old })
+        result (record { visitor = visitor.new; position = position.new }) }
 {
     visitor.visit(
         &Event::Integer(-1 - i128::from(argument)),
@@ -59,7 +56,8 @@ fn read_byte_string<'a, const FLOATS: bool, V: BorrowingVisitor<'a>>(
     visitor: &mut V,
     length: u64,
 ) -> Result<PartKind, CborError>
-    ensures { Reads FLOATS V.answer visitor.old (kinds_of position.old) true (headed FLOATS Major.Bytes length position.old) position.old.begun (steps_left position.old + 3) result visitor.new position.new }
+    ensures { ReadsContent FLOATS V.answer (Major.Bytes, length) (record { visitor = visitor.old; position = position.old })
+        result (record { visitor = visitor.new; position = position.new }) }
 {
     let (content, rest) = read_bytes(length, position.rest)?;
     position.rest = rest;
@@ -74,7 +72,8 @@ fn read_text_string<'a, const FLOATS: bool, V: BorrowingVisitor<'a>>(
     visitor: &mut V,
     length: u64,
 ) -> Result<PartKind, CborError>
-    ensures { Reads FLOATS V.answer visitor.old (kinds_of position.old) true (headed FLOATS Major.Text length position.old) position.old.begun (steps_left position.old + 3) result visitor.new position.new }
+    ensures { ReadsContent FLOATS V.answer (Major.Text, length) (record { visitor = visitor.old; position = position.old })
+        result (record { visitor = visitor.new; position = position.new }) }
 {
     let (string, rest) = read_text(length, position.rest)?;
     position.rest = rest;
@@ -89,7 +88,8 @@ fn begin_list<'a, const FLOATS: bool, V: BorrowingVisitor<'a>>(
     visitor: &mut V,
     items: u64,
 ) -> Result<PartKind, CborError>
-    ensures { Reads FLOATS V.answer visitor.old (kinds_of position.old) true (headed FLOATS Major.List items position.old) position.old.begun (steps_left position.old + 3) result visitor.new position.new }
+    ensures { ReadsContent FLOATS V.answer (Major.List, items) (record { visitor = visitor.old; position = position.old })
+        result (record { visitor = visitor.new; position = position.new }) }
 {
     let hint = position.capacity_hint(items);
     visitor.visit(&Event::List(hint), position.rest.len())?;
@@ -104,7 +104,8 @@ fn begin_map<'a, const FLOATS: bool, V: BorrowingVisitor<'a>>(
     visitor: &mut V,
     pairs: u64,
 ) -> Result<PartKind, CborError>
-    ensures { Reads FLOATS V.answer visitor.old (kinds_of position.old) true (headed FLOATS Major.Map pairs position.old) position.old.begun (steps_left position.old + 3) result visitor.new position.new }
+    ensures { ReadsContent FLOATS V.answer (Major.Map, pairs) (record { visitor = visitor.old; position = position.old })
+        result (record { visitor = visitor.new; position = position.new }) }
 {
     visitor.visit(&Event::Map, position.rest.len())?;
     position.open_map(pairs)?;
@@ -117,7 +118,8 @@ fn read_link<'a, const FLOATS: bool, V: BorrowingVisitor<'a>>(
     visitor: &mut V,
     tag: u64,
 ) -> Result<PartKind, CborError>
-    ensures { Reads FLOATS V.answer visitor.old (kinds_of position.old) true (headed FLOATS Major.Tag tag position.old) position.old.begun (steps_left position.old + 3) result visitor.new position.new }
+    ensures { ReadsContent FLOATS V.answer (Major.Tag, tag) (record { visitor = visitor.old; position = position.old })
+        result (record { visitor = visitor.new; position = position.new }) }
 {
     if tag != LINK_TAG {
         return Err(CborError::Unsupported);
@@ -147,7 +149,8 @@ fn read_simple<'a, const FLOATS: bool, V: BorrowingVisitor<'a>>(
     visitor: &mut V,
     value: u64,
 ) -> Result<PartKind, CborError>
-    ensures { Reads FLOATS V.answer visitor.old (kinds_of position.old) true (headed FLOATS Major.Simple value position.old) position.old.begun (steps_left position.old + 3) result visitor.new position.new }
+    ensures { ReadsContent FLOATS V.answer (Major.Simple, value) (record { visitor = visitor.old; position = position.old })
+        result (record { visitor = visitor.new; position = position.new }) }
 {
     match value {
         20 => visitor.visit(&Event::Bool(false), position.rest.len())?,
@@ -166,7 +169,8 @@ fn read_content<'a, const FLOATS: bool, V: BorrowingVisitor<'a>>(
     major: Major,
     argument: u64,
 ) -> Result<PartKind, CborError>
-    ensures { Reads FLOATS V.answer visitor.old (kinds_of position.old) true (headed FLOATS major argument position.old) position.old.begun (steps_left position.old + 3) result visitor.new position.new }
+    ensures { ReadsContent FLOATS V.answer (major, argument) (record { visitor = visitor.old; position = position.old })
+        result (record { visitor = visitor.new; position = position.new }) }
 {
     match major {
         Major::Unsigned => read_unsigned::<FLOATS, V>(position, visitor, argument),
@@ -185,9 +189,8 @@ fn read_float<'a, const FLOATS: bool, V: BorrowingVisitor<'a>>(
     position: &mut Position<'a>,
     visitor: &mut V,
 ) -> Result<PartKind, CborError>
-    ensures { Reads FLOATS V.answer visitor.old (kinds_of position.old) true
-        (traced position.old.begun (trace_ahead FLOATS) (begun (frames_of position.old) (floats.error_of_float (reading.front 8 position.old.rest.now)) (floats.if_finite (reading.front 8 position.old.rest.now))))
-        position.old.begun (steps_left position.old + 3) result visitor.new position.new }
+    ensures { ReadsFloat FLOATS V.answer (record { visitor = visitor.old; position = position.old })
+        result (record { visitor = visitor.new; position = position.new }) }
 {
     let (content, rest) = read_bytes(8, position.rest)?;
     if !is_finite(content) {
@@ -204,9 +207,8 @@ fn read_item_without_floats<'a, const FLOATS: bool, V: BorrowingVisitor<'a>>(
     position: &mut Position<'a>,
     visitor: &mut V,
 ) -> Result<PartKind, CborError>
-    ensures { Reads FLOATS V.answer visitor.old (kinds_of position.old) true
-        (traced (length position.old.rest.now) (trace_ahead FLOATS) (begun (frames_of position.old) (wrong.item_header_error position.old.rest.now) (reading.item_header_at position.old.rest.now)))
-        (length position.old.rest.now) (steps_left position.old) result visitor.new position.new }
+    ensures { ReadsHeaded FLOATS V.answer (record { visitor = visitor.old; position = position.old })
+        result (record { visitor = visitor.new; position = position.new }) }
 {
     position.begun = position.rest.len();
     let (major, argument, rest) = read_head(position.rest)?;
@@ -220,7 +222,8 @@ fn read_item<'a, const FLOATS: bool, V: BorrowingVisitor<'a>>(
     position: &mut Position<'a>,
     visitor: &mut V,
 ) -> Result<PartKind, CborError>
-    ensures { Reads FLOATS V.answer visitor.old (kinds_of position.old) true (item_ahead FLOATS position.old) (length position.old.rest.now) (steps_left position.old) result visitor.new position.new }
+    ensures { ReadsItem FLOATS V.answer (record { visitor = visitor.old; position = position.old })
+        result (record { visitor = visitor.new; position = position.new }) }
 {
     if FLOATS {
         if let [FLOAT, rest @ ..] = position.rest {
@@ -239,7 +242,8 @@ fn read_part<'a, const FLOATS: bool, V: BorrowingVisitor<'a>>(
     visitor: &mut V,
 ) -> Result<PartKind, CborError>
     requires { is_open position.old ≡ true }
-    ensures { Reads FLOATS V.answer visitor.old (kinds_of position.old) false (ahead_of FLOATS position.old) (length position.old.rest.now) (steps_left position.old) result visitor.new position.new }
+    ensures { ReadsPart FLOATS V.answer (record { visitor = visitor.old; position = position.old })
+        result (record { visitor = visitor.new; position = position.new }) }
 {
     match position.advance()? {
         Next::Item => read_item::<FLOATS, V>(position, visitor),
@@ -291,7 +295,8 @@ fn read_parts<'a, const FLOATS: bool, V: BorrowingVisitor<'a>>(
     visitor: &mut V,
 ) -> Result<(), BlockErrorKind>
     requires { frames_of position.old ≡ [] }
-    ensures { VisitsParts FLOATS V.answer visitor.old limits position.old.rest.now result visitor.new position.new.begun }
+    ensures { VisitsParts (record { limits = limits; floats = FLOATS }) V.answer
+        visitor.old position.old.rest.now result visitor.new position.new.begun }
 {
     let mut counter = Counter::new(limits);
     let part = read_item::<FLOATS, V>(position, visitor)?;
@@ -319,7 +324,8 @@ pub fn read_events_within<'a, const FLOATS: bool, V: BorrowingVisitor<'a>>(
     limits: Limits,
     visitor: &mut V,
 ) -> Result<(), BlockError>
-    ensures { EventsWithin FLOATS V.answer visitor.old limits bytes.entry.now result visitor.new }
+    ensures { EventsWithin (record { limits = limits; floats = FLOATS }) V.answer
+        visitor.old bytes.entry.now result visitor.new }
 {
     let mut position = Position::new(alloc, bytes);
     match read_parts::<FLOATS, V>(&mut position, limits, visitor) {
@@ -339,7 +345,7 @@ pub(crate) fn read_events_as<'a, V: BorrowingVisitor<'a>>(
     options: &ReadOptions,
     visitor: &mut V,
 ) -> Result<(), BlockError>
-    ensures { EventsWithin options.now.floats V.answer visitor.old options.now.limits bytes.entry.now result visitor.new }
+    ensures { EventsWithin options.now V.answer visitor.old bytes.entry.now result visitor.new }
 {
     if options.floats {
         read_events_within::<true, V>(alloc, bytes, options.limits, visitor)

@@ -13,7 +13,7 @@ use Rattle.ipld_cid_text.specs.Base.{base_of}
 use Rattle.ipld_cid_text.specs.Text.{IsTextIn, IsText, IsTextError}
 use Rattle.kombilad_c.specs.declared.cid_record.CidBytes.{CidBytes}
 use Rattle.kombilad_c.specs.Status.{cid_status, text_status}
-use Rattle.kombilad_c.specs.Fill.{Fills, IsUntouched}
+use Rattle.kombilad_c.specs.Fill.{Variable, Fills, IsUntouched}
 use Rattle.kombilad_c.specs.CidRecord.{record_of}
 
 -- The status of bytes that were read as a CID: 0, or the number of the error.
@@ -33,11 +33,14 @@ asked_base version number = if number == 0 then Some (usual_base version) else b
 
 -- True if a text of the CID in the base goes to the buffer. Or memory failed, or the CID is of
 -- version 0 and the base another than base58btc, and the buffer is as before.
-abbrev pub WritesText : Base → Link → ℕ → List ℕ → List ℕ → ℕ → ℕ → Type 0
-WritesText base link status before after needed_before needed =
-    ((content : List ℕ) × IsTextIn base link content × Fills content status before after needed)
-    ⊎ ((status ≡ 1) × IsUntouched before after needed_before needed)
-    ⊎ ((status ≡ 5) × (link.version ≡ V0) × (base ≡ Base58Btc → ⊥) × IsUntouched before after needed_before needed)
+abbrev pub WritesText :
+    Base → Link → (status : ℕ) → Variable (List ℕ) → (needed : Variable ℕ) → Type 0
+WritesText base link status buffer needed =
+    ((content : List ℕ) × IsTextIn base link content
+    × Fills content status buffer.before buffer.after needed.after)
+    ⊎ ((status ≡ 1) × IsUntouched buffer.before buffer.after needed.before needed.after)
+    ⊎ ((status ≡ 5) × (link.version ≡ V0) × (base ≡ Base58Btc → ⊥)
+    × IsUntouched buffer.before buffer.after needed.before needed.after)
 
 -- the place in the text that an error names, or nothing
 abbrev pub place_or : ℕ → TextError → ℕ

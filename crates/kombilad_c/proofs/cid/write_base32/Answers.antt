@@ -17,7 +17,7 @@ use Rattle.kombilad_c.proofs.cid.write_base32.Goals as goal
 -- what is written is a text of the CID
 as_text : (o : Option ℕ) (link : Link) (content before after : List ℕ) (needed_before needed : ℕ) → IsTextIn Base32Lower link content
     → MatchOption o (IsUntouched before after needed_before needed) (λ status. Fills content status before after needed)
-    → MatchOption o (IsUntouched before after needed_before needed) (λ status. WritesText Base32Lower link status before after needed_before needed)
+    → MatchOption o (IsUntouched before after needed_before needed) (λ status. WritesText Base32Lower link status (record { before = before; after = after }) (record { before = needed_before; after = needed }))
 as_text None link content before after needed_before needed is h = h
 as_text (Some status) link content before after needed_before needed is h = inl (content, is, h)
 
