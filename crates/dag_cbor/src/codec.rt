@@ -56,8 +56,10 @@ impl Links for DagCborCodec {
         ensures ok { IfOk result (λ links. links_found bytes.now ≡ Some (links_left links)) }
         ensures err { IfErr result (λ error. MatchOption (cbor_failure error)
             (links_found bytes.now ≡ None) (λ failure. failure ≡ memory)) }
-        ensures errors { IfErr result (λ error. (error ≡ CborError.Memory) ⊎ (lies_in_bytes error ≡ true)) }
-        ensures first { IfErr result (λ error. lies_in_bytes error ≡ true → first_error bytes.now ≡ Some error) }
+        ensures errors { IfErr result (λ error. (error ≡ CborError.Memory)
+            ⊎ (lies_in_bytes error ≡ true)) }
+        ensures first { IfErr result (λ error. lies_in_bytes error ≡ true
+            → first_error bytes.now ≡ Some error) }
     {
         let mut finder = LinkFinder::new(alloc);
         read_events::<false, LinkFinder>(alloc, bytes, &mut finder)?;
@@ -67,7 +69,8 @@ impl Links for DagCborCodec {
 
 // All that the reader still has.
 pub(crate) fn read_block<R: BufRead>(alloc: Global, reader: &mut R) -> Result<Vec<u8>, CborError>
-    ensures ok { IfOk result (λ bytes. IfSome (R.remaining reader.old) (λ block. block ≡ bytes.items)) }
+    ensures ok { IfOk result (λ bytes. IfSome (R.remaining reader.old) (λ block.
+        block ≡ bytes.items)) }
     ensures read_out { OnOk result (IsReadOut (R.remaining reader.old) (R.remaining reader.new)) }
     ensures err { IfErr result (λ error. (error ≡ CborError.Memory) ⊎ (error ≡ CborError.Read)) }
 {
@@ -96,10 +99,13 @@ impl DagCborCodec {
         reader: &mut R,
         limits: &Limits,
     ) -> Result<Ipld, BlockError>
-        ensures found { IfOk result (λ value. IfSome (R.remaining reader.old) (λ block. tree_of_block block ≡ Some (tree_of value))) }
+        ensures found { IfOk result (λ value. IfSome (R.remaining reader.old) (λ block.
+            tree_of_block block ≡ Some (tree_of value))) }
         ensures within { IfOk result (λ value. Within limits.now (tree_of value)) }
-        ensures read_out { OnOk result (IsReadOut (R.remaining reader.old) (R.remaining reader.new)) }
-        ensures errors { IfErr result (λ error. StopsOrFails limits.now (R.remaining reader.old) error.kind) }
+        ensures read_out { OnOk result (IsReadOut (R.remaining reader.old)
+            (R.remaining reader.new)) }
+        ensures errors { IfErr result (λ error. StopsOrFails limits.now
+            (R.remaining reader.old) error.kind) }
         ensures stopped { IfErr result (StopsAtOrFails limits.now (R.remaining reader.old)) }
     {
         match read_block(alloc, reader) {
@@ -143,10 +149,13 @@ impl Codec<Ipld> for DagCborCodec {
     /// - `Memory` where an allocation failed.
     /// - Else the first error of the bytes, as of [`decode_slice`]. `Write` and `IntegerRange` are never returned.
     fn decode<R: BufRead>(alloc: Global, reader: &mut R) -> Result<Ipld, CborError>
-        ensures ok { IfOk result (λ value. IfSome (R.remaining reader.old) (λ block. tree_of_block block ≡ Some (tree_of value))) }
-        ensures read_out { OnOk result (IsReadOut (R.remaining reader.old) (R.remaining reader.new)) }
+        ensures ok { IfOk result (λ value. IfSome (R.remaining reader.old) (λ block.
+            tree_of_block block ≡ Some (tree_of value))) }
+        ensures read_out { OnOk result (IsReadOut (R.remaining reader.old)
+            (R.remaining reader.new)) }
         ensures err { IfErr result (λ error. MatchOption (cbor_failure error)
-            (IfSome (R.remaining reader.old) (λ block. tree_of_block block ≡ None)) (MemoryOr reading)) }
+            (IfSome (R.remaining reader.old) (λ block. tree_of_block block ≡ None))
+            (MemoryOr reading)) }
         ensures errors { IfErr result (λ error. (error ≡ CborError.Memory)
             ⊎ ((error ≡ CborError.Read) ⊎ (lies_in_bytes error ≡ true))) }
         ensures first { IfErr result (λ error. lies_in_bytes error ≡ true
@@ -167,15 +176,19 @@ impl Codec<Ipld> for DagCborCodec {
     ///   block, from the first on, may then have been written, but never all.
     #[tactic(auto, using(crate::proofs::EncodedParts::none_of_block, crate::proofs::EncodedParts::part_of_block))]
     fn encode<W: Write>(alloc: Global, writer: &mut W, value: &Ipld) -> Result<(), CborError>
-        ensures ok { OnOk result (Writes (canonical (tree_of value.now)) (W.contents writer.old) (W.contents writer.new)) }
+        ensures ok { OnOk result (Writes (canonical (tree_of value.now)) (W.contents writer.old)
+            (W.contents writer.new)) }
         ensures err { IfErr result (λ error. MatchOption (cbor_failure error)
             (canonical (tree_of value.now) ≡ None) (MemoryOr writing)) }
-        ensures out_of_range { IfOutOfRange result ((writer.new ≡ writer.old) × (in_range (tree_of value.now) ≡ false)) }
+        ensures out_of_range { IfOutOfRange result ((writer.new ≡ writer.old)
+            × (in_range (tree_of value.now) ≡ false)) }
         ensures rejected { in_range (tree_of value.now) ≡ false → (writer.new ≡ writer.old)
-            × IsErrAnd result (λ error. (error ≡ CborError.Memory) ⊎ (error ≡ CborError.IntegerRange)) }
+            × IsErrAnd result (λ error. (error ≡ CborError.Memory)
+            ⊎ (error ≡ CborError.IntegerRange)) }
         ensures failed { in_range (tree_of value.now) ≡ true
             → IfErr result (λ error. (error ≡ CborError.Memory) ⊎ (error ≡ CborError.Write)) }
-        ensures part { OnErr result (IfSome (canonical (tree_of value.now)) (WritesPart (W.contents writer.old) (W.contents writer.new))) }
+        ensures part { OnErr result (IfSome (canonical (tree_of value.now))
+            (WritesPart (W.contents writer.old) (W.contents writer.new))) }
     {
         let mut block = Vec::with_capacity(alloc, RESERVED)?;
         encode_to(alloc, &mut block, value)?;
@@ -195,8 +208,10 @@ impl Codec<Ipld> for DagCborCodec {
         ensures ok { IfOk result (λ value. tree_of_block bytes.now ≡ Some (tree_of value)) }
         ensures err { IfErr result (λ error. MatchOption (cbor_failure error)
             (tree_of_block bytes.now ≡ None) (MemoryOr reading)) }
-        ensures errors { IfErr result (λ error. (error ≡ CborError.Memory) ⊎ (lies_in_bytes error ≡ true)) }
-        ensures first { IfErr result (λ error. lies_in_bytes error ≡ true → first_error bytes.now ≡ Some error) }
+        ensures errors { IfErr result (λ error. (error ≡ CborError.Memory)
+            ⊎ (lies_in_bytes error ≡ true)) }
+        ensures first { IfErr result (λ error. lies_in_bytes error ≡ true
+            → first_error bytes.now ≡ Some error) }
     {
         decode_slice(alloc, bytes)
     }

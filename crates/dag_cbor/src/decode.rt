@@ -30,8 +30,10 @@ use std::alloc::Global;
 pub fn decode_slice(alloc: Global, bytes: &[u8]) -> Result<Ipld, CborError>
     ensures found { IfOk result (λ v. EncodesTree (tree_of v) bytes.now) }
     ensures only { (t : Tree) → EncodesTree t bytes.now → UnlessMemory result (λ v. tree_of v ≡ t) }
-    ensures errors { IfErr result (λ error. (error ≡ CborError.Memory) ⊎ (lies_in_bytes error ≡ true)) }
-    ensures first { IfErr result (λ error. lies_in_bytes error ≡ true → first_error bytes.now ≡ Some error) }
+    ensures errors { IfErr result (λ error. (error ≡ CborError.Memory)
+        ⊎ (lies_in_bytes error ≡ true)) }
+    ensures first { IfErr result (λ error. lies_in_bytes error ≡ true
+        → first_error bytes.now ≡ Some error) }
 {
     match read_shallow(alloc, bytes, SHALLOW) {
         Ok(tree) => Ok(tree),
@@ -44,8 +46,10 @@ pub fn decode_slice(alloc: Global, bytes: &[u8]) -> Result<Ipld, CborError>
 fn decode_by_loop(alloc: Global, bytes: &[u8]) -> Result<Ipld, CborError>
     ensures found { IfOk result (λ v. EncodesTree (tree_of v) bytes.now) }
     ensures only { (t : Tree) → EncodesTree t bytes.now → UnlessMemory result (λ v. tree_of v ≡ t) }
-    ensures errors { IfErr result (λ error. (error ≡ CborError.Memory) ⊎ (lies_in_bytes error ≡ true)) }
-    ensures first { IfErr result (λ error. lies_in_bytes error ≡ true → first_error bytes.now ≡ Some error) }
+    ensures errors { IfErr result (λ error. (error ≡ CborError.Memory)
+        ⊎ (lies_in_bytes error ≡ true)) }
+    ensures first { IfErr result (λ error. lies_in_bytes error ≡ true
+        → first_error bytes.now ≡ Some error) }
 {
     let mut builder = TreeBuilder::new(alloc);
     read_events::<false, TreeBuilder>(alloc, bytes, &mut builder)?;
@@ -72,13 +76,16 @@ fn decode_by_loop(alloc: Global, bytes: &[u8]) -> Result<Ipld, CborError>
 pub fn decode_slice_within(alloc: Global, bytes: &[u8], limits: &Limits) -> Result<Ipld, BlockError>
     ensures found { IfOk result (λ v. EncodesTree (tree_of v) bytes.now) }
     ensures within { IfOk result (λ v. Within limits.now (tree_of v)) }
-    ensures only { (t : Tree) → EncodesTree t bytes.now → Within limits.now t → UnlessOutOfMemory result (λ v. tree_of v ≡ t) }
-    ensures beyond { (t : Tree) → EncodesTree t bytes.now → (Within limits.now t → ⊥) → IsErrAnd result (λ error. IsLimit error.kind) }
+    ensures only { (t : Tree) → EncodesTree t bytes.now → Within limits.now t
+        → UnlessOutOfMemory result (λ v. tree_of v ≡ t) }
+    ensures beyond { (t : Tree) → EncodesTree t bytes.now → (Within limits.now t → ⊥)
+        → IsErrAnd result (λ error. IsLimit error.kind) }
     ensures exact { MatchResult result
         (λ v. excess_of_block limits.now bytes.now ≡ None)
         (λ error. Stops limits.now bytes.now error.kind) }
     ensures offset { IfErr result (λ error. error.offset ≤ length bytes.now) }
-    ensures stopped { IfErr result (λ error. StopsAt false limits.now bytes.now error.kind error.offset) }
+    ensures stopped { IfErr result (λ error. StopsAt false limits.now bytes.now error.kind
+        error.offset) }
 {
     match read_shallow_within(alloc, bytes, limits) {
         Ok(tree) => Ok(tree),
@@ -105,13 +112,16 @@ fn read_shallow_within(alloc: Global, bytes: &[u8], limits: &Limits) -> Result<I
 fn decode_by_loop_within(alloc: Global, bytes: &[u8], limits: &Limits) -> Result<Ipld, BlockError>
     ensures found { IfOk result (λ v. EncodesTree (tree_of v) bytes.now) }
     ensures within { IfOk result (λ v. Within limits.now (tree_of v)) }
-    ensures only { (t : Tree) → EncodesTree t bytes.now → Within limits.now t → UnlessOutOfMemory result (λ v. tree_of v ≡ t) }
-    ensures beyond { (t : Tree) → EncodesTree t bytes.now → (Within limits.now t → ⊥) → IsErrAnd result (λ error. IsLimit error.kind) }
+    ensures only { (t : Tree) → EncodesTree t bytes.now → Within limits.now t
+        → UnlessOutOfMemory result (λ v. tree_of v ≡ t) }
+    ensures beyond { (t : Tree) → EncodesTree t bytes.now → (Within limits.now t → ⊥)
+        → IsErrAnd result (λ error. IsLimit error.kind) }
     ensures exact { MatchResult result
         (λ v. excess_of_block limits.now bytes.now ≡ None)
         (λ error. Stops limits.now bytes.now error.kind) }
     ensures offset { IfErr result (λ error. error.offset ≤ length bytes.now) }
-    ensures stopped { IfErr result (λ error. StopsAt false limits.now bytes.now error.kind error.offset) }
+    ensures stopped { IfErr result (λ error. StopsAt false limits.now bytes.now error.kind
+        error.offset) }
 {
     let mut builder = TreeBuilder::new(alloc);
     read_events_within::<false, TreeBuilder>(alloc, bytes, *limits, &mut builder)?;

@@ -31,7 +31,8 @@ fn advance<'a>(
     cursor: &mut EncodeCursor<'a>,
     out: &mut Vec<u8>,
 ) -> Result<Option<&'a Ipld>, AllocError>
-    ensures { IfOk result (λ next. Advances (left_of cursor.old) out.old.items next (left_of cursor.new) out.new.items) }
+    ensures { IfOk result (λ next. Advances (left_of cursor.old) out.old.items next
+        (left_of cursor.new) out.new.items) }
 {
     match cursor {
         EncodeCursor::Items(items) => Ok(items.next()),
@@ -57,7 +58,8 @@ fn cursor_of<'a>(
     alloc: Global,
     members: &'a BTreeMap<String, Ipld>,
 ) -> Result<EncodeCursor<'a>, AllocError>
-    ensures { IfOk result (λ cursor. left_of cursor ≡ map of_entry (in_order (after_key members.now.entries))) }
+    ensures { IfOk result (λ cursor. left_of cursor ≡ map of_entry
+        (in_order (after_key members.now.entries))) }
 {
     if lengths_ascend(members) {
         return Ok(EncodeCursor::Entries(members.iter()));
@@ -72,7 +74,8 @@ fn enter<'a>(
     innermost: &mut EncodeCursor<'a>,
     outer: &mut Vec<EncodeCursor<'a>>,
 ) -> Result<(), AllocError>
-    ensures { OnOk result ((innermost.new ≡ inner.entry) × (outer.new.items ≡ outer.old.items ++ innermost.old ∷ [])) }
+    ensures { OnOk result ((innermost.new ≡ inner.entry)
+        × (outer.new.items ≡ outer.old.items ++ innermost.old ∷ [])) }
 {
     outer.push(mem::replace(innermost, inner))?;
     Ok(())
@@ -86,7 +89,8 @@ fn enter_list<'a>(
     innermost: &mut EncodeCursor<'a>,
     outer: &mut Vec<EncodeCursor<'a>>,
 ) -> Result<(), AllocError>
-    ensures { OnOk result (Opens (list (items_of items.now)) innermost.old outer.old.items out.old.items innermost.new outer.new.items out.new.items) }
+    ensures { OnOk result (Opens (list (items_of items.now)) innermost.old outer.old.items
+        out.old.items innermost.new outer.new.items out.new.items) }
 {
     write_head(out, Major::List, items.len() as u64)?;
     enter(EncodeCursor::Items(items.iter()), innermost, outer)?;
@@ -102,7 +106,8 @@ fn enter_map<'a>(
     innermost: &mut EncodeCursor<'a>,
     outer: &mut Vec<EncodeCursor<'a>>,
 ) -> Result<(), AllocError>
-    ensures { OnOk result (Opens (entries (members_of members.now.entries)) innermost.old outer.old.items out.old.items innermost.new outer.new.items out.new.items) }
+    ensures { OnOk result (Opens (entries (members_of members.now.entries)) innermost.old
+        outer.old.items out.old.items innermost.new outer.new.items out.new.items) }
 {
     write_head(out, Major::Map, members.len() as u64)?;
     let cursor = cursor_of(alloc, members)?;
@@ -119,7 +124,8 @@ fn write_value<'a>(
     innermost: &mut EncodeCursor<'a>,
     outer: &mut Vec<EncodeCursor<'a>>,
 ) -> Result<(), CborError>
-    ensures ok { OnOk result (Opens (tree_of value.now) innermost.old outer.old.items out.old.items innermost.new outer.new.items out.new.items) }
+    ensures ok { OnOk result (Opens (tree_of value.now) innermost.old outer.old.items out.old.items
+        innermost.new outer.new.items out.new.items) }
     ensures err { IfErr result (λ error. (error ≡ CborError.Memory)
         ⊎ ((error ≡ CborError.IntegerRange) × (range.in_range (tree_of value.now) ≡ false))) }
 {
@@ -145,9 +151,11 @@ fn write_next<'a>(
     innermost: &mut EncodeCursor<'a>,
     outer: &mut Vec<EncodeCursor<'a>>,
 ) -> Result<bool, CborError>
-    ensures ok { IfOk result (λ more. StepOf more innermost.old outer.old.items out.old.items innermost.new outer.new.items out.new.items) }
+    ensures ok { IfOk result (λ more. StepOf more innermost.old outer.old.items out.old.items
+        innermost.new outer.new.items out.new.items) }
     ensures err { IfErr result (λ error. (error ≡ CborError.Memory)
-        ⊎ ((error ≡ CborError.IntegerRange) × (within (all_left innermost.old outer.old.items) ≡ false))) }
+        ⊎ ((error ≡ CborError.IntegerRange) × (within (all_left innermost.old outer.old.items)
+        ≡ false))) }
 {
     let Some(value) = advance(innermost, out)? else {
         let Some(cursor) = outer.pop() else {

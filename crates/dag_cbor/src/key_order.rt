@@ -9,7 +9,8 @@ use std::collections::BTreeMap;
 
 // Whether no key is shorter than one before it in byte order: then they are in length-first order already.
 pub(crate) fn lengths_ascend(members: &BTreeMap<String, Ipld>) -> bool
-    ensures { IsTrue result → in_order (after_key members.now.entries) ≡ after_key members.now.entries }
+    ensures { IsTrue result → in_order (after_key members.now.entries)
+        ≡ after_key members.now.entries }
 {
     let mut longest = 0;
     for (key, _) in members.iter() {

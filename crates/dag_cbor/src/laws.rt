@@ -42,18 +42,23 @@ use std::alloc::Global;
 /// - A tree with an integer below -2^64 or above 2^64 - 1 has no block.
 /// - The block that is written of a tree encodes it, with the keys of each map in length-first order, and no other block does.
 pub fn block_law()
-    ensures errors { (block : List ℕ) → (first_error block ≡ None) ↔ ((t : Tree) × EncodesTree t block) }
-    ensures errors_of_bytes { (block : List ℕ) (error : CborError) → first_error block ≡ Some error → lies_in_bytes error ≡ true }
+    ensures errors { (block : List ℕ) → (first_error block ≡ None) ↔ ((t : Tree)
+        × EncodesTree t block) }
+    ensures errors_of_bytes { (block : List ℕ) (error : CborError) → first_error block ≡ Some error
+        → lies_in_bytes error ≡ true }
     ensures encoded_once { EncodedOnce EncodesTree }
     ensures decodes_encoded { DecodesEncoded EncodesTree tree_of_block }
-    ensures links { (i : Item 64) (t : Tree) (block : List ℕ) → EncodesItem i block → tree_of_item i ≡ Some t
+    ensures links { (i : Item 64) (t : Tree) (block : List ℕ) → EncodesItem i block
+        → tree_of_item i ≡ Some t
         → links_found block ≡ Some (links_in i) }
     ensures links_only { (block : List ℕ) (links : List Link) → links_found block ≡ Some links
-        → (i : Item 64) × (t : Tree) × EncodesItem i block × (tree_of_item i ≡ Some t) × (links ≡ links_in i) }
+        → (i : Item 64) × (t : Tree) × EncodesItem i block × (tree_of_item i ≡ Some t)
+        × (links ≡ links_in i) }
     ensures written_sorted { (t : Tree) (block : List ℕ) → canonical t ≡ Some block
         → (i : Item 64) × EncodesItem i block × HasSortedKeys i × (tree_of_item i ≡ Some t) }
     ensures out_of_range { (t : Tree) → in_range t ≡ false → canonical t ≡ None }
-    ensures only_sorted { (i : Item 64) (t : Tree) (block : List ℕ) → EncodesItem i block → tree_of_item i ≡ Some t → HasSortedKeys i
+    ensures only_sorted { (i : Item 64) (t : Tree) (block : List ℕ) → EncodesItem i block
+        → tree_of_item i ≡ Some t → HasSortedKeys i
         → canonical t ≡ Some block }
 {}
 
@@ -69,20 +74,32 @@ pub fn block_law()
 /// - It passes no limit exactly where the tree passes none.
 /// - Without floats the items that are encoded, the first error and the links are those of [`block_law`].
 pub fn float_law()
-    ensures errors { (floats : Bool) (block : List ℕ) → (error_in floats block ≡ None) ↔ ((t : Tree) × EncodesTreeIn floats t block) }
-    ensures errors_of_bytes { (floats : Bool) (block : List ℕ) (error : CborError) → error_in floats block ≡ Some error → lies_in_bytes error ≡ true }
-    ensures encoded_once { (floats : Bool) (t u : Tree) (block : List ℕ) → EncodesTreeIn floats t block → EncodesTreeIn floats u block → t ≡ u }
-    ensures links { (floats : Bool) (i : Item 64) (t : Tree) (block : List ℕ) → EncodesIn floats i block → tree_of_item i ≡ Some t
+    ensures errors { (floats : Bool) (block : List ℕ) → (error_in floats block ≡ None) ↔ ((t : Tree)
+        × EncodesTreeIn floats t block) }
+    ensures errors_of_bytes { (floats : Bool) (block : List ℕ) (error : CborError)
+        → error_in floats block ≡ Some error → lies_in_bytes error ≡ true }
+    ensures encoded_once { (floats : Bool) (t u : Tree) (block : List ℕ)
+        → EncodesTreeIn floats t block → EncodesTreeIn floats u block → t ≡ u }
+    ensures links { (floats : Bool) (i : Item 64) (t : Tree) (block : List ℕ)
+        → EncodesIn floats i block → tree_of_item i ≡ Some t
         → links_read floats block ≡ Some (links_in i) }
-    ensures links_only { (floats : Bool) (block : List ℕ) (links : List Link) → links_read floats block ≡ Some links
-        → (i : Item 64) × (t : Tree) × EncodesIn floats i block × (tree_of_item i ≡ Some t) × (links ≡ links_in i) }
-    ensures positions { (floats : Bool) (block : List ℕ) (links : List Link) (positions : List Position) → links_read floats block ≡ Some links
-        → positions_read floats block ≡ Some positions → map (λ p. read_link 64 (cut p block)) positions ≡ map Some links }
-    ensures sorted { (floats : Bool) (i : Item 64) (t : Tree) (block : List ℕ) → EncodesIn floats i block → tree_of_item i ≡ Some t
-        → (sorted : Bool) → is_sorted floats block ≡ Some sorted → (sorted ≡ true) ↔ HasSortedKeys i }
-    ensures limits { (floats : Bool) (limits : Limits) (i : Item 64) (t : Tree) (block : List ℕ) → EncodesIn floats i block → tree_of_item i ≡ Some t
+    ensures links_only { (floats : Bool) (block : List ℕ) (links : List Link)
+        → links_read floats block ≡ Some links
+        → (i : Item 64) × (t : Tree) × EncodesIn floats i block × (tree_of_item i ≡ Some t)
+        × (links ≡ links_in i) }
+    ensures positions { (floats : Bool) (block : List ℕ) (links : List Link)
+        (positions : List Position) → links_read floats block ≡ Some links
+        → positions_read floats block ≡ Some positions
+        → map (λ p. read_link 64 (cut p block)) positions ≡ map Some links }
+    ensures sorted { (floats : Bool) (i : Item 64) (t : Tree) (block : List ℕ)
+        → EncodesIn floats i block → tree_of_item i ≡ Some t
+        → (sorted : Bool) → is_sorted floats block ≡ Some sorted
+        → (sorted ≡ true) ↔ HasSortedKeys i }
+    ensures limits { (floats : Bool) (limits : Limits) (i : Item 64) (t : Tree) (block : List ℕ)
+        → EncodesIn floats i block → tree_of_item i ≡ Some t
         → (limit_passed floats limits block ≡ None) ↔ Within limits t }
-    ensures without_floats { (i : Item 64) (block : List ℕ) → EncodesIn false i block ↔ EncodesItem i block }
+    ensures without_floats { (i : Item 64) (block : List ℕ)
+        → EncodesIn false i block ↔ EncodesItem i block }
     ensures first_error { (block : List ℕ) → first_error block ≡ error_in false block }
     ensures links_found { (block : List ℕ) → links_read false block ≡ links_found block }
 {}

@@ -36,7 +36,8 @@ fn read_byte_string<'a>(
     length: u64,
     bytes: &'a [u8],
 ) -> Result<&'a [u8], Stop>
-    ensures { (levels : ℕ) → IfOk result (λ rest. Continues levels Major.Bytes length bytes.entry.now (tree_of value.new) rest.now) }
+    ensures { (levels : ℕ) → IfOk result (λ rest.
+        Continues levels Major.Bytes length bytes.entry.now (tree_of value.new) rest.now) }
 {
     let (content, rest) = read_bytes(length, bytes)?;
     let copy = Vec::from_slice(alloc, content)?;
@@ -51,7 +52,8 @@ fn read_text_string<'a>(
     length: u64,
     bytes: &'a [u8],
 ) -> Result<&'a [u8], Stop>
-    ensures { (levels : ℕ) → IfOk result (λ rest. Continues levels Major.Text length bytes.entry.now (tree_of value.new) rest.now) }
+    ensures { (levels : ℕ) → IfOk result (λ rest. Continues levels Major.Text length bytes.entry.now
+        (tree_of value.new) rest.now) }
 {
     let (content, rest) = read_text(length, bytes)?;
     let copy = String::from_str(alloc, content)?;
@@ -61,7 +63,8 @@ fn read_text_string<'a>(
 
 #[inline(always)]
 fn read_link<'a>(value: &mut Ipld, tag: u64, bytes: &'a [u8]) -> Result<&'a [u8], Stop>
-    ensures { (levels : ℕ) → IfOk result (λ rest. Continues levels Major.Tag tag bytes.entry.now (tree_of value.new) rest.now) }
+    ensures { (levels : ℕ) → IfOk result (λ rest. Continues levels Major.Tag tag bytes.entry.now
+        (tree_of value.new) rest.now) }
 {
     if tag != LINK_TAG {
         return Err(Stop::Unread);
@@ -78,7 +81,8 @@ fn read_link<'a>(value: &mut Ipld, tag: u64, bytes: &'a [u8]) -> Result<&'a [u8]
 
 #[inline(always)]
 fn read_simple<'a>(value: &mut Ipld, number: u64, bytes: &'a [u8]) -> Result<&'a [u8], Stop>
-    ensures { (levels : ℕ) → IfOk result (λ rest. Continues levels Major.Simple number bytes.entry.now (tree_of value.new) rest.now) }
+    ensures { (levels : ℕ) → IfOk result (λ rest.
+        Continues levels Major.Simple number bytes.entry.now (tree_of value.new) rest.now) }
 {
     match number {
         20 => {
@@ -112,7 +116,8 @@ fn read_content<'a>(
     left: usize,
 ) -> Result<&'a [u8], Stop>
     requires { levels ≤ 32 }
-    ensures { IfOk result (λ rest. Continues levels major argument bytes.entry.now (tree_of value.new) rest.now) }
+    ensures { IfOk result (λ rest. Continues levels major argument bytes.entry.now
+        (tree_of value.new) rest.now) }
 {
     match major {
         Major::Unsigned => {
@@ -170,7 +175,8 @@ fn read_list<'a>(
     owed: usize,
 ) -> Result<&'a [u8], Stop>
     requires { levels ≤ 32 }
-    ensures { IfOk result (λ rest. Continues levels Major.List count bytes.entry.now (tree_of value.new) rest.now) }
+    ensures { IfOk result (λ rest. Continues levels Major.List count bytes.entry.now
+        (tree_of value.new) rest.now) }
 {
     let Some(inner) = levels.checked_sub(1) else {
         return Err(Stop::Unread);
@@ -202,7 +208,8 @@ fn add_item<'a>(
     left: usize,
 ) -> Result<&'a [u8], Stop>
     requires { levels ≤ 32 }
-    ensures { IfOk result (λ rest. Adds levels items.old.items items.new.items bytes.entry.now rest.now) }
+    ensures { IfOk result (λ rest. Adds levels items.old.items items.new.items bytes.entry.now
+        rest.now) }
 {
     let (major, argument, rest) = read_head(bytes)?;
     match major {
@@ -232,7 +239,9 @@ fn add_content<'a>(
     left: usize,
 ) -> Result<&'a [u8], Stop>
     requires { levels ≤ 32 }
-    ensures { IfOk result (λ rest. IsArgument major argument → Adds levels items.old.items items.new.items (head major argument ++ bytes.entry.now) rest.now) }
+    ensures { IfOk result (λ rest. IsArgument major argument
+        → Adds levels items.old.items items.new.items (head major argument ++ bytes.entry.now)
+        rest.now) }
 {
     let mut value = Ipld::Null;
     let rest = read_content(
@@ -265,7 +274,8 @@ fn read_map<'a>(
     owed: usize,
 ) -> Result<&'a [u8], Stop>
     requires { levels ≤ 32 }
-    ensures { IfOk result (λ rest. Continues levels Major.Map count bytes.entry.now (tree_of value.new) rest.now) }
+    ensures { IfOk result (λ rest. Continues levels Major.Map count bytes.entry.now
+        (tree_of value.new) rest.now) }
 {
     let Some(inner) = levels.checked_sub(1) else {
         return Err(Stop::Unread);
@@ -294,7 +304,8 @@ fn add_entry<'a>(
     left: usize,
 ) -> Result<&'a [u8], Stop>
     requires { levels ≤ 32 }
-    ensures { IfOk result (λ rest. Enters levels members.old.entries members.new.entries bytes.entry.now rest.now) }
+    ensures { IfOk result (λ rest. Enters levels members.old.entries members.new.entries
+        bytes.entry.now rest.now) }
 {
     let (key, behind) = read_key_text(bytes)?;
     let name = String::from_str(alloc, key)?;
@@ -308,8 +319,10 @@ fn add_entry<'a>(
 // Puts a value under a key that the map doesn't have yet.
 #[inline(always)]
 fn insert_member(members: &mut BTreeMap<String, Ipld>, key: String, value: Ipld) -> Result<(), Stop>
-    ensures absent { OnOk result (has_key (string_bytes key) (members_of members.old.entries) ≡ false) }
-    ensures put { OnOk result (members_of members.new.entries ≡ put (string_bytes key) (tree_of value) (members_of members.old.entries)) }
+    ensures absent { OnOk result (has_key (string_bytes key) (members_of members.old.entries)
+        ≡ false) }
+    ensures put { OnOk result (members_of members.new.entries ≡ put (string_bytes key)
+        (tree_of value) (members_of members.old.entries)) }
 {
     match members.insert(key, value) {
         Ok(None) => Ok(()),
@@ -329,7 +342,8 @@ fn read_large_map<'a>(
     owed: usize,
 ) -> Result<&'a [u8], Stop>
     requires { levels ≤ 32 }
-    ensures { IfOk result (λ rest. Continues levels Major.Map count bytes.entry.now (tree_of value.new) rest.now) }
+    ensures { IfOk result (λ rest. Continues levels Major.Map count bytes.entry.now
+        (tree_of value.new) rest.now) }
 {
     let Some(inner) = levels.checked_sub(1) else {
         return Err(Stop::Unread);
@@ -362,7 +376,8 @@ fn push_entry<'a>(
     left: usize,
 ) -> Result<&'a [u8], Stop>
     requires { levels ≤ 32 }
-    ensures { IfOk result (λ rest. AddsEntry levels entries.old.items entries.new.items bytes.entry.now rest.now) }
+    ensures { IfOk result (λ rest. AddsEntry levels entries.old.items entries.new.items
+        bytes.entry.now rest.now) }
 {
     let (key, behind) = read_key_text(bytes)?;
     let name = String::from_str(alloc, key)?;
@@ -385,7 +400,8 @@ fn map_of_distinct(
     alloc: Global,
     entries: Vec<(String, Ipld)>,
 ) -> Result<BTreeMap<String, Ipld>, Stop>
-    ensures { IfOk result (λ members. all_new (map entry_of entries.items) ≡ Some (members_of members.entries)) }
+    ensures { IfOk result (λ members. all_new (map entry_of entries.items) ≡ Some
+        (members_of members.entries)) }
 {
     let count = entries.len();
     let members = map_of(alloc, entries)?;

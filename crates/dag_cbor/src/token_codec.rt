@@ -61,8 +61,10 @@ impl Links for TokenCodec {
         ensures ok { IfOk result (λ links. links_found bytes.now ≡ Some (links_left links)) }
         ensures err { IfErr result (λ error. MatchOption (cbor_failure error)
             (links_found bytes.now ≡ None) (λ failure. failure ≡ memory)) }
-        ensures errors { IfErr result (λ error. (error ≡ CborError.Memory) ⊎ (lies_in_bytes error ≡ true)) }
-        ensures first { IfErr result (λ error. lies_in_bytes error ≡ true → first_error bytes.now ≡ Some error) }
+        ensures errors { IfErr result (λ error. (error ≡ CborError.Memory)
+            ⊎ (lies_in_bytes error ≡ true)) }
+        ensures first { IfErr result (λ error. lies_in_bytes error ≡ true
+            → first_error bytes.now ≡ Some error) }
     {
         // Laws, which do nothing when they run.
         block_law();
@@ -109,10 +111,13 @@ impl Codec<Ipld> for TokenCodec {
     /// - `Memory` if an allocation failed.
     /// - Else the first error of the bytes, as of [`decode_slice`](crate::decode_slice). `Write` and `IntegerRange` are never returned.
     fn decode<R: BufRead>(alloc: Global, reader: &mut R) -> Result<Ipld, CborError>
-        ensures ok { IfOk result (λ value. IfSome (R.remaining reader.old) (λ block. tree_of_block block ≡ Some (tree_of value))) }
-        ensures read_out { OnOk result (IsReadOut (R.remaining reader.old) (R.remaining reader.new)) }
+        ensures ok { IfOk result (λ value. IfSome (R.remaining reader.old) (λ block.
+            tree_of_block block ≡ Some (tree_of value))) }
+        ensures read_out { OnOk result (IsReadOut (R.remaining reader.old)
+            (R.remaining reader.new)) }
         ensures err { IfErr result (λ error. MatchOption (cbor_failure error)
-            (IfSome (R.remaining reader.old) (λ block. tree_of_block block ≡ None)) (MemoryOr reading)) }
+            (IfSome (R.remaining reader.old) (λ block. tree_of_block block ≡ None))
+            (MemoryOr reading)) }
         ensures errors { IfErr result (λ error. (error ≡ CborError.Memory)
             ⊎ ((error ≡ CborError.Read) ⊎ (lies_in_bytes error ≡ true))) }
         ensures first { IfErr result (λ error. lies_in_bytes error ≡ true
@@ -128,7 +133,8 @@ impl Codec<Ipld> for TokenCodec {
     ///
     /// Those of [`DagCborCodec`].
     fn encode<W: Write>(alloc: Global, writer: &mut W, value: &Ipld) -> Result<(), CborError>
-        ensures ok { OnOk result (Writes (canonical (tree_of value.now)) (W.contents writer.old) (W.contents writer.new)) }
+        ensures ok { OnOk result (Writes (canonical (tree_of value.now)) (W.contents writer.old)
+            (W.contents writer.new)) }
         ensures err { IfErr result (λ error. MatchOption (cbor_failure error)
             (canonical (tree_of value.now) ≡ None) (MemoryOr writing)) }
     {
@@ -144,8 +150,10 @@ impl Codec<Ipld> for TokenCodec {
         ensures ok { IfOk result (λ value. tree_of_block bytes.now ≡ Some (tree_of value)) }
         ensures err { IfErr result (λ error. MatchOption (cbor_failure error)
             (tree_of_block bytes.now ≡ None) (MemoryOr reading)) }
-        ensures errors { IfErr result (λ error. (error ≡ CborError.Memory) ⊎ (lies_in_bytes error ≡ true)) }
-        ensures first { IfErr result (λ error. lies_in_bytes error ≡ true → first_error bytes.now ≡ Some error) }
+        ensures errors { IfErr result (λ error. (error ≡ CborError.Memory)
+            ⊎ (lies_in_bytes error ≡ true)) }
+        ensures first { IfErr result (λ error. lies_in_bytes error ≡ true
+            → first_error bytes.now ≡ Some error) }
     {
         // Laws, which do nothing when they run.
         block_law();

@@ -57,7 +57,8 @@ impl TreeBuilder {
 
     // Puts a value into the innermost container.
     fn add(&mut self, value: Ipld) -> Result<(), AllocError>
-        ensures { Reaches (completed (tree_of value) (levels_of self.old)) result (state_of self.new) }
+        ensures { Reaches (completed (tree_of value) (levels_of self.old)) result
+            (state_of self.new) }
     {
         let built = self.tree.put(value);
         self.settle(built)
@@ -66,7 +67,8 @@ impl TreeBuilder {
     // Puts an integer into the innermost container.
     #[inline(always)]
     fn add_integer(&mut self, number: i128) -> Result<(), AllocError>
-        ensures { Reaches (completed (integer number) (levels_of self.old)) result (state_of self.new) }
+        ensures { Reaches (completed (integer number) (levels_of self.old)) result
+            (state_of self.new) }
     {
         let built = self.tree.put_integer(number);
         self.settle(built)
@@ -75,7 +77,8 @@ impl TreeBuilder {
     // Puts a string into the innermost container.
     #[inline(never)]
     fn add_text(&mut self, string: &str) -> Result<(), AllocError>
-        ensures { Reaches (completed (text_tree string.now) (levels_of self.old)) result (state_of self.new) }
+        ensures { Reaches (completed (text_tree string.now) (levels_of self.old)) result
+            (state_of self.new) }
     {
         let string = String::from_str(self.alloc, string)?;
         self.add(Ipld::String(string))
@@ -83,7 +86,8 @@ impl TreeBuilder {
 
     // A string, which is a key where a map has none that waits.
     fn add_key(&mut self, string: &str) -> Result<(), AllocError>
-        ensures { Reaches (step (state_of self.old) (atom (text string.now))) result (state_of self.new) }
+        ensures { Reaches (step (state_of self.old) (atom (text string.now))) result
+            (state_of self.new) }
     {
         if self.tree.is_at_key() {
             let key = String::from_str(self.alloc, string)?;
@@ -96,7 +100,8 @@ impl TreeBuilder {
     // Adds a string as a value where one can come, else as a key.
     #[inline(always)]
     fn add_string(&mut self, string: &str) -> Result<(), AllocError>
-        ensures { Reaches (step (state_of self.old) (atom (text string.now))) result (state_of self.new) }
+        ensures { Reaches (step (state_of self.old) (atom (text string.now))) result
+            (state_of self.new) }
     {
         if self.tree.takes_value() {
             self.add_text(string)
@@ -131,7 +136,8 @@ impl TreeBuilder {
 
     #[inline(never)]
     fn add_link(&mut self, cid: Cid) -> Result<(), AllocError>
-        ensures { (encoded : List ℕ) → read_link 64 encoded ≡ Some (link_of cid) → Takes tree_answer self.old (link ∷ bytes encoded ∷ []) result self.new }
+        ensures { (encoded : List ℕ) → read_link 64 encoded ≡ Some (link_of cid)
+            → Takes tree_answer self.old (link ∷ bytes encoded ∷ []) result self.new }
     {
         self.add(Ipld::Link(cid))
     }

@@ -48,8 +48,10 @@ impl<'a> OrderChecker<'a> {
     // A key comes after this one, which was taken from the innermost map.
     #[inline(always)]
     fn follow(&mut self, last: Option<&'a str>, key: &'a str) -> Result<(), AllocError>
-        ensures lasts { OnOk result (self.new.lasts.items ≡ self.old.lasts.items ++ Some key.entry ∷ []) }
-        ensures is_sorted { OnOk result (self.new.is_sorted ≡ (self.old.is_sorted && follows (last_of last.entry) key.entry.now)) }
+        ensures lasts { OnOk result (self.new.lasts.items ≡ self.old.lasts.items ++ Some key.entry
+            ∷ []) }
+        ensures is_sorted { OnOk result (self.new.is_sorted ≡ (self.old.is_sorted && follows
+            (last_of last.entry) key.entry.now)) }
     {
         self.is_sorted = both(self.is_sorted, comes_next(last, key));
         self.lasts.push(Some(key))?;

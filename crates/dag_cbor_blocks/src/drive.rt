@@ -25,7 +25,8 @@ pub(crate) fn visit_block<V: Visitor>(
     spare: V,
 ) -> Result<V, BlockError>
     requires { (events : List Event) → V.answer spare events ≡ V.answer visitor events }
-    ensures { ReturnsVisitor options.now.floats V.answer visitor options.now.limits bytes.now result }
+    ensures { ReturnsVisitor options.now.floats V.answer visitor options.now.limits bytes.now
+        result }
 {
     let mut visitor = visitor;
     match visit_shallow(bytes, options, &mut visitor) {

@@ -14,7 +14,8 @@ use ipld_cid::Cid;
 // The CID that stands behind the tag of a link, its bytes, and those that follow them.
 #[inline(always)]
 pub(crate) fn read_link_cid(bytes: &[u8]) -> Result<(Cid, &[u8], &[u8]), CborError>
-    ensures encoded { Returns (λ x. (x.1.now, x.2.now)) (wrong.link_error bytes.now) result (reading.link_at bytes.now) }
+    ensures encoded { Returns (λ x. (x.1.now, x.2.now)) (wrong.link_error bytes.now) result
+        (reading.link_at bytes.now) }
     ensures cid { IfOk result (λ x. read_link 64 x.1.now ≡ Some (link_of x.0)) }
 {
     let (encoded, rest) = read_link_bytes(bytes)?;

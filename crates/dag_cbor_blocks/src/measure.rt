@@ -62,7 +62,8 @@ impl Measurer {
     // A value has come that is a link.
     #[inline(always)]
     fn count_link(&mut self) -> Result<(), AllocError>
-        ensures { Counts self.old.depth self.old.levels (self.old.links + 1) self.old result self.new }
+        ensures { Counts self.old.depth self.old.levels (self.old.links + 1) self.old result
+            self.new }
     {
         let Some(links) = self.links.checked_add(1) else {
             return Err(AllocError);
@@ -74,7 +75,8 @@ impl Measurer {
     // A list or a map begins.
     #[inline(always)]
     fn begin(&mut self) -> Result<(), AllocError>
-        ensures { Counts (self.old.depth + 1) (max self.old.levels (self.old.depth + 1)) self.old.links self.old result self.new }
+        ensures { Counts (self.old.depth + 1) (max self.old.levels (self.old.depth + 1))
+            self.old.links self.old result self.new }
     {
         let Some(depth) = self.depth.checked_add(1) else {
             return Err(AllocError);
@@ -133,9 +135,12 @@ pub fn measure_block(
     bytes: &[u8],
     options: &ReadOptions,
 ) -> Result<BlockSize, BlockError>
-    ensures exact { ReadsAs options.now.floats options.now.limits bytes.now (option_map length (links_read options.now.floats bytes.now)) (λ size. size.links) result }
-    ensures found { IfOk result (λ size. (t : Tree) × EncodesTreeIn options.now.floats t bytes.now × Measures t size) }
-    ensures only { (t : Tree) → EncodesTreeIn options.now.floats t bytes.now → Within options.now.limits t → UnlessOutOfMemory result (Measures t) }
+    ensures exact { ReadsAs options.now.floats options.now.limits bytes.now
+        (option_map length (links_read options.now.floats bytes.now)) (λ size. size.links) result }
+    ensures found { IfOk result (λ size. (t : Tree) × EncodesTreeIn options.now.floats t bytes.now
+        × Measures t size) }
+    ensures only { (t : Tree) → EncodesTreeIn options.now.floats t bytes.now
+        → Within options.now.limits t → UnlessOutOfMemory result (Measures t) }
 {
     let measurer = visit_block(alloc, bytes, options, Measurer::new(), Measurer::new())?;
     Ok(BlockSize {

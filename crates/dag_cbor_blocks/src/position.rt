@@ -103,11 +103,14 @@ impl<'a> Position<'a> {
 
     #[inline(always)]
     fn open(&mut self, level: Level<'a>) -> Result<(), AllocError>
-        ensures frames { OnOk result (frames_of self.new ≡ framed level.entry (frames_of self.old)) }
+        ensures frames { OnOk result (frames_of self.new ≡ framed level.entry
+            (frames_of self.old)) }
         ensures rest { OnOk result (self.new.rest.now ≡ self.old.rest.now) }
-        ensures outer { OnOk result (length self.new.outer.items ≤ length self.old.outer.items + 1) }
+        ensures outer { OnOk result (length self.new.outer.items ≤ length self.old.outer.items
+            + 1) }
         ensures begun { OnOk result (self.new.begun ≡ self.old.begun) }
-        ensures unchanged { IfErr result (λ _. (frames_of self.new ≡ frames_of self.old) × (self.new.rest.now ≡ self.old.rest.now)) }
+        ensures unchanged { IfErr result (λ _. (frames_of self.new ≡ frames_of self.old)
+            × (self.new.rest.now ≡ self.old.rest.now)) }
     {
         match mem::replace(&mut self.innermost, level) {
             Level::Whole => Ok(()),
@@ -124,9 +127,11 @@ impl<'a> Position<'a> {
     // Keeps what was innermost, where there may be no capacity for it.
     #[inline(never)]
     fn grow(&mut self, innermost: Level<'a>) -> Result<(), AllocError>
-        ensures outer { OnOk result (self.new.outer.items ≡ self.old.outer.items ++ innermost.entry ∷ []) }
+        ensures outer { OnOk result (self.new.outer.items ≡ self.old.outer.items ++ innermost.entry
+            ∷ []) }
         ensures innermost { OnOk result (self.new.innermost ≡ self.old.innermost) }
-        ensures restored { IfErr result (λ _. (self.new.innermost ≡ innermost.entry) × (self.new.outer.items ≡ self.old.outer.items)) }
+        ensures restored { IfErr result (λ _. (self.new.innermost ≡ innermost.entry)
+            × (self.new.outer.items ≡ self.old.outer.items)) }
         ensures rest { self.new.rest.now ≡ self.old.rest.now }
         ensures begun { self.new.begun ≡ self.old.begun }
     {
@@ -144,9 +149,11 @@ impl<'a> Position<'a> {
     pub(crate) fn open_list(&mut self, items: u64) -> Result<(), AllocError>
         ensures frames { OnOk result (frames_of self.new ≡ many items ∷ frames_of self.old) }
         ensures rest { OnOk result (self.new.rest.now ≡ self.old.rest.now) }
-        ensures outer { OnOk result (length self.new.outer.items ≤ length self.old.outer.items + 1) }
+        ensures outer { OnOk result (length self.new.outer.items ≤ length self.old.outer.items
+            + 1) }
         ensures begun { OnOk result (self.new.begun ≡ self.old.begun) }
-        ensures unchanged { IfErr result (λ _. (frames_of self.new ≡ frames_of self.old) × (self.new.rest.now ≡ self.old.rest.now)) }
+        ensures unchanged { IfErr result (λ _. (frames_of self.new ≡ frames_of self.old)
+            × (self.new.rest.now ≡ self.old.rest.now)) }
     {
         self.open(Level::List(items))
     }
@@ -154,11 +161,14 @@ impl<'a> Position<'a> {
     // Opens a map of so many pairs.
     #[inline(always)]
     pub(crate) fn open_map(&mut self, pairs: u64) -> Result<(), AllocError>
-        ensures frames { OnOk result (frames_of self.new ≡ pairs_frame pairs [] ∷ frames_of self.old) }
+        ensures frames { OnOk result (frames_of self.new ≡ pairs_frame pairs []
+            ∷ frames_of self.old) }
         ensures rest { OnOk result (self.new.rest.now ≡ self.old.rest.now) }
-        ensures outer { OnOk result (length self.new.outer.items ≤ length self.old.outer.items + 1) }
+        ensures outer { OnOk result (length self.new.outer.items ≤ length self.old.outer.items
+            + 1) }
         ensures begun { OnOk result (self.new.begun ≡ self.old.begun) }
-        ensures unchanged { IfErr result (λ _. (frames_of self.new ≡ frames_of self.old) × (self.new.rest.now ≡ self.old.rest.now)) }
+        ensures unchanged { IfErr result (λ _. (frames_of self.new ≡ frames_of self.old)
+            × (self.new.rest.now ≡ self.old.rest.now)) }
     {
         let memory = mem::replace(&mut self.spare, Vec::new(self.alloc));
         let keys = Keys::with_memory(memory, pairs)?;

@@ -41,7 +41,8 @@ use std::alloc::Global;
 #[inline(always)]
 pub fn check_block(alloc: Global, bytes: &[u8], options: &ReadOptions) -> Result<(), BlockError>
     ensures exact { MatchResult result
-        (λ _. (error_in options.now.floats bytes.now ≡ None) × (limit_passed options.now.floats options.now.limits bytes.now ≡ None))
+        (λ _. (error_in options.now.floats bytes.now ≡ None)
+        × (limit_passed options.now.floats options.now.limits bytes.now ≡ None))
         (λ error. StopsAt options.now.floats options.now.limits bytes.now error.kind error.offset) }
 {
     visit_block(
@@ -67,9 +68,12 @@ pub fn links_of_block(
     bytes: &[u8],
     options: &ReadOptions,
 ) -> Result<Vec<Cid>, BlockError>
-    ensures exact { ReadsAs options.now.floats options.now.limits bytes.now (links_read options.now.floats bytes.now) (λ links. map link_of links.items) result }
-    ensures found { IfOk result (λ links. LinksOf options.now.floats bytes.now (map link_of links.items)) }
-    ensures only { (i : Item 64) (t : Tree) → EncodesIn options.now.floats i bytes.now → tree_of_item i ≡ Some t → Within options.now.limits t
+    ensures exact { ReadsAs options.now.floats options.now.limits bytes.now
+        (links_read options.now.floats bytes.now) (λ links. map link_of links.items) result }
+    ensures found { IfOk result (λ links. LinksOf options.now.floats bytes.now
+        (map link_of links.items)) }
+    ensures only { (i : Item 64) (t : Tree) → EncodesIn options.now.floats i bytes.now
+        → tree_of_item i ≡ Some t → Within options.now.limits t
         → UnlessOutOfMemory result (λ links. map link_of links.items ≡ links_in i) }
 {
     let finder = visit_block(
@@ -89,7 +93,8 @@ pub fn links_of_block(
 /// Those of [`check_block`]: the same error of the same bytes, unless an allocation fails.
 #[inline(always)]
 pub fn count_links(alloc: Global, bytes: &[u8], options: &ReadOptions) -> Result<usize, BlockError>
-    ensures exact { ReadsAs options.now.floats options.now.limits bytes.now (option_map length (links_read options.now.floats bytes.now)) (λ count. count) result }
+    ensures exact { ReadsAs options.now.floats options.now.limits bytes.now
+        (option_map length (links_read options.now.floats bytes.now)) (λ count. count) result }
 {
     let counter = visit_block(
         alloc,
@@ -114,7 +119,9 @@ pub fn link_positions(
     bytes: &[u8],
     options: &ReadOptions,
 ) -> Result<Vec<LinkPosition>, BlockError>
-    ensures exact { ReadsAs options.now.floats options.now.limits bytes.now (positions_read options.now.floats bytes.now) (λ positions. map position_of positions.items) result }
+    ensures exact { ReadsAs options.now.floats options.now.limits bytes.now
+        (positions_read options.now.floats bytes.now) (λ positions. map position_of positions.items)
+        result }
 {
     let finder = visit_block(
         alloc,
@@ -136,8 +143,10 @@ pub fn link_positions(
 /// Those of [`check_block`]: the same error of the same bytes, unless an allocation fails.
 #[inline(always)]
 pub fn is_canonical(alloc: Global, bytes: &[u8], options: &ReadOptions) -> Result<bool, BlockError>
-    ensures exact { ReadsAs options.now.floats options.now.limits bytes.now (is_sorted options.now.floats bytes.now) (λ sorted. sorted) result }
-    ensures canonical { options.now.floats ≡ false → IfOk result (λ sorted. (sorted ≡ true) ↔ ((t : Tree) × (canonical t ≡ Some bytes.now))) }
+    ensures exact { ReadsAs options.now.floats options.now.limits bytes.now
+        (is_sorted options.now.floats bytes.now) (λ sorted. sorted) result }
+    ensures canonical { options.now.floats ≡ false
+        → IfOk result (λ sorted. (sorted ≡ true) ↔ ((t : Tree) × (canonical t ≡ Some bytes.now))) }
 {
     let mut checker = OrderChecker::new(alloc);
     read_events_as(alloc, bytes, options, &mut checker)?;

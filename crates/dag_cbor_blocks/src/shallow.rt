@@ -58,7 +58,8 @@ fn visit_float<'a, const FLOATS: bool, V: Visitor>(
     visitor: &mut V,
     bytes: &'a [u8],
 ) -> Result<&'a [u8], Stop>
-    ensures { (levels : ℕ) → IfOk result (λ rest. VisitsItem FLOATS V.answer levels visitor.old visitor.new bytes.entry.now rest.now) }
+    ensures { (levels : ℕ) → IfOk result (λ rest.
+        VisitsItem FLOATS V.answer levels visitor.old visitor.new bytes.entry.now rest.now) }
 {
     if FLOATS {
         if let [FLOAT, rest @ ..] = bytes {
@@ -80,7 +81,9 @@ fn visit_link<'a, const FLOATS: bool, V: Visitor>(
     tag: u64,
     bytes: &'a [u8],
 ) -> Result<&'a [u8], Stop>
-    ensures { (levels : ℕ) → IfOk result (λ rest. VisitsContent FLOATS V.answer levels Major.Tag tag visitor.old visitor.new bytes.entry.now rest.now) }
+    ensures { (levels : ℕ) → IfOk result (λ rest.
+        VisitsContent FLOATS V.answer levels Major.Tag tag visitor.old visitor.new bytes.entry.now
+        rest.now) }
 {
     if tag != LINK_TAG {
         return Err(Stop::Unread);
@@ -106,7 +109,9 @@ fn visit_simple<'a, const FLOATS: bool, V: Visitor>(
     value: u64,
     bytes: &'a [u8],
 ) -> Result<&'a [u8], Stop>
-    ensures { (levels : ℕ) → IfOk result (λ rest. VisitsContent FLOATS V.answer levels Major.Simple value visitor.old visitor.new bytes.entry.now rest.now) }
+    ensures { (levels : ℕ) → IfOk result (λ rest.
+        VisitsContent FLOATS V.answer levels Major.Simple value visitor.old visitor.new
+        bytes.entry.now rest.now) }
 {
     match value {
         20 => {
@@ -135,7 +140,8 @@ fn visit_list<'a, const FLOATS: bool, V: Visitor>(
     levels: usize,
 ) -> Result<&'a [u8], Stop>
     requires { levels ≤ 32 }
-    ensures { IfOk result (λ rest. VisitsContent FLOATS V.answer levels Major.List count visitor.old visitor.new bytes.entry.now rest.now) }
+    ensures { IfOk result (λ rest. VisitsContent FLOATS V.answer levels Major.List count visitor.old
+        visitor.new bytes.entry.now rest.now) }
 {
     let Some(inner) = levels.checked_sub(1) else {
         return Err(Stop::Unread);
@@ -162,7 +168,8 @@ fn visit_map<'a, const FLOATS: bool, V: Visitor>(
     levels: usize,
 ) -> Result<&'a [u8], Stop>
     requires { levels ≤ 32 }
-    ensures { IfOk result (λ rest. VisitsContent FLOATS V.answer levels Major.Map count visitor.old visitor.new bytes.entry.now rest.now) }
+    ensures { IfOk result (λ rest. VisitsContent FLOATS V.answer levels Major.Map count visitor.old
+        visitor.new bytes.entry.now rest.now) }
 {
     let Some(inner) = levels.checked_sub(1) else {
         return Err(Stop::Unread);
@@ -195,7 +202,8 @@ fn visit_item<'a, const FLOATS: bool, V: Visitor>(
     levels: usize,
 ) -> Result<&'a [u8], Stop>
     requires { levels ≤ 32 }
-    ensures { IfOk result (λ rest. VisitsItem FLOATS V.answer levels visitor.old visitor.new bytes.entry.now rest.now) }
+    ensures { IfOk result (λ rest. VisitsItem FLOATS V.answer levels visitor.old visitor.new
+        bytes.entry.now rest.now) }
 {
     let Ok((major, argument, rest)) = read_head(bytes) else {
         return visit_float::<FLOATS, V>(visitor, bytes);
@@ -234,7 +242,8 @@ fn visit_levels<const FLOATS: bool, V: Visitor>(
     levels: usize,
 ) -> Result<(), Stop>
     requires { levels ≤ 32 }
-    ensures { IfOk result (λ _. TakesUntil V.answer levels visitor.old visitor.new (trace_of FLOATS bytes.now) (halted None 0)) }
+    ensures { IfOk result (λ _. TakesUntil V.answer levels visitor.old visitor.new
+        (trace_of FLOATS bytes.now) (halted None 0)) }
 {
     let rest = visit_item::<FLOATS, V>(visitor, bytes, levels)?;
     if rest.is_empty() {
@@ -251,7 +260,8 @@ pub(crate) fn visit_shallow<V: Visitor>(
     options: &ReadOptions,
     visitor: &mut V,
 ) -> Result<(), Stop>
-    ensures { IfOk result (λ _. TakesWhole options.now.floats V.answer visitor.old options.now.limits bytes.now visitor.new) }
+    ensures { IfOk result (λ _. TakesWhole options.now.floats V.answer visitor.old
+        options.now.limits bytes.now visitor.new) }
 {
     if bytes.len() > options.limits.values {
         return Err(Stop::Unread);

@@ -245,7 +245,8 @@ impl TapeWriter {
     // An entry, behind which so many bytes are left.
     #[inline(always)]
     fn push(&mut self, kind: u32, len: u32, value: u64, left: usize) -> Result<(), AllocError>
-        ensures { Writes (λ t. reading (written (entry kind len value) left t)) self.old result self.new }
+        ensures { Writes (λ t. reading (written (entry kind len value) left t)) self.old result
+            self.new }
     {
         push_entry(&mut self.entries, kind, len, value)?;
         self.left = left;
@@ -255,7 +256,8 @@ impl TapeWriter {
     // A value of no bytes.
     #[inline(always)]
     fn push_value(&mut self, kind: u32, value: u64, left: usize) -> Result<(), AllocError>
-        ensures { Writes (λ t. reading (written (entry kind 0 value) left (counted t))) self.old result self.new }
+        ensures { Writes (λ t. reading (written (entry kind 0 value) left (counted t))) self.old
+            result self.new }
     {
         self.count()?;
         self.push(kind, 0, value, left)
@@ -318,7 +320,8 @@ impl TapeWriter {
     // A value with content of so many bytes, which counts as one of what is open.
     #[inline(always)]
     fn push_counted(&mut self, kind: u32, length: usize, left: usize) -> Result<(), AllocError>
-        ensures { Writes (λ t. content_after kind length left (counted t)) self.old result self.new }
+        ensures { Writes (λ t. content_after kind length left (counted t)) self.old result
+            self.new }
     {
         self.count()?;
         self.push_content(kind, length, left)
@@ -413,8 +416,10 @@ impl Visitor for TapeWriter {
 /// no other error.
 pub fn read_tape(alloc: Global, bytes: &[u8], limits: &Limits) -> Result<Vec<TapeEntry>, TapeError>
     ensures exact { GivesTape limits.now bytes.now (λ entries. entries.items) result }
-    ensures once { (es : List TapeEntry) → IsTapeOf es bytes.now → ReturnsTape es (λ entries. entries.items) result }
-    ensures only { (t : Tree) → EncodesTreeIn true t bytes.now → Within limits.now t → OnlyMemory result }
+    ensures once { (es : List TapeEntry) → IsTapeOf es bytes.now
+        → ReturnsTape es (λ entries. entries.items) result }
+    ensures only { (t : Tree) → EncodesTreeIn true t bytes.now → Within limits.now t
+        → OnlyMemory result }
 {
     let options = ReadOptions {
         limits: *limits,

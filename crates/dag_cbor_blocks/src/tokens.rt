@@ -41,9 +41,11 @@ impl<'a> CborTokens<'a> {
 
     /// A source of the block's tokens. Does not allocate.
     pub fn new(alloc: Global, bytes: &'a [u8]) -> Self
-        ensures tokens { (i : Item 64) (t : Tree) → EncodesItem i bytes.entry.now → tree_of_item i ≡ Some t
+        ensures tokens { (i : Item 64) (t : Tree) → EncodesItem i bytes.entry.now
+            → tree_of_item i ≡ Some t
             → tokens_left result ≡ tokens_of i }
-        ensures begins { (taken rest : List TokenModel) → tokens_left result ≡ taken ++ rest → BeginsTree taken }
+        ensures begins { (taken rest : List TokenModel) → tokens_left result ≡ taken ++ rest
+            → BeginsTree taken }
         ensures block { block_of result ≡ bytes.entry.now }
         ensures not_failed { has_stopped result ≡ false }
     {

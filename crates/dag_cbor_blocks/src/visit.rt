@@ -59,7 +59,8 @@ pub trait Visitor: Drop {
     /// `AllocError` if an allocation failed. What the visitor then comes to isn't said.
     fn visit(&mut self, event: &Event<'_>, left: usize) -> Result<(), AllocError>
         requires { IsRead event.now }
-        ensures { (key : Bool) → Takes answer self.old (events_of event.now left key) result self.new };
+        ensures { (key : Bool) → Takes answer self.old (events_of event.now left key) result
+            self.new };
 }
 
 /// Takes the parts of a block one after another, as a [`Visitor`] does, and may keep strings and bytes of the block.
@@ -79,7 +80,8 @@ pub trait BorrowingVisitor<'a>: Drop {
     /// Those of [`Visitor::visit`].
     fn visit(&mut self, event: &Event<'a>, left: usize) -> Result<(), AllocError>
         requires { IsRead event.now }
-        ensures { (key : Bool) → Takes answer self.old (events_of event.now left key) result self.new };
+        ensures { (key : Bool) → Takes answer self.old (events_of event.now left key) result
+            self.new };
 }
 
 impl<'a, V: Visitor> BorrowingVisitor<'a> for V {

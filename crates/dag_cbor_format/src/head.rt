@@ -29,7 +29,8 @@ fn major_of(first: u8) -> Major
 // An argument that has another form below the least.
 #[inline(always)]
 fn argument_at_least(least: u64, argument: u64, rest: &[u8]) -> Result<(u64, &[u8]), CborError>
-    ensures { Returns (λ x. (x.0, x.1.now)) CborError.NotShortest result (reading.at_least least argument rest.now) }
+    ensures { Returns (λ x. (x.0, x.1.now)) CborError.NotShortest result
+        (reading.at_least least argument rest.now) }
 {
     if argument < least {
         return Err(CborError::NotShortest);
@@ -39,7 +40,8 @@ fn argument_at_least(least: u64, argument: u64, rest: &[u8]) -> Result<(u64, &[u
 
 #[inline(always)]
 fn read_byte(bytes: &[u8]) -> Result<(u64, &[u8]), CborError>
-    ensures { Returns (λ x. (x.0, x.1.now)) (wrong.byte_error bytes.now) result (reading.read_byte bytes.now) }
+    ensures { Returns (λ x. (x.0, x.1.now)) (wrong.byte_error bytes.now) result
+        (reading.read_byte bytes.now) }
 {
     match bytes {
         [] => Err(CborError::End),
@@ -49,7 +51,8 @@ fn read_byte(bytes: &[u8]) -> Result<(u64, &[u8]), CborError>
 
 #[inline(always)]
 fn read_two_bytes(bytes: &[u8]) -> Result<(u64, &[u8]), CborError>
-    ensures { Returns (λ x. (x.0, x.1.now)) (wrong.wide_error w16 bytes.now) result (reading.read_wide w16 (2 ^ 8) bytes.now) }
+    ensures { Returns (λ x. (x.0, x.1.now)) (wrong.wide_error w16 bytes.now) result
+        (reading.read_wide w16 (2 ^ 8) bytes.now) }
 {
     let Some((argument, rest)) = bytes.split_first_chunk::<2>() else {
         return Err(CborError::End);
@@ -59,7 +62,8 @@ fn read_two_bytes(bytes: &[u8]) -> Result<(u64, &[u8]), CborError>
 
 #[inline(always)]
 fn read_four_bytes(bytes: &[u8]) -> Result<(u64, &[u8]), CborError>
-    ensures { Returns (λ x. (x.0, x.1.now)) (wrong.wide_error w32 bytes.now) result (reading.read_wide w32 (2 ^ 16) bytes.now) }
+    ensures { Returns (λ x. (x.0, x.1.now)) (wrong.wide_error w32 bytes.now) result
+        (reading.read_wide w32 (2 ^ 16) bytes.now) }
 {
     let Some((argument, rest)) = bytes.split_first_chunk::<4>() else {
         return Err(CborError::End);
@@ -69,7 +73,8 @@ fn read_four_bytes(bytes: &[u8]) -> Result<(u64, &[u8]), CborError>
 
 #[inline(always)]
 fn read_eight_bytes(bytes: &[u8]) -> Result<(u64, &[u8]), CborError>
-    ensures { Returns (λ x. (x.0, x.1.now)) (wrong.wide_error w64 bytes.now) result (reading.read_wide w64 (2 ^ 32) bytes.now) }
+    ensures { Returns (λ x. (x.0, x.1.now)) (wrong.wide_error w64 bytes.now) result
+        (reading.read_wide w64 (2 ^ 32) bytes.now) }
 {
     let Some((argument, rest)) = bytes.split_first_chunk::<8>() else {
         return Err(CborError::End);
@@ -81,7 +86,8 @@ fn read_eight_bytes(bytes: &[u8]) -> Result<(u64, &[u8]), CborError>
 #[tactic(auto, unfolding(crate::specs::HeadReading::read_argument, crate::specs::Errors::argument_error))]
 #[inline(always)]
 fn read_argument(additional: u8, bytes: &[u8]) -> Result<(u64, &[u8]), CborError>
-    ensures { Returns (λ x. (x.0, x.1.now)) (wrong.argument_error additional bytes.now) result (reading.read_argument additional bytes.now) }
+    ensures { Returns (λ x. (x.0, x.1.now)) (wrong.argument_error additional bytes.now) result
+        (reading.read_argument additional bytes.now) }
 {
     if additional < 24 {
         return Ok((u64::from(additional), bytes));
@@ -98,7 +104,8 @@ fn read_argument(additional: u8, bytes: &[u8]) -> Result<(u64, &[u8]), CborError
 // The argument of a simple value, which is in the first byte; floats are major type 7 too.
 #[inline(always)]
 fn read_simple(additional: u8, bytes: &[u8]) -> Result<(u64, &[u8]), CborError>
-    ensures { Returns (λ x. (x.0, x.1.now)) (wrong.simple_error additional) result (reading.argument_of Major.Simple additional bytes.now) }
+    ensures { Returns (λ x. (x.0, x.1.now)) (wrong.simple_error additional) result
+        (reading.argument_of Major.Simple additional bytes.now) }
 {
     match additional {
         0..24 => Ok((u64::from(additional), bytes)),
@@ -109,7 +116,8 @@ fn read_simple(additional: u8, bytes: &[u8]) -> Result<(u64, &[u8]), CborError>
 
 #[inline(always)]
 fn argument_of(major: Major, additional: u8, bytes: &[u8]) -> Result<(u64, &[u8]), CborError>
-    ensures { Returns (λ x. (x.0, x.1.now)) (wrong.error_of_argument major additional bytes.now) result (reading.argument_of major additional bytes.now) }
+    ensures { Returns (λ x. (x.0, x.1.now)) (wrong.error_of_argument major additional bytes.now)
+        result (reading.argument_of major additional bytes.now) }
 {
     match major {
         Major::Simple => read_simple(additional, bytes),
@@ -121,7 +129,8 @@ fn argument_of(major: Major, additional: u8, bytes: &[u8]) -> Result<(u64, &[u8]
 #[tactic(auto, unfolding(crate::specs::HeadReading::read_head, crate::specs::Errors::head_error))]
 #[inline(always)]
 fn read_any_head(bytes: &[u8]) -> Result<(Major, u64, &[u8]), CborError>
-    ensures { Returns (λ x. (x.0, x.1, x.2.now)) (wrong.head_error bytes.now) result (reading.read_head bytes.now) }
+    ensures { Returns (λ x. (x.0, x.1, x.2.now)) (wrong.head_error bytes.now) result
+        (reading.read_head bytes.now) }
 {
     let [first, rest @ ..] = bytes else {
         return Err(CborError::End);
@@ -140,7 +149,8 @@ fn read_any_head(bytes: &[u8]) -> Result<(Major, u64, &[u8]), CborError>
 /// - `Float` of the head of a float, and `Unsupported` of an indefinite length and of a head that RFC 8949 reserves.
 #[inline(always)]
 pub fn read_head(bytes: &[u8]) -> Result<(Major, u64, &[u8]), CborError>
-    ensures { Returns (λ x. (x.0, x.1, x.2.now)) (wrong.head_error bytes.now) result (reading.head_at bytes.now) }
+    ensures { Returns (λ x. (x.0, x.1, x.2.now)) (wrong.head_error bytes.now) result
+        (reading.head_at bytes.now) }
 {
     read_any_head(bytes)
 }

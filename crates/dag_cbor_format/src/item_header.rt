@@ -50,7 +50,8 @@ pub enum ItemHeader<'a> {
 #[tactic(auto, unfolding(crate::specs::ItemHeader::front))]
 #[inline(always)]
 pub fn read_bytes(length: u64, bytes: &[u8]) -> Result<(&[u8], &[u8]), CborError>
-    ensures { Returns (λ x. (x.0.now, x.1.now)) CborError.End result (reading.front length bytes.now) }
+    ensures { Returns (λ x. (x.0.now, x.1.now)) CborError.End result
+        (reading.front length bytes.now) }
 {
     bytes
         .split_at_checked(length as usize)
@@ -82,7 +83,8 @@ pub fn is_finite(content: &[u8]) -> bool
 /// `End` where there are fewer bytes, `Utf8` where they are no UTF-8.
 #[inline(always)]
 pub fn read_text(length: u64, bytes: &[u8]) -> Result<(&str, &[u8]), CborError>
-    ensures { Returns (λ x. (x.0.now, x.1.now)) (wrong.text_error (reading.front length bytes.now)) result (reading.if_text (reading.front length bytes.now)) }
+    ensures { Returns (λ x. (x.0.now, x.1.now)) (wrong.text_error (reading.front length bytes.now))
+        result (reading.if_text (reading.front length bytes.now)) }
 {
     let (text, rest) = read_bytes(length, bytes)?;
     if text.len() < SHORT && is_ascii(text) {
@@ -102,7 +104,8 @@ pub fn read_text(length: u64, bytes: &[u8]) -> Result<(&str, &[u8]), CborError>
 
 #[inline(always)]
 fn bytes_header(length: u64, bytes: &[u8]) -> Result<(ItemHeader<'_>, &[u8]), CborError>
-    ensures { Returns (λ x. (beginning_of x.0, x.1.now)) CborError.End result (reading.bytes_scalar (reading.front length bytes.now)) }
+    ensures { Returns (λ x. (beginning_of x.0, x.1.now)) CborError.End result (reading.bytes_scalar
+        (reading.front length bytes.now)) }
 {
     let (bytes, rest) = read_bytes(length, bytes)?;
     Ok((
@@ -113,7 +116,8 @@ fn bytes_header(length: u64, bytes: &[u8]) -> Result<(ItemHeader<'_>, &[u8]), Cb
 
 #[inline(always)]
 fn text_header(length: u64, bytes: &[u8]) -> Result<(ItemHeader<'_>, &[u8]), CborError>
-    ensures { Returns (λ x. (beginning_of x.0, x.1.now)) (wrong.text_error (reading.front length bytes.now)) result
+    ensures { Returns (λ x. (beginning_of x.0, x.1.now))
+        (wrong.text_error (reading.front length bytes.now)) result
         (reading.text_scalar (reading.if_text (reading.front length bytes.now))) }
 {
     let (text, rest) = read_text(length, bytes)?;
@@ -122,7 +126,8 @@ fn text_header(length: u64, bytes: &[u8]) -> Result<(ItemHeader<'_>, &[u8]), Cbo
 
 #[inline(always)]
 fn simple_header(value: u64, rest: &[u8]) -> Result<(ItemHeader<'_>, &[u8]), CborError>
-    ensures { Returns (λ x. (beginning_of x.0, x.1.now)) CborError.Unsupported result (reading.simple_at value rest.now) }
+    ensures { Returns (λ x. (beginning_of x.0, x.1.now)) CborError.Unsupported result
+        (reading.simple_at value rest.now) }
 {
     match value {
         20 => Ok((ItemHeader::Scalar(Token::Bool(false)), rest)),
@@ -134,7 +139,8 @@ fn simple_header(value: u64, rest: &[u8]) -> Result<(ItemHeader<'_>, &[u8]), Cbo
 
 #[inline(always)]
 fn tag_header(tag: u64, rest: &[u8]) -> Result<(ItemHeader<'_>, &[u8]), CborError>
-    ensures { Returns (λ x. (beginning_of x.0, x.1.now)) CborError.Unsupported result (reading.item_header_after Major.Tag tag rest.now) }
+    ensures { Returns (λ x. (beginning_of x.0, x.1.now)) CborError.Unsupported result
+        (reading.item_header_after Major.Tag tag rest.now) }
 {
     if tag == LINK_TAG {
         Ok((ItemHeader::Link, rest))
@@ -145,7 +151,8 @@ fn tag_header(tag: u64, rest: &[u8]) -> Result<(ItemHeader<'_>, &[u8]), CborErro
 
 #[inline(always)]
 fn header_of(major: Major, argument: u64, rest: &[u8]) -> Result<(ItemHeader<'_>, &[u8]), CborError>
-    ensures { Returns (λ x. (beginning_of x.0, x.1.now)) (wrong.item_error major argument rest.now) result (reading.item_header_after major argument rest.now) }
+    ensures { Returns (λ x. (beginning_of x.0, x.1.now)) (wrong.item_error major argument rest.now)
+        result (reading.item_header_after major argument rest.now) }
 {
     match major {
         Major::Unsigned => Ok((ItemHeader::Scalar(Token::Int(i128::from(argument))), rest)),
@@ -171,7 +178,8 @@ fn header_of(major: Major, argument: u64, rest: &[u8]) -> Result<(ItemHeader<'_>
 #[tactic(auto, unfolding(crate::specs::ItemHeader::item_header_at, crate::specs::Errors::item_header_error))]
 #[inline(always)]
 pub fn read_header(bytes: &[u8]) -> Result<(ItemHeader<'_>, &[u8]), CborError>
-    ensures { Returns (λ x. (beginning_of x.0, x.1.now)) (wrong.item_header_error bytes.now) result (reading.item_header_at bytes.now) }
+    ensures { Returns (λ x. (beginning_of x.0, x.1.now)) (wrong.item_header_error bytes.now) result
+        (reading.item_header_at bytes.now) }
 {
     let (major, argument, rest) = read_head(bytes)?;
     header_of(major, argument, rest)
@@ -179,7 +187,8 @@ pub fn read_header(bytes: &[u8]) -> Result<(ItemHeader<'_>, &[u8]), CborError>
 
 #[inline(always)]
 fn key_text(major: Major, argument: u64, rest: &[u8]) -> Result<(&str, &[u8]), CborError>
-    ensures { Returns (λ x. (x.0.now, x.1.now)) (wrong.text_key_error major argument rest.now) result (reading.text_after major argument rest.now) }
+    ensures { Returns (λ x. (x.0.now, x.1.now)) (wrong.text_key_error major argument rest.now)
+        result (reading.text_after major argument rest.now) }
 {
     match major {
         Major::Text => read_text(argument, rest),
@@ -195,7 +204,8 @@ fn key_text(major: Major, argument: u64, rest: &[u8]) -> Result<(&str, &[u8]), C
 #[tactic(auto, unfolding(crate::specs::ItemHeader::key_at, crate::specs::Errors::key_error))]
 #[inline(always)]
 pub fn read_key_text(bytes: &[u8]) -> Result<(&str, &[u8]), CborError>
-    ensures { Returns (λ x. (x.0.now, x.1.now)) (wrong.key_error bytes.now) result (reading.key_at bytes.now) }
+    ensures { Returns (λ x. (x.0.now, x.1.now)) (wrong.key_error bytes.now) result
+        (reading.key_at bytes.now) }
 {
     let (major, argument, rest) = read_head(bytes)?;
     key_text(major, argument, rest)
@@ -204,7 +214,8 @@ pub fn read_key_text(bytes: &[u8]) -> Result<(&str, &[u8]), CborError>
 // The bytes of a CID behind a zero byte.
 #[inline(always)]
 fn strip_zero<'a>(content: &'a [u8], rest: &'a [u8]) -> Result<(&'a [u8], &'a [u8]), CborError>
-    ensures { Returns (λ x. (x.0.now, x.1.now)) CborError.LinkBytes result (behind_zero (Some (content.entry.now, rest.entry.now))) }
+    ensures { Returns (λ x. (x.0.now, x.1.now)) CborError.LinkBytes result
+        (behind_zero (Some (content.entry.now, rest.entry.now))) }
 {
     match content {
         [0, encoded @ ..] => Ok((encoded, rest)),
@@ -214,7 +225,8 @@ fn strip_zero<'a>(content: &'a [u8], rest: &'a [u8]) -> Result<(&'a [u8], &'a [u
 
 #[inline(always)]
 fn link_content(major: Major, argument: u64, rest: &[u8]) -> Result<(&[u8], &[u8]), CborError>
-    ensures { Returns (λ x. (x.0.now, x.1.now)) (wrong.bytes_error major argument rest.now) result (link_bytes_after major argument rest.now) }
+    ensures { Returns (λ x. (x.0.now, x.1.now)) (wrong.bytes_error major argument rest.now) result
+        (link_bytes_after major argument rest.now) }
 {
     match major {
         Major::Bytes => {
@@ -233,7 +245,8 @@ fn link_content(major: Major, argument: u64, rest: &[u8]) -> Result<(&[u8], &[u8
 #[tactic(auto, unfolding(crate::specs::LinkBytes::link_bytes_at, crate::specs::Errors::link_error))]
 #[inline(always)]
 pub fn read_link_bytes(bytes: &[u8]) -> Result<(&[u8], &[u8]), CborError>
-    ensures { Returns (λ x. (x.0.now, x.1.now)) (wrong.link_error bytes.now) result (link_bytes_at bytes.now) }
+    ensures { Returns (λ x. (x.0.now, x.1.now)) (wrong.link_error bytes.now) result
+        (link_bytes_at bytes.now) }
 {
     let (major, argument, rest) = read_head(bytes)?;
     link_content(major, argument, rest)

@@ -48,7 +48,8 @@ fn first_byte(major: Major, additional: u8) -> u8
 pub fn write_head(out: &mut Vec<u8>, major: Major, argument: u64) -> Result<(), AllocError>
     ensures ok { OnOk result (out.new.items ≡ out.old.items ++ head major argument) }
     ensures unchanged { OnErr result (out.new.items ≡ out.old.items) }
-    ensures full { OnErr result (vec_capacity out.old < vec_len out.old + length (head major argument)) }
+    ensures full { OnErr result (vec_capacity out.old < vec_len out.old + length
+        (head major argument)) }
     ensures capacity { vec_capacity out.old ≤ vec_capacity out.new }
 {
     if argument < 24 {
@@ -77,8 +78,10 @@ pub fn write_head(out: &mut Vec<u8>, major: Major, argument: u64) -> Result<(), 
 #[inline(always)]
 pub fn write_text(out: &mut Vec<u8>, text: &str) -> Result<(), AllocError>
     ensures ok { OnOk result (Adds (canonical (tree.text text.now)) out.old.items out.new.items) }
-    ensures part { OnErr result (AddsPart (canonical (tree.text text.now)) out.old.items out.new.items) }
-    ensures full { OnErr result (LacksCapacity (canonical (tree.text text.now)) (vec_capacity out.old) (vec_len out.old)) }
+    ensures part { OnErr result (AddsPart (canonical (tree.text text.now)) out.old.items
+        out.new.items) }
+    ensures full { OnErr result (LacksCapacity (canonical (tree.text text.now))
+        (vec_capacity out.old) (vec_len out.old)) }
 {
     write_head(out, Major::Text, text.len() as u64)?;
     out.extend_from_slice(text.as_bytes())
@@ -92,8 +95,10 @@ pub fn write_text(out: &mut Vec<u8>, text: &str) -> Result<(), AllocError>
 #[inline(always)]
 pub fn write_bytes(out: &mut Vec<u8>, bytes: &[u8]) -> Result<(), AllocError>
     ensures ok { OnOk result (Adds (canonical (tree.bytes bytes.now)) out.old.items out.new.items) }
-    ensures part { OnErr result (AddsPart (canonical (tree.bytes bytes.now)) out.old.items out.new.items) }
-    ensures full { OnErr result (LacksCapacity (canonical (tree.bytes bytes.now)) (vec_capacity out.old) (vec_len out.old)) }
+    ensures part { OnErr result (AddsPart (canonical (tree.bytes bytes.now)) out.old.items
+        out.new.items) }
+    ensures full { OnErr result (LacksCapacity (canonical (tree.bytes bytes.now))
+        (vec_capacity out.old) (vec_len out.old)) }
 {
     write_head(out, Major::Bytes, bytes.len() as u64)?;
     out.extend_from_slice(bytes)
@@ -105,9 +110,12 @@ pub fn write_bytes(out: &mut Vec<u8>, bytes: &[u8]) -> Result<(), AllocError>
 ///
 /// `AllocError` where the vector has no capacity for it and an allocation failed. A beginning of it may have been added, and never all.
 pub fn write_link(out: &mut Vec<u8>, cid: &Cid) -> Result<(), AllocError>
-    ensures ok { OnOk result (Adds (canonical (tree.link (link_of cid.now))) out.old.items out.new.items) }
-    ensures part { OnErr result (AddsPart (canonical (tree.link (link_of cid.now))) out.old.items out.new.items) }
-    ensures full { OnErr result (LacksCapacity (canonical (tree.link (link_of cid.now))) (vec_capacity out.old) (vec_len out.old)) }
+    ensures ok { OnOk result (Adds (canonical (tree.link (link_of cid.now))) out.old.items
+        out.new.items) }
+    ensures part { OnErr result (AddsPart (canonical (tree.link (link_of cid.now))) out.old.items
+        out.new.items) }
+    ensures full { OnErr result (LacksCapacity (canonical (tree.link (link_of cid.now)))
+        (vec_capacity out.old) (vec_len out.old)) }
 {
     let content_len = 1 + cid.encoded_len() as u64;
     write_head(out, Major::Tag, LINK_TAG)?;
@@ -120,7 +128,8 @@ pub fn write_link(out: &mut Vec<u8>, cid: &Cid) -> Result<(), AllocError>
 #[inline(always)]
 fn integer_head(number: i128) -> Option<(Major, u64)>
     ensures { MatchOption result (has_argument number ≡ false)
-        (λ parts. (has_argument number ≡ true) × (canonical (tree.integer number) ≡ Some (head parts.0 parts.1))) }
+        (λ parts. (has_argument number ≡ true)
+        × (canonical (tree.integer number) ≡ Some (head parts.0 parts.1))) }
 {
     if number < 0 {
         match u64::try_from(-1 - number) {
@@ -148,7 +157,8 @@ pub fn write_integer(out: &mut Vec<u8>, number: i128) -> Result<(), CborError>
     ensures err { IfErr result (λ error. ((error ≡ CborError.Memory) × (has_argument number ≡ true))
         ⊎ ((error ≡ CborError.IntegerRange) × (has_argument number ≡ false))) }
     ensures unchanged { OnErr result (out.new.items ≡ out.old.items) }
-    ensures full { OnErr result (LacksCapacity (canonical (tree.integer number)) (vec_capacity out.old) (vec_len out.old)) }
+    ensures full { OnErr result (LacksCapacity (canonical (tree.integer number))
+        (vec_capacity out.old) (vec_len out.old)) }
 {
     let Some((major, argument)) = integer_head(number) else {
         return Err(CborError::IntegerRange);

@@ -41,7 +41,8 @@ pub(crate) struct BlockReader<'a> {
 // What follows an integer, a string or bytes, of which no tree need be made.
 #[inline(always)]
 fn skip_scalar(bytes: &[u8]) -> Option<&[u8]>
-    ensures { (levels : ℕ) → IfSome result (λ rest. (t : Tree) × Begins levels t bytes.now rest.now) }
+    ensures { (levels : ℕ) → IfSome result (λ rest. (t : Tree)
+        × Begins levels t bytes.now rest.now) }
 {
     let Ok((major, argument, more)) = read_head(bytes) else {
         return None;

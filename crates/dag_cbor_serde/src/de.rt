@@ -33,7 +33,8 @@ use std::io::BufRead;
 pub fn from_slice<T: Deserialize>(alloc: Global, bytes: &[u8]) -> Result<T, DecodeError>
     ensures ok { IfOk result (λ v. reads_block T.reads bytes.now ≡ Some (T.contents v)) }
     ensures within { IfOk result (λ v. BlockWithin default_limits bytes.now) }
-    ensures err { IfErr result (λ error. NotRead T.reads T.read_error default_limits bytes.now error) }
+    ensures err { IfErr result (λ error. NotRead T.reads T.read_error default_limits bytes.now
+        error) }
     ensures no_reader { IfErr result (λ error. error ≢ DecodeError.Read) }
 {
     from_slice_within(alloc, bytes, &Limits::default())
@@ -77,7 +78,8 @@ fn read_parts<T: Deserialize>(
 ) -> Result<T, Option<DecodeError>>
     ensures ok { IfOk result (λ v. reads_block T.reads bytes.now ≡ Some (T.contents v)) }
     ensures within { IfOk result (λ v. BlockWithin limits.now bytes.now) }
-    ensures err { IfErr result (λ known. IfSome known (NotRead T.reads T.read_error limits.now bytes.now)) }
+    ensures err { IfErr result (λ known. IfSome known
+        (NotRead T.reads T.read_error limits.now bytes.now)) }
     ensures no_reader { IfErr result (λ known. IfSome known (λ error. error ≢ DecodeError.Read)) }
 {
     if bytes.len() > limits.values {
@@ -122,10 +124,14 @@ pub fn from_reader<T: Deserialize, R: BufRead>(
     alloc: Global,
     reader: &mut R,
 ) -> Result<T, DecodeError>
-    ensures ok { IfOk result (λ v. IfSome (R.remaining reader.old) (λ block. reads_block T.reads block ≡ Some (T.contents v))) }
-    ensures within { IfOk result (λ v. IfSome (R.remaining reader.old) (BlockWithin default_limits)) }
+    ensures ok { IfOk result (λ v. IfSome (R.remaining reader.old) (λ block.
+        reads_block T.reads block ≡ Some (T.contents v))) }
+    ensures within { IfOk result (λ v. IfSome (R.remaining reader.old)
+        (BlockWithin default_limits)) }
     ensures read_out { OnOk result (IsReadOut (R.remaining reader.old) (R.remaining reader.new)) }
-    ensures err { IfErr result (λ error. (error ≡ DecodeError.Read) ⊎ IfSome (R.remaining reader.old) (λ block. NotRead T.reads T.read_error default_limits block error)) }
+    ensures err { IfErr result (λ error. (error ≡ DecodeError.Read)
+        ⊎ IfSome (R.remaining reader.old) (λ block.
+        NotRead T.reads T.read_error default_limits block error)) }
 {
     from_reader_within(alloc, reader, &Limits::default())
 }
@@ -141,10 +147,13 @@ pub fn from_reader_within<T: Deserialize, R: BufRead>(
     reader: &mut R,
     limits: &Limits,
 ) -> Result<T, DecodeError>
-    ensures ok { IfOk result (λ v. IfSome (R.remaining reader.old) (λ block. reads_block T.reads block ≡ Some (T.contents v))) }
+    ensures ok { IfOk result (λ v. IfSome (R.remaining reader.old) (λ block.
+        reads_block T.reads block ≡ Some (T.contents v))) }
     ensures within { IfOk result (λ v. IfSome (R.remaining reader.old) (BlockWithin limits.now)) }
     ensures read_out { OnOk result (IsReadOut (R.remaining reader.old) (R.remaining reader.new)) }
-    ensures err { IfErr result (λ error. (error ≡ DecodeError.Read) ⊎ IfSome (R.remaining reader.old) (λ block. NotRead T.reads T.read_error limits.now block error)) }
+    ensures err { IfErr result (λ error. (error ≡ DecodeError.Read)
+        ⊎ IfSome (R.remaining reader.old) (λ block.
+        NotRead T.reads T.read_error limits.now block error)) }
 {
     let block = read_block(alloc, reader)?;
     from_slice_within(alloc, &block, limits)
@@ -152,9 +161,11 @@ pub fn from_reader_within<T: Deserialize, R: BufRead>(
 
 // All that the reader still has.
 fn read_block<R: BufRead>(alloc: Global, reader: &mut R) -> Result<Vec<u8>, DecodeError>
-    ensures ok { IfOk result (λ bytes. IfSome (R.remaining reader.old) (λ block. block ≡ bytes.items)) }
+    ensures ok { IfOk result (λ bytes. IfSome (R.remaining reader.old) (λ block.
+        block ≡ bytes.items)) }
     ensures read_out { OnOk result (IsReadOut (R.remaining reader.old) (R.remaining reader.new)) }
-    ensures err { IfErr result (λ error. (error ≡ DecodeError.Memory) ⊎ (error ≡ DecodeError.Read)) }
+    ensures err { IfErr result (λ error. (error ≡ DecodeError.Memory)
+        ⊎ (error ≡ DecodeError.Read)) }
 {
     match RawCodec::decode(alloc, reader) {
         Ok(Ipld::Bytes(bytes)) => Ok(bytes),

@@ -42,8 +42,10 @@ pub fn explain_slice<T: Explain>(
     bytes: &[u8],
     limits: &Limits,
 ) -> Result<Option<Explanation>, DecodeError>
-    ensures ok { IfOk result (λ found. IsSomeAnd (tree_of_block bytes.now) (λ t. Explains T.reads T.fails t (option_map failure_of found))) }
-    ensures error { IfOk result (λ found. IfSome found (λ explanation. IsSomeAnd (tree_of_block bytes.now) (λ t. T.read_error t explanation.error))) }
+    ensures ok { IfOk result (λ found. IsSomeAnd (tree_of_block bytes.now) (λ t.
+        Explains T.reads T.fails t (option_map failure_of found))) }
+    ensures error { IfOk result (λ found. IfSome found (λ explanation.
+        IsSomeAnd (tree_of_block bytes.now) (λ t. T.read_error t explanation.error))) }
     ensures within { IfOk result (λ _. BlockWithin limits.now bytes.now) }
     ensures err { IfErr result (λ error. NotABlock limits.now bytes.now error) }
     ensures no_reader { IfErr result (λ error. error ≢ DecodeError.Read) }

@@ -9,7 +9,8 @@ use ipld_de::Lawful;
 /// Values round-trip through blocks: of a value that has a block the type reads that block; what is read has the value's image; and it
 /// is the value itself, up to its contents, where the value is plain. A call does nothing.
 pub fn round_trip_law<T: Lawful>()
-    ensures reads { (v : T) (block : List ℕ) → block_of_image (T.image v) ≡ Some block → IsSome (reads_block T.reads block) }
+    ensures reads { (v : T) (block : List ℕ) → block_of_image (T.image v) ≡ Some block
+        → IsSome (reads_block T.reads block) }
     ensures same_image { (v w : T) (block : List ℕ) → block_of_image (T.image v) ≡ Some block
         → reads_block T.reads block ≡ Some (T.contents w) → T.image w ≡ T.image v }
     ensures same { (v w : T) (block : List ℕ) → block_of_image (T.image v) ≡ Some block → T.plain v

@@ -32,7 +32,8 @@ use std::io::Write;
 /// `Write` is never returned.
 pub fn to_vec<T: Serialize>(alloc: Global, value: &T) -> Result<Vec<u8>, EncodeError>
     ensures ok { IfOk result (λ block. block_of_image (T.image value.now) ≡ Some block.items) }
-    ensures err { IfErr result (λ error. NotWritten (T.image value.now) (T.write_error value.now) error) }
+    ensures err { IfErr result (λ error. NotWritten (T.image value.now)
+        (T.write_error value.now) error) }
     ensures no_writer { IfErr result (λ error. error ≢ EncodeError.Write) }
 {
     match written_block(alloc, value) {
@@ -77,11 +78,15 @@ pub fn to_writer<T: Serialize, W: Write>(
     writer: &mut W,
     value: &T,
 ) -> Result<(), EncodeError>
-    ensures ok { OnOk result (Writes (block_of_image (T.image value.now)) (W.contents writer.old) (W.contents writer.new)) }
-    ensures err { IfErr result (λ error. NotWritten (T.image value.now) (T.write_error value.now) error) }
+    ensures ok { OnOk result (Writes (block_of_image (T.image value.now)) (W.contents writer.old)
+        (W.contents writer.new)) }
+    ensures err { IfErr result (λ error. NotWritten (T.image value.now)
+        (T.write_error value.now) error) }
     ensures no_image { T.image value.now ≡ None → writer.new ≡ writer.old }
-    ensures out_of_range { (t : Tree) → T.image value.now ≡ Some t → in_range t ≡ false → writer.new ≡ writer.old }
-    ensures part { OnErr result (IfSome (block_of_image (T.image value.now)) (WritesPart (W.contents writer.old) (W.contents writer.new))) }
+    ensures out_of_range { (t : Tree) → T.image value.now ≡ Some t → in_range t ≡ false
+        → writer.new ≡ writer.old }
+    ensures part { OnErr result (IfSome (block_of_image (T.image value.now))
+        (WritesPart (W.contents writer.old) (W.contents writer.new))) }
 {
     let block = to_vec(alloc, value)?;
     write_block(alloc, writer, block)?;
@@ -90,9 +95,12 @@ pub fn to_writer<T: Serialize, W: Write>(
 
 // Writes a block.
 fn write_block<W: Write>(alloc: Global, writer: &mut W, block: Vec<u8>) -> Result<(), EncodeError>
-    ensures ok { OnOk result (Writes (Some block.items) (W.contents writer.old) (W.contents writer.new)) }
-    ensures err { IfErr result (λ error. (error ≡ EncodeError.Memory) ⊎ (error ≡ EncodeError.Write)) }
-    ensures part { OnErr result (WritesPart (W.contents writer.old) (W.contents writer.new) block.items) }
+    ensures ok { OnOk result (Writes (Some block.items) (W.contents writer.old)
+        (W.contents writer.new)) }
+    ensures err { IfErr result (λ error. (error ≡ EncodeError.Memory)
+        ⊎ (error ≡ EncodeError.Write)) }
+    ensures part { OnErr result (WritesPart (W.contents writer.old)
+        (W.contents writer.new) block.items) }
 {
     match RawCodec::encode(alloc, writer, &Ipld::Bytes(block)) {
         Ok(()) => Ok(()),

@@ -27,8 +27,10 @@ fn pairs_of<'a>(
     block: &'a [u8],
     entries: &'a [TapeEntry],
 ) -> Result<Vec<Pair<'a>>, EncodeErrorKind>
-    ensures ok { IfOk result (λ pairs. Splits block.entry.now entries.entry.now (pairs_now pairs.items)) }
-    ensures err { IfErr result (λ error. IsMemory error ⊎ ((ps : List PairModel) → Splits block.entry.now entries.entry.now ps → ⊥)) }
+    ensures ok { IfOk result (λ pairs. Splits block.entry.now entries.entry.now
+        (pairs_now pairs.items)) }
+    ensures err { IfErr result (λ error. IsMemory error ⊎ ((ps : List PairModel)
+        → Splits block.entry.now entries.entry.now ps → ⊥)) }
 {
     let mut pairs = Vec::new(alloc);
     let mut rest = entries;
@@ -52,7 +54,8 @@ fn push_pairs<'a>(
     mut pairs: Vec<Pair<'a>>,
     todo: &mut Vec<&'a [TapeEntry]>,
 ) -> Result<(), AllocError>
-    ensures { OnOk result (to_do todo.new.items ≡ map (λ p. p.1) (pairs_now pairs.entry.items) ++ to_do todo.old.items) }
+    ensures { OnOk result (to_do todo.new.items ≡ map (λ p. p.1) (pairs_now pairs.entry.items)
+        ++ to_do todo.old.items) }
 {
     while let Some((_, entries)) = pairs.pop() {
         todo.push(entries)?;
@@ -69,8 +72,10 @@ fn enter_map<'a>(
     following: &'a [TapeEntry],
     todo: &mut Vec<&'a [TapeEntry]>,
 ) -> Result<(), EncodeErrorKind>
-    ensures ok { OnOk result (Enters block.entry.now entry following.entry.now (to_do todo.old.items) (to_do todo.new.items)) }
-    ensures err { IfErr result (λ error. IsMemory error ⊎ NoPairs block.entry.now entry following.entry.now) }
+    ensures ok { OnOk result (Enters block.entry.now entry following.entry.now
+        (to_do todo.old.items) (to_do todo.new.items)) }
+    ensures err { IfErr result (λ error. IsMemory error
+        ⊎ NoPairs block.entry.now entry following.entry.now) }
 {
     let Some(count) = inner_count(entry, following.len()) else {
         return Err(EncodeErrorKind::Span);
@@ -96,7 +101,8 @@ fn write_next<'a>(
     following: &'a [TapeEntry],
     todo: &mut Vec<&'a [TapeEntry]>,
 ) -> Result<(), EncodeErrorKind>
-    ensures ok { OnOk result (Steps block.entry.now entry following.entry.now out.old.items out.new.items (to_do todo.old.items) (to_do todo.new.items)) }
+    ensures ok { OnOk result (Steps block.entry.now entry following.entry.now out.old.items
+        out.new.items (to_do todo.old.items) (to_do todo.new.items)) }
     ensures err { IfErr result (λ error. NoStep block.entry.now entry following.entry.now error) }
 {
     let Some(kind) = kind_of(entry.kind) else {
@@ -120,8 +126,10 @@ pub(crate) fn write_ordered(
     entries: &[TapeEntry],
 ) -> Result<Vec<u8>, EncodeErrorKind>
     requires { out.items ≡ [] }
-    ensures of_block { IsTapeOf entries.now block.now → MatchResult result (λ out. IsCanonicalOf block.now out.items) IsMemory }
-    ensures of_tape { (item : Item 64) (written : List ℕ) → AreNarrow entries.now → Describes block.now item entries.now written
+    ensures of_block { IsTapeOf entries.now block.now
+        → MatchResult result (λ out. IsCanonicalOf block.now out.items) IsMemory }
+    ensures of_tape { (item : Item 64) (written : List ℕ) → AreNarrow entries.now
+        → Describes block.now item entries.now written
         → MatchResult result (λ out. Orders item written out.items) IsMemory }
 {
     let mut todo = Vec::new(alloc);

@@ -68,9 +68,13 @@ fn write_block(
     entries: &[TapeEntry],
     contents: &[u8],
 ) -> Result<Vec<u8>, EncodeError>
-    ensures found { IfOk result (λ block. (written : List ℕ) × (block_of contents.now entries.now ≡ Ok written)) }
-    ensures exact { IfErr result (λ error. IsOutOfMemory (length entries.now) error ⊎ (block_of contents.now entries.now ≡ Err error)) }
-    ensures ordered { (item : Item 64) (written : List ℕ) → Describes contents.now item entries.now written → IfOk result (λ block. Orders item written block.items) }
+    ensures found { IfOk result (λ block. (written : List ℕ)
+        × (block_of contents.now entries.now ≡ Ok written)) }
+    ensures exact { IfErr result (λ error. IsOutOfMemory (length entries.now) error
+        ⊎ (block_of contents.now entries.now ≡ Err error)) }
+    ensures ordered { (item : Item 64) (written : List ℕ)
+        → Describes contents.now item entries.now written
+        → IfOk result (λ block. Orders item written block.items) }
 {
     if let Err(fault) = check_values(1, entries) {
         return Err(fault.in_tape(entries.len()));
@@ -113,10 +117,14 @@ pub fn encode_tape(
     entries: &[TapeEntry],
     contents: &[u8],
 ) -> Result<Vec<u8>, EncodeError>
-    ensures found { IfOk result (λ block. (item : Item 64) × (written : List ℕ) × Describes contents.now item entries.now written × Orders item written block.items) }
-    ensures only { (item : Item 64) (written : List ℕ) → Describes contents.now item entries.now written
-        → MatchResult result (λ block. Orders item written block.items) (IsOutOfMemory (length entries.now)) }
-    ensures exact { IfErr result (λ error. IsOutOfMemory (length entries.now) error ⊎ (block_of contents.now entries.now ≡ Err error)) }
+    ensures found { IfOk result (λ block. (item : Item 64) × (written : List ℕ)
+        × Describes contents.now item entries.now written × Orders item written block.items) }
+    ensures only { (item : Item 64) (written : List ℕ)
+        → Describes contents.now item entries.now written
+        → MatchResult result (λ block. Orders item written block.items)
+        (IsOutOfMemory (length entries.now)) }
+    ensures exact { IfErr result (λ error. IsOutOfMemory (length entries.now) error
+        ⊎ (block_of contents.now entries.now ≡ Err error)) }
 {
     write_block(alloc, entries, contents)
 }

@@ -64,7 +64,8 @@ pub(crate) fn kind_of(number: u32) -> Option<EntryKind>
 #[tactic(auto, unfolding(crate::specs::Entry::content_of))]
 #[inline(always)]
 pub(crate) fn content_of<'a>(contents: &'a [u8], entry: TapeEntry) -> Option<&'a [u8]>
-    ensures { option_map (λ content. content.now) result ≡ of_entry.content_of contents.entry.now entry }
+    ensures { option_map (λ content. content.now) result ≡ of_entry.content_of contents.entry.now
+        entry }
 {
     let len = entry.len as usize;
     let offset = entry.value as usize;
@@ -112,7 +113,8 @@ fn write_number(out: &mut Vec<u8>, major: Major, entry: TapeEntry) -> Result<(),
 // Writes a float.
 #[inline(always)]
 fn write_float(out: &mut Vec<u8>, content: Option<&[u8]>) -> Result<(), EncodeErrorKind>
-    ensures { Adds IsMemory (of_entry.float_of (option_map (λ c. c.now) content.entry)) out.old.items result out.new.items }
+    ensures { Adds IsMemory (of_entry.float_of (option_map (λ c. c.now) content.entry))
+        out.old.items result out.new.items }
 {
     let Some(content) = content else {
         return Err(EncodeErrorKind::Content);
@@ -128,7 +130,8 @@ fn write_float(out: &mut Vec<u8>, content: Option<&[u8]>) -> Result<(), EncodeEr
 // Writes a string or a key.
 #[inline(always)]
 fn write_text(out: &mut Vec<u8>, content: Option<&[u8]>) -> Result<(), EncodeErrorKind>
-    ensures { Adds IsMemory (of_entry.text_of (option_map (λ c. c.now) content.entry)) out.old.items result out.new.items }
+    ensures { Adds IsMemory (of_entry.text_of (option_map (λ c. c.now) content.entry)) out.old.items
+        result out.new.items }
 {
     let Some(content) = content else {
         return Err(EncodeErrorKind::Content);
@@ -155,7 +158,8 @@ fn is_text(content: &[u8]) -> bool
 // Writes bytes.
 #[inline(always)]
 fn write_bytes(out: &mut Vec<u8>, content: Option<&[u8]>) -> Result<(), EncodeErrorKind>
-    ensures { Adds IsMemory (of_entry.bytes_of (option_map (λ c. c.now) content.entry)) out.old.items result out.new.items }
+    ensures { Adds IsMemory (of_entry.bytes_of (option_map (λ c. c.now) content.entry))
+        out.old.items result out.new.items }
 {
     let Some(content) = content else {
         return Err(EncodeErrorKind::Content);
@@ -168,7 +172,8 @@ fn write_bytes(out: &mut Vec<u8>, content: Option<&[u8]>) -> Result<(), EncodeEr
 // Writes a link.
 #[inline(always)]
 fn write_link(out: &mut Vec<u8>, content: Option<&[u8]>) -> Result<(), EncodeErrorKind>
-    ensures { Adds IsMemory (of_entry.link_of (option_map (λ c. c.now) content.entry)) out.old.items result out.new.items }
+    ensures { Adds IsMemory (of_entry.link_of (option_map (λ c. c.now) content.entry)) out.old.items
+        result out.new.items }
 {
     let Some(content) = content else {
         return Err(EncodeErrorKind::Content);
@@ -193,7 +198,8 @@ pub(crate) fn write_entry<const SORTED: bool>(
     kind: EntryKind,
     entry: TapeEntry,
 ) -> Result<(), EncodeErrorKind>
-    ensures { Adds IsMemory (of_entry.written_of contents.now kind entry) out.old.items result out.new.items }
+    ensures { Adds IsMemory (of_entry.written_of contents.now kind entry) out.old.items result
+        out.new.items }
 {
     match kind {
         EntryKind::Null => write_simple(out, 22, entry),

@@ -13,7 +13,12 @@ ghost use Rattle.dag_cbor_tape.specs.Describes.{Describes, AreNarrow};
 /// - A block is written just where the entries describe an item, and is the block of that item.
 /// - The block is one of DAG-CBOR with floats, and encodes that item.
 pub fn tape_law()
-    ensures written_is_described { (over : List ℕ) (entries : List TapeEntry) (block : List ℕ) → IsBytes over → block_of over entries ≡ Ok block → (item : Item 64) × Describes over item entries block }
-    ensures described_is_written { (over : List ℕ) (item : Item 64) (entries : List TapeEntry) (block : List ℕ) → Describes over item entries block → block_of over entries ≡ Ok block }
-    ensures block_encodes { (over : List ℕ) (item : Item 64) (entries : List TapeEntry) (block : List ℕ) → AreNarrow entries → Describes over item entries block → EncodesIn true item block }
+    ensures written_is_described { (over : List ℕ) (entries : List TapeEntry) (block : List ℕ)
+        → IsBytes over → block_of over entries ≡ Ok block → (item : Item 64)
+        × Describes over item entries block }
+    ensures described_is_written { (over : List ℕ) (item : Item 64) (entries : List TapeEntry)
+        (block : List ℕ) → Describes over item entries block → block_of over entries ≡ Ok block }
+    ensures block_encodes { (over : List ℕ) (item : Item 64) (entries : List TapeEntry)
+        (block : List ℕ) → AreNarrow entries → Describes over item entries block
+        → EncodesIn true item block }
 {}

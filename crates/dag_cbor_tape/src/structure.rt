@@ -46,7 +46,8 @@ fn span_of(entry: TapeEntry) -> Result<usize, EncodeErrorKind>
 #[tactic(auto, unfolding(crate::specs::Structure::after_value))]
 #[inline(always)]
 pub(crate) fn skip_value(entries: &[TapeEntry]) -> Result<&[TapeEntry], Fault>
-    ensures exact { MatchResult result (λ rest. of_tape.after_value entries.now ≡ Ok rest.now) (λ fault. of_tape.after_value entries.now ≡ Err fault) }
+    ensures exact { MatchResult result (λ rest. of_tape.after_value entries.now ≡ Ok rest.now)
+        (λ fault. of_tape.after_value entries.now ≡ Err fault) }
     ensures shorter { IfOk result (λ rest. length rest.now < length entries.now) }
     ensures within { IfErr result (λ fault. fault.left ≤ length entries.now) }
 {
@@ -149,7 +150,8 @@ fn split_key<'a, 'b>(
     entries: &'b [TapeEntry],
 ) -> Result<(&'a [u8], &'b [TapeEntry]), Fault>
     ensures exact { MatchResult result
-        (λ found. of_tape.after_key contents.entry.now entries.entry.now ≡ Ok (found.0.now, found.1.now))
+        (λ found. of_tape.after_key contents.entry.now entries.entry.now ≡ Ok
+        (found.0.now, found.1.now))
         (λ fault. of_tape.after_key contents.entry.now entries.entry.now ≡ Err fault) }
     ensures shorter { IfOk result (λ found. length found.1.now < length entries.entry.now) }
     ensures within { IfErr result (λ fault. fault.left ≤ length entries.entry.now) }
@@ -200,7 +202,8 @@ fn check_any_pairs(
 ) -> Result<(), Fault>
     ensures exact { MatchResult result
         (λ done. of_tape.pairs contents.now count [] entries.now ≡ Ok done)
-        (λ fault. IsMemoryFault fault ⊎ (of_tape.pairs contents.now count [] entries.now ≡ Err fault)) }
+        (λ fault. IsMemoryFault fault ⊎ (of_tape.pairs contents.now count [] entries.now
+        ≡ Err fault)) }
     ensures within { IfErr result (λ fault. fault.left ≤ length entries.now) }
 {
     let mut seen = BTreeSet::new(alloc);
@@ -217,8 +220,10 @@ fn check_any_pairs(
 
 // Adds a key to those before it, none of which it is, of an entry with which so many are left.
 fn add_key<'a>(seen: &mut BTreeSet<&'a [u8]>, key: &'a [u8], left: usize) -> Result<(), Fault>
-    ensures added { IfOk result (λ done. (of_tape.is_new (keys_now seen.old.keys) key.entry.now left ≡ Ok done) × (keys_now seen.new.keys ≡ and_key key.entry.now (keys_now seen.old.keys))) }
-    ensures repeated { IfErr result (λ fault. IsMemoryFault fault ⊎ (of_tape.is_new (keys_now seen.old.keys) key.entry.now left ≡ Err fault)) }
+    ensures added { IfOk result (λ done. (of_tape.is_new (keys_now seen.old.keys) key.entry.now left
+        ≡ Ok done) × (keys_now seen.new.keys ≡ and_key key.entry.now (keys_now seen.old.keys))) }
+    ensures repeated { IfErr result (λ fault. IsMemoryFault fault
+        ⊎ (of_tape.is_new (keys_now seen.old.keys) key.entry.now left ≡ Err fault)) }
     ensures within { IfErr result (λ fault. fault.left ≡ left) }
 {
     match seen.insert(key) {
@@ -242,8 +247,10 @@ fn check_pairs(
     entries: &[TapeEntry],
 ) -> Result<bool, Fault>
     ensures exact { MatchResult result
-        (λ ascend. (of_tape.pairs contents.now count [] entries.now ≡ Ok tt) × (ascend ≡ true → of_tape.ascending contents.now count None entries.now ≡ Ok true))
-        (λ fault. IsMemoryFault fault ⊎ (of_tape.pairs contents.now count [] entries.now ≡ Err fault)) }
+        (λ ascend. (of_tape.pairs contents.now count [] entries.now ≡ Ok tt) × (ascend ≡ true
+        → of_tape.ascending contents.now count None entries.now ≡ Ok true))
+        (λ fault. IsMemoryFault fault ⊎ (of_tape.pairs contents.now count [] entries.now
+        ≡ Err fault)) }
     ensures within { IfErr result (λ fault. fault.left ≤ length entries.now) }
 {
     if pairs_ascend(contents, count, entries)? {
@@ -267,7 +274,8 @@ pub(crate) fn inner_count(entry: TapeEntry, following: usize) -> Option<usize>
 // That a list spans what it says, of so many entries that are left with it, and of those behind it.
 fn check_list(left: usize, entry: TapeEntry, following: &[TapeEntry]) -> Result<(), Fault>
     requires { left ≡ suc (length following.now) }
-    ensures { result ≡ of_tape.within entry following.now (of_tape.values entry.value) (of_tape.inner_count entry (length following.now)) }
+    ensures { result ≡ of_tape.within entry following.now (of_tape.values entry.value)
+        (of_tape.inner_count entry (length following.now)) }
 {
     let Some(count) = inner_count(entry, following.len()) else {
         return Err(Fault {
@@ -295,8 +303,10 @@ fn check_map(
 ) -> Result<bool, Fault>
     requires { left ≡ suc (length following.now) }
     ensures { MatchResult result
-        (λ in_turn. (of_tape.spans contents.now kind.Map entry following.now ≡ Ok tt) × (in_turn ≡ true → of_tape.IsInTurn contents.now kind.Map entry following.now))
-        (λ fault. IsMemoryFault fault ⊎ (of_tape.spans contents.now kind.Map entry following.now ≡ Err fault)) }
+        (λ in_turn. (of_tape.spans contents.now kind.Map entry following.now ≡ Ok tt)
+        × (in_turn ≡ true → of_tape.IsInTurn contents.now kind.Map entry following.now))
+        (λ fault. IsMemoryFault fault ⊎ (of_tape.spans contents.now kind.Map entry following.now
+        ≡ Err fault)) }
 {
     let Some(count) = inner_count(entry, following.len()) else {
         return Err(Fault {
@@ -326,8 +336,10 @@ pub(crate) fn check_spans(
 ) -> Result<bool, Fault>
     requires { left ≡ suc (length following.now) }
     ensures { MatchResult result
-        (λ in_turn. (of_tape.spans contents.now kind entry following.now ≡ Ok tt) × (in_turn ≡ true → of_tape.IsInTurn contents.now kind entry following.now))
-        (λ fault. IsMemoryFault fault ⊎ (of_tape.spans contents.now kind entry following.now ≡ Err fault)) }
+        (λ in_turn. (of_tape.spans contents.now kind entry following.now ≡ Ok tt) × (in_turn ≡ true
+        → of_tape.IsInTurn contents.now kind entry following.now))
+        (λ fault. IsMemoryFault fault ⊎ (of_tape.spans contents.now kind entry following.now
+        ≡ Err fault)) }
 {
     match kind {
         EntryKind::Map => check_map(alloc, contents, left, entry, following),

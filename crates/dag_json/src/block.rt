@@ -23,7 +23,8 @@ pub fn block_limits(bytes: &[u8]) -> Limits
 // The tree of a block, where floats are read or none.
 pub(crate) fn decode_block(alloc: Global, bytes: &[u8], floats: bool) -> Result<Ipld, ReadError>
     ensures ok { IfOk result (λ tree. decoded_in floats bytes.now ≡ Some (tree_of tree)) }
-    ensures err { IfErr result (λ error. (error.kind ≡ ReadErrorKind.Memory) ⊎ IsBlockError floats bytes.now error) }
+    ensures err { IfErr result (λ error. (error.kind ≡ ReadErrorKind.Memory)
+        ⊎ IsBlockError floats bytes.now error) }
 {
     let limits = block_limits(bytes);
     if floats {
@@ -36,7 +37,8 @@ pub(crate) fn decode_block(alloc: Global, bytes: &[u8], floats: bool) -> Result<
 // The links of a block, where floats are read or none.
 pub(crate) fn find_links(alloc: Global, bytes: &[u8], floats: bool) -> Result<Vec<Cid>, ReadError>
     ensures ok { IfOk result (λ links. links_in floats bytes.now ≡ Some (map link_of links.items)) }
-    ensures err { IfErr result (λ error. (error.kind ≡ ReadErrorKind.Memory) ⊎ IsBlockError floats bytes.now error) }
+    ensures err { IfErr result (λ error. (error.kind ≡ ReadErrorKind.Memory)
+        ⊎ IsBlockError floats bytes.now error) }
 {
     let tree = match decode_block(alloc, bytes, floats) {
         Ok(tree) => tree,

@@ -29,7 +29,8 @@ fn decode_tree(alloc: Global, bytes: &[u8]) -> Result<Ipld, DagJsonError>
     ensures ok { IfOk result (λ tree. decoded bytes.now ≡ Some (tree_of tree)) }
     ensures err { IfErr result (λ error. (error ≡ DagJsonError.Memory)
         ⊎ ((codec_failure error ≡ None) × (decoded bytes.now ≡ None))) }
-    ensures errors { IfErr result (λ error. (error ≡ DagJsonError.Memory) ⊎ IsTextError bytes.now error) }
+    ensures errors { IfErr result (λ error. (error ≡ DagJsonError.Memory)
+        ⊎ IsTextError bytes.now error) }
 {
     Ok(decode_block(alloc, bytes, false)?)
 }
@@ -39,7 +40,8 @@ fn encode_block(alloc: Global, value: &Ipld) -> Result<Vec<u8>, DagJsonError>
     ensures ok { IfOk result (λ text. codec_text (tree_of value.now) ≡ Some text.items) }
     ensures err { IfErr result (λ error. (error ≡ DagJsonError.Memory)
         ⊎ ((codec_failure error ≡ None) × (codec_text (tree_of value.now) ≡ None))) }
-    ensures errors { IfErr result (λ error. (error ≡ DagJsonError.Memory) ⊎ IsReserved (tree_of value.now) error) }
+    ensures errors { IfErr result (λ error. (error ≡ DagJsonError.Memory)
+        ⊎ IsReserved (tree_of value.now) error) }
 {
     // For the proof alone: the keys of each map ascend.
     value.try_nesting(alloc)?;
@@ -48,9 +50,11 @@ fn encode_block(alloc: Global, value: &Ipld) -> Result<Vec<u8>, DagJsonError>
 
 // All that the reader still has.
 fn read_block<R: BufRead>(alloc: Global, reader: &mut R) -> Result<Vec<u8>, DagJsonError>
-    ensures ok { IfOk result (λ bytes. IfSome (R.remaining reader.old) (λ block. block ≡ bytes.items)) }
+    ensures ok { IfOk result (λ bytes. IfSome (R.remaining reader.old) (λ block.
+        block ≡ bytes.items)) }
     ensures read_out { OnOk result (IsReadOut (R.remaining reader.old) (R.remaining reader.new)) }
-    ensures err { IfErr result (λ error. (error ≡ DagJsonError.Memory) ⊎ (error ≡ DagJsonError.Read)) }
+    ensures err { IfErr result (λ error. (error ≡ DagJsonError.Memory)
+        ⊎ (error ≡ DagJsonError.Read)) }
 {
     match RawCodec::decode(alloc, reader) {
         Ok(Ipld::Bytes(bytes)) => Ok(bytes),
@@ -75,7 +79,8 @@ impl Links for DagJsonCodec {
         ensures ok { IfOk result (λ links. links_found bytes.now ≡ Some (links_left links)) }
         ensures err { IfErr result (λ error. MatchOption (codec_failure error)
             (links_found bytes.now ≡ None) (λ failure. failure ≡ memory)) }
-        ensures errors { IfErr result (λ error. (error ≡ DagJsonError.Memory) ⊎ IsTextError bytes.now error) }
+        ensures errors { IfErr result (λ error. (error ≡ DagJsonError.Memory)
+            ⊎ IsTextError bytes.now error) }
     {
         let cids = find_links(alloc, bytes, false)?;
         Ok(LinkIter::new(cids))
@@ -112,8 +117,10 @@ impl Codec<Ipld> for DagJsonCodec {
     /// - `Memory` where an allocation failed.
     /// - Else `Text`, the first error of the block. `Write` and `Reserved` are never returned.
     fn decode<R: BufRead>(alloc: Global, reader: &mut R) -> Result<Ipld, DagJsonError>
-        ensures ok { IfOk result (λ value. IfSome (R.remaining reader.old) (λ block. decoded block ≡ Some (tree_of value))) }
-        ensures read_out { OnOk result (IsReadOut (R.remaining reader.old) (R.remaining reader.new)) }
+        ensures ok { IfOk result (λ value. IfSome (R.remaining reader.old) (λ block.
+            decoded block ≡ Some (tree_of value))) }
+        ensures read_out { OnOk result (IsReadOut (R.remaining reader.old)
+            (R.remaining reader.new)) }
         ensures err { IfErr result (λ error. MatchOption (codec_failure error)
             (IfSome (R.remaining reader.old) (λ block. decoded block ≡ None)) (MemoryOr reading)) }
         ensures errors { IfErr result (λ error. (error ≡ DagJsonError.Memory)
@@ -137,13 +144,15 @@ impl Codec<Ipld> for DagJsonCodec {
         writer: &mut W,
         value: &Ipld,
     ) -> Result<(), DagJsonError>
-        ensures ok { OnOk result (Writes (codec_text (tree_of value.now)) (W.contents writer.old) (W.contents writer.new)) }
+        ensures ok { OnOk result (Writes (codec_text (tree_of value.now)) (W.contents writer.old)
+            (W.contents writer.new)) }
         ensures err { IfErr result (λ error. MatchOption (codec_failure error)
             (codec_text (tree_of value.now) ≡ None) (MemoryOr writing)) }
         ensures errors { IfErr result (λ error. (error ≡ DagJsonError.Memory)
             ⊎ ((error ≡ DagJsonError.Write) ⊎ IsReserved (tree_of value.now) error)) }
         ensures rejected { codec_text (tree_of value.now) ≡ None → (writer.new ≡ writer.old)
-            × IsErrAnd result (λ error. (error ≡ DagJsonError.Memory) ⊎ IsReserved (tree_of value.now) error) }
+            × IsErrAnd result (λ error. (error ≡ DagJsonError.Memory)
+            ⊎ IsReserved (tree_of value.now) error) }
     {
         let text = match encode_block(alloc, value) {
             Ok(text) => text,
@@ -165,7 +174,8 @@ impl Codec<Ipld> for DagJsonCodec {
         ensures ok { IfOk result (λ value. decoded bytes.now ≡ Some (tree_of value)) }
         ensures err { IfErr result (λ error. MatchOption (codec_failure error)
             (decoded bytes.now ≡ None) (MemoryOr reading)) }
-        ensures errors { IfErr result (λ error. (error ≡ DagJsonError.Memory) ⊎ IsTextError bytes.now error) }
+        ensures errors { IfErr result (λ error. (error ≡ DagJsonError.Memory)
+            ⊎ IsTextError bytes.now error) }
     {
         decode_tree(alloc, bytes)
     }
@@ -179,7 +189,8 @@ impl Codec<Ipld> for DagJsonCodec {
         ensures ok { IfOk result (λ text. codec_text (tree_of value.now) ≡ Some text.items) }
         ensures err { IfErr result (λ error. MatchOption (codec_failure error)
             (codec_text (tree_of value.now) ≡ None) (MemoryOr writing)) }
-        ensures errors { IfErr result (λ error. (error ≡ DagJsonError.Memory) ⊎ IsReserved (tree_of value.now) error) }
+        ensures errors { IfErr result (λ error. (error ≡ DagJsonError.Memory)
+            ⊎ IsReserved (tree_of value.now) error) }
     {
         encode_block(alloc, value)
     }

@@ -109,7 +109,8 @@ pub(crate) fn read_text(
 /// `NotCanonical` are never returned.
 pub fn from_str(alloc: Global, text: &str, limits: &Limits) -> Result<Ipld, ReadError>
     ensures found { IfOk result (λ tree. EncodesWithin limits.now (tree_of tree) text.now) }
-    ensures only { (t : Tree) → EncodesWithin limits.now t text.now → UnlessMemory result (λ tree. tree_of tree ≡ t) }
+    ensures only { (t : Tree) → EncodesWithin limits.now t text.now
+        → UnlessMemory result (λ tree. tree_of tree ≡ t) }
     ensures exact { ReadsText false limits.now text.now result }
     ensures stopped { IfErr result (SaysWhere false limits.now text.now) }
 {
@@ -123,7 +124,8 @@ pub fn from_str(alloc: Global, text: &str, limits: &Limits) -> Result<Ipld, Read
 /// `Utf8` where the bytes aren't UTF-8, at the first byte that is no part of a character; else those of [`from_str`].
 pub fn from_slice(alloc: Global, bytes: &[u8], limits: &Limits) -> Result<Ipld, ReadError>
     ensures found { IfOk result (λ tree. EncodesWithin limits.now (tree_of tree) bytes.now) }
-    ensures only { (t : Tree) → EncodesWithin limits.now t bytes.now → UnlessMemory result (λ tree. tree_of tree ≡ t) }
+    ensures only { (t : Tree) → EncodesWithin limits.now t bytes.now
+        → UnlessMemory result (λ tree. tree_of tree ≡ t) }
     ensures exact { ReadsBytes false limits.now bytes.now result }
     ensures stopped { IfErr result (SaysWhere false limits.now bytes.now) }
 {
@@ -140,7 +142,8 @@ pub fn from_slice(alloc: Global, bytes: &[u8], limits: &Limits) -> Result<Ipld, 
 fn common_len(a: &[u8], b: &[u8]) -> usize
     ensures within { (result ≤ length a.now) × (result ≤ length b.now) }
     ensures same { (k : ℕ) → k < result → slice_index a.now k ≡ slice_index b.now k }
-    ensures differ { result < length a.now → result < length b.now → slice_index a.now result ≢ slice_index b.now result }
+    ensures differ { result < length a.now → result < length b.now
+        → slice_index a.now result ≢ slice_index b.now result }
 {
     let len = a.len().min(b.len());
     for i in 0..len {
@@ -158,7 +161,8 @@ fn first_difference(
     bytes: &[u8],
 ) -> Result<Option<usize>, ReadErrorKind>
     ensures { MatchResult result
-        (λ place. MatchOption place (written (tree_of tree.now) ≡ Some bytes.now) (IsWrittenOtherwise (tree_of tree.now) bytes.now))
+        (λ place. MatchOption place (written (tree_of tree.now) ≡ Some bytes.now)
+        (IsWrittenOtherwise (tree_of tree.now) bytes.now))
         (λ kind. (kind ≡ ReadErrorKind.Memory) ⊎ (written (tree_of tree.now) ≡ None)) }
 {
     match to_vec(alloc, tree) {
@@ -180,7 +184,8 @@ fn first_difference(
 pub fn from_canonical(alloc: Global, bytes: &[u8], limits: &Limits) -> Result<Ipld, ReadError>
     ensures canonical { IfOk result (λ tree. written (tree_of tree) ≡ Some bytes.now) }
     ensures found { IfOk result (λ tree. EncodesWithin limits.now (tree_of tree) bytes.now) }
-    ensures only { (t : Tree) → IsUtf8 bytes.now → IsTree t → IsWhole t → written t ≡ Some bytes.now → JsonWithin limits.now (json_of t)
+    ensures only { (t : Tree) → IsUtf8 bytes.now → IsTree t → IsWhole t → written t ≡ Some bytes.now
+        → JsonWithin limits.now (json_of t)
         → UnlessMemory result (λ tree. tree_of tree ≡ t) }
     ensures err { IfErr result (CanonicalError limits.now bytes.now) }
 {

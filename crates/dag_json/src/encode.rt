@@ -86,7 +86,8 @@ fn advance<'a>(
 // Writes a link.
 #[inline(never)]
 fn write_link(alloc: Global, writer: &mut Writer, cid: &Cid) -> Result<(), AllocError>
-    ensures { OnOk result (Wrote writer.old writer.new (json_tokens (json_of (tree.link (link_of cid.now))))) }
+    ensures { OnOk result (Wrote writer.old writer.new
+        (json_tokens (json_of (tree.link (link_of cid.now))))) }
 {
     let text = usual_text(alloc, cid)?;
     writer.begin_object()?;
@@ -98,7 +99,8 @@ fn write_link(alloc: Global, writer: &mut Writer, cid: &Cid) -> Result<(), Alloc
 // Writes bytes.
 #[inline(never)]
 fn write_bytes(alloc: Global, writer: &mut Writer, bytes: &[u8]) -> Result<(), AllocError>
-    ensures { OnOk result (Wrote writer.old writer.new (json_tokens (json_of (tree.bytes bytes.now)))) }
+    ensures { OnOk result (Wrote writer.old writer.new
+        (json_tokens (json_of (tree.bytes bytes.now)))) }
 {
     let text = STANDARD_NO_PAD.encode(alloc, bytes)?;
     writer.begin_object()?;
@@ -126,7 +128,8 @@ fn enter<'a>(
     innermost: &mut JsonCursor<'a>,
     outer: &mut Vec<JsonCursor<'a>>,
 ) -> Result<(), AllocError>
-    ensures { OnOk result ((innermost.new ≡ inner.entry) × (outer.new.items ≡ outer.old.items ++ innermost.old ∷ [])) }
+    ensures { OnOk result ((innermost.new ≡ inner.entry)
+        × (outer.new.items ≡ outer.old.items ++ innermost.old ∷ [])) }
 {
     outer.push(mem::replace(innermost, inner))?;
     Ok(())
@@ -140,7 +143,8 @@ fn enter_list<'a>(
     innermost: &mut JsonCursor<'a>,
     outer: &mut Vec<JsonCursor<'a>>,
 ) -> Result<(), AllocError>
-    ensures { OnOk result (Opens (tree.list (items_of items.now)) innermost.old outer.old.items writer.old innermost.new outer.new.items writer.new) }
+    ensures { OnOk result (Opens (tree.list (items_of items.now)) innermost.old outer.old.items
+        writer.old innermost.new outer.new.items writer.new) }
 {
     writer.begin_array()?;
     enter(JsonCursor::Items(items.iter()), innermost, outer)?;
@@ -155,9 +159,11 @@ fn enter_map<'a>(
     innermost: &mut JsonCursor<'a>,
     outer: &mut Vec<JsonCursor<'a>>,
 ) -> Result<(), Stop>
-    ensures ok { OnOk result (Opens (tree.entries (members_of members.now.entries)) innermost.old outer.old.items writer.old innermost.new outer.new.items writer.new) }
+    ensures ok { OnOk result (Opens (tree.entries (members_of members.now.entries)) innermost.old
+        outer.old.items writer.old innermost.new outer.new.items writer.new) }
     ensures err { IfErr result (λ stop. (stop ≡ Stop.Memory)
-        ⊎ ((stop ≡ Stop.Reserved) × (has_reserved (tree.entries (members_of members.now.entries)) ≡ true))) }
+        ⊎ ((stop ≡ Stop.Reserved) × (has_reserved (tree.entries (members_of members.now.entries))
+        ≡ true))) }
 {
     if is_reserved(members) {
         return Err(Stop::Reserved);
@@ -176,7 +182,8 @@ fn write_value<'a>(
     innermost: &mut JsonCursor<'a>,
     outer: &mut Vec<JsonCursor<'a>>,
 ) -> Result<(), Stop>
-    ensures ok { OnOk result (Opens (tree_of value.now) innermost.old outer.old.items writer.old innermost.new outer.new.items writer.new) }
+    ensures ok { OnOk result (Opens (tree_of value.now) innermost.old outer.old.items writer.old
+        innermost.new outer.new.items writer.new) }
     ensures err { IfErr result (λ stop. (stop ≡ Stop.Memory)
         ⊎ ((stop ≡ Stop.Reserved) × (has_reserved (tree_of value.now) ≡ true))) }
 {
@@ -201,9 +208,11 @@ fn write_next<'a>(
     innermost: &mut JsonCursor<'a>,
     outer: &mut Vec<JsonCursor<'a>>,
 ) -> Result<bool, Stop>
-    ensures ok { IfOk result (λ more. StepOf more innermost.old outer.old.items writer.old innermost.new outer.new.items writer.new) }
+    ensures ok { IfOk result (λ more. StepOf more innermost.old outer.old.items writer.old
+        innermost.new outer.new.items writer.new) }
     ensures err { IfErr result (λ stop. (stop ≡ Stop.Memory)
-        ⊎ ((stop ≡ Stop.Reserved) × (any_reserved (trees_left innermost.old outer.old.items) ≡ true))) }
+        ⊎ ((stop ≡ Stop.Reserved) × (any_reserved (trees_left innermost.old outer.old.items)
+        ≡ true))) }
 {
     let Some(value) = advance(innermost, writer)? else {
         let Some(cursor) = outer.pop() else {
@@ -218,7 +227,8 @@ fn write_next<'a>(
 
 // Writes a tree.
 fn write_tree(alloc: Global, writer: &mut Writer, value: &Ipld) -> Result<(), Stop>
-    ensures ok { OnOk result (Wrote writer.old writer.new (json_tokens (json_of (tree_of value.now)))) }
+    ensures ok { OnOk result (Wrote writer.old writer.new
+        (json_tokens (json_of (tree_of value.now)))) }
     ensures allowed { OnOk result (has_reserved (tree_of value.now) ≡ false) }
     ensures err { IfErr result (λ stop. (stop ≡ Stop.Memory)
         ⊎ ((stop ≡ Stop.Reserved) × (has_reserved (tree_of value.now) ≡ true))) }

@@ -134,7 +134,8 @@ pub(crate) fn read_number_in(text: &str, floats: bool) -> Result<i128, ReadError
 /// `1e999` is `Float`, and `1e2` is `TooMany`.
 pub fn from_slice(alloc: Global, bytes: &[u8], limits: &Limits) -> Result<Ipld, ReadError>
     ensures found { IfOk result (λ tree. EncodesWithinIn true limits.now (tree_of tree) bytes.now) }
-    ensures only { (t : Tree) → EncodesWithinIn true limits.now t bytes.now → UnlessMemory result (λ tree. tree_of tree ≡ t) }
+    ensures only { (t : Tree) → EncodesWithinIn true limits.now t bytes.now
+        → UnlessMemory result (λ tree. tree_of tree ≡ t) }
     ensures exact { ReadsBytes true limits.now bytes.now result }
     ensures stopped { IfErr result (SaysWhere true limits.now bytes.now) }
 {
@@ -166,8 +167,10 @@ pub fn describe(kind: ReadErrorKind) -> &'static str
 ///
 /// Those of [`from_slice`], but never `TooDeep` or `TooMany`.
 pub fn links_of_block(alloc: Global, bytes: &[u8]) -> Result<Vec<Cid>, ReadError>
-    ensures found { IfOk result (λ links. links_in true bytes.now ≡ Some (map link_of links.items)) }
-    ensures rejected { IfErr result (λ error. (error.kind ≡ ReadErrorKind.Memory) ⊎ IsBlockError true bytes.now error) }
+    ensures found { IfOk result (λ links. links_in true bytes.now ≡ Some
+        (map link_of links.items)) }
+    ensures rejected { IfErr result (λ error. (error.kind ≡ ReadErrorKind.Memory)
+        ⊎ IsBlockError true bytes.now error) }
 {
     find_links(alloc, bytes, true)
 }

@@ -19,5 +19,6 @@ pub fn text_law()
 /// A text encodes one tree, and the text that is written of a tree encodes it. Does nothing.
 pub fn read_law()
     ensures once { (t u : Tree) (s : List ℕ) → EncodesTree t s → EncodesTree u s → t ≡ u }
-    ensures round_trip { (t : Tree) (s : List ℕ) → IsTree t → IsWhole t → IsUtf8 s → written t ≡ Some s → EncodesTree t s }
+    ensures round_trip { (t : Tree) (s : List ℕ) → IsTree t → IsWhole t → IsUtf8 s
+        → written t ≡ Some s → EncodesTree t s }
 {}

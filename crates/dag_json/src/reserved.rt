@@ -13,7 +13,8 @@ use std::collections::BTreeMap;
 
 // The first value of a map, where it stands under this key.
 fn first_value<'a>(members: &'a BTreeMap<String, Ipld>, name: &str) -> Option<&'a Ipld>
-    ensures { option_map (λ value. tree_of value.now) result ≡ first_under name.now (members_of members.now.entries) }
+    ensures { option_map (λ value. tree_of value.now) result ≡ first_under name.now
+        (members_of members.now.entries) }
 {
     let (key, value) = members.iter().next()?;
     if key.as_str() == name {
@@ -57,7 +58,8 @@ fn is_reserved_map(value: &Ipld) -> bool
 // The next value of a walk.
 #[inline(always)]
 fn next_value<'a>(walk: &mut IpldIter<'a>) -> Option<&'a Ipld>
-    ensures { MatchOption result (rest walk.old ≡ []) (λ value. rest walk.old ≡ tree_of value.now ∷ rest walk.new) }
+    ensures { MatchOption result (rest walk.old ≡ []) (λ value.
+        rest walk.old ≡ tree_of value.now ∷ rest walk.new) }
 {
     walk.next()
 }

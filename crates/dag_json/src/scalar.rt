@@ -110,7 +110,8 @@ fn read_bytes(alloc: Global, text: &str) -> Result<Ipld, ReadErrorKind>
 
 // The value of a map that has one entry.
 fn only_value(members: &BTreeMap<String, Ipld>) -> Option<&Ipld>
-    ensures { option_map (λ value. tree_of value.now) result ≡ only_tree (members_of members.now.entries) }
+    ensures { option_map (λ value. tree_of value.now) result ≡ only_tree
+        (members_of members.now.entries) }
 {
     let mut entries = members.iter();
     let (_, value) = entries.next()?;

@@ -83,7 +83,8 @@ impl TreeBuilder {
     #[inline(always)]
     fn count(&mut self, limits: &Limits) -> Result<(), ReadErrorKind>
         ensures ok { OnOk result (Counted limits.now self.old self.new) }
-        ensures err { IfErr result (λ error. (error ≡ ReadErrorKind.TooMany) × (nat_lt self.old.values limits.now.values ≡ false)) }
+        ensures err { IfErr result (λ error. (error ≡ ReadErrorKind.TooMany)
+            × (nat_lt self.old.values limits.now.values ≡ false)) }
     {
         if self.values < limits.values {
             self.values += 1;
@@ -96,7 +97,8 @@ impl TreeBuilder {
     // Puts a value into the innermost container.
     #[inline(always)]
     fn put(&mut self, value: Ipld) -> Result<(), ReadErrorKind>
-        ensures { Reaches (completed (tree_of value) self.old.depth self.old.values (levels_of self.old)) result (state_of self.new) }
+        ensures { Reaches (completed (tree_of value) self.old.depth self.old.values
+            (levels_of self.old)) result (state_of self.new) }
     {
         read_error_of(self.tree.put(value))
     }
@@ -104,7 +106,8 @@ impl TreeBuilder {
     // Adds a value that is no list and no map.
     #[inline(always)]
     fn add(&mut self, value: Ipld, limits: &Limits) -> Result<(), ReadErrorKind>
-        ensures { Reaches (added limits.now (state_of self.old) (Ok (tree_of value))) result (state_of self.new) }
+        ensures { Reaches (added limits.now (state_of self.old) (Ok (tree_of value))) result
+            (state_of self.new) }
     {
         if !self.tree.takes_value() {
             return Err(ReadErrorKind::Syntax);
@@ -115,7 +118,8 @@ impl TreeBuilder {
 
     // Adds a string.
     fn add_text(&mut self, text: &str, limits: &Limits) -> Result<(), ReadErrorKind>
-        ensures { Reaches (added limits.now (state_of self.old) (Ok (tree.text text.now))) result (state_of self.new) }
+        ensures { Reaches (added limits.now (state_of self.old) (Ok (tree.text text.now))) result
+            (state_of self.new) }
     {
         match String::from_str(self.alloc, text) {
             Ok(text) => self.add(Ipld::String(text), limits),
@@ -125,7 +129,8 @@ impl TreeBuilder {
 
     // Adds a number, where floats are read or none.
     fn add_number(&mut self, text: &str, limits: &Limits, floats: bool) -> Result<(), ReadErrorKind>
-        ensures { Reaches (added limits.now (state_of self.old) (as_integer (number_in floats text.now))) result (state_of self.new) }
+        ensures { Reaches (added limits.now (state_of self.old)
+            (as_integer (number_in floats text.now))) result (state_of self.new) }
     {
         if !self.tree.takes_value() {
             return Err(ReadErrorKind::Syntax);
@@ -169,7 +174,8 @@ impl TreeBuilder {
     }
 
     fn begin_list(&mut self, limits: &Limits) -> Result<(), ReadErrorKind>
-        ensures { Reaches (begun limits.now (state_of self.old) (in_list no_items)) result (state_of self.new) }
+        ensures { Reaches (begun limits.now (state_of self.old) (in_list no_items)) result
+            (state_of self.new) }
     {
         self.begin(limits)?;
         read_error_of(self.tree.begin_list(None))
@@ -186,7 +192,8 @@ impl TreeBuilder {
     }
 
     fn begin_map(&mut self, limits: &Limits) -> Result<(), ReadErrorKind>
-        ensures { Reaches (begun limits.now (state_of self.old) (in_key no_members)) result (state_of self.new) }
+        ensures { Reaches (begun limits.now (state_of self.old) (in_key no_members)) result
+            (state_of self.new) }
     {
         self.begin(limits)?;
         read_error_of(self.tree.begin_map())
@@ -194,7 +201,8 @@ impl TreeBuilder {
 
     // Puts what a map stands for: a link, bytes, or itself.
     fn put_object(&mut self, members: BTreeMap<String, Ipld>) -> Result<(), ReadErrorKind>
-        ensures { Reaches (completed_if (object_tree (members_of members.entries)) self.old.depth self.old.values (levels_of self.old)) result (state_of self.new) }
+        ensures { Reaches (completed_if (object_tree (members_of members.entries)) self.old.depth
+            self.old.values (levels_of self.old)) result (state_of self.new) }
     {
         match read_object(self.alloc, members) {
             Ok(value) => self.put(value),
@@ -219,7 +227,8 @@ impl TreeBuilder {
         limits: &Limits,
         floats: bool,
     ) -> Result<(), ReadErrorKind>
-        ensures { Reaches (step floats limits.now (state_of self.old) (token_of token.now)) result (state_of self.new) }
+        ensures { Reaches (step floats limits.now (state_of self.old) (token_of token.now)) result
+            (state_of self.new) }
     {
         match token {
             Token::BeginObject => self.begin_map(limits),

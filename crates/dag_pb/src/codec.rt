@@ -34,7 +34,8 @@ impl Links for DagPbCodec {
         ensures ok { IfOk result (λ links. pb_found bytes.now ≡ Some (links_left links)) }
         ensures err { IfErr result (λ error. MatchOption (pb_failure error)
             (pb_found bytes.now ≡ None) (λ failure. failure ≡ memory)) }
-        ensures exact { IfErr result (λ error. IsOutOfMemory error ⊎ (links_found bytes.now ≡ Err error)) }
+        ensures exact { IfErr result (λ error. IsOutOfMemory error
+            ⊎ (links_found bytes.now ≡ Err error)) }
     {
         match links_of_block(alloc, bytes) {
             Ok(links) => Ok(LinkIter::new(links)),

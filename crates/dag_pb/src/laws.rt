@@ -10,7 +10,10 @@ ghost use Rattle.dag_pb.specs.NodeReading.{read_node};
 /// - Reading returns a node just where the bytes are one.
 /// - Bytes are at most one node. A node may be more than one block: its data before its links or after them, and varints longer than need be.
 pub fn node_law()
-    ensures read_is_encoded { (bytes : List ℕ) (node : NodeParts) → IsBytes bytes → read_node bytes ≡ Ok node → IsNode node bytes }
-    ensures encoded_is_read { (bytes : List ℕ) (node : NodeParts) → IsNode node bytes → read_node bytes ≡ Ok node }
-    ensures one_node { (bytes : List ℕ) (node other : NodeParts) → IsNode node bytes → IsNode other bytes → node ≡ other }
+    ensures read_is_encoded { (bytes : List ℕ) (node : NodeParts) → IsBytes bytes
+        → read_node bytes ≡ Ok node → IsNode node bytes }
+    ensures encoded_is_read { (bytes : List ℕ) (node : NodeParts) → IsNode node bytes
+        → read_node bytes ≡ Ok node }
+    ensures one_node { (bytes : List ℕ) (node other : NodeParts) → IsNode node bytes
+        → IsNode other bytes → node ≡ other }
 {}

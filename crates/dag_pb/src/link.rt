@@ -74,7 +74,8 @@ fn read_text(content: &[u8]) -> Result<&str, PbErrorKind>
 #[inline(always)]
 fn read_name(bytes: &[u8]) -> Result<(Option<&str>, &[u8]), PbErrorKind>
     ensures exact { MatchResult result
-        (λ found. reading.read_name bytes.now ≡ Ok (option_map (λ name. name.now) found.0, found.1.now))
+        (λ found. reading.read_name bytes.now ≡ Ok
+        (option_map (λ name. name.now) found.0, found.1.now))
         (λ error. reading.read_name bytes.now ≡ Err error) }
     ensures shorter { IfOk result (λ found. length found.1.now ≤ length bytes.now) }
 {
@@ -127,8 +128,10 @@ pub(crate) fn read_link(bytes: &[u8]) -> Result<PlacedLink<'_>, Fault>
     ensures exact { MatchResult result
         (λ found. reading.read_link bytes.now ≡ Ok (parts_of_link found.link))
         (λ fault. reading.read_link bytes.now ≡ Err fault) }
-    ensures places { IfOk result (λ found. LinkEndsBefore found.behind_hash found.behind_name 0 (parts_of_link found.link) bytes.now) }
-    ensures short { IfOk result (λ found. (found.behind_hash ≤ length bytes.now) × (found.behind_name ≤ length bytes.now)) }
+    ensures places { IfOk result (λ found. LinkEndsBefore found.behind_hash found.behind_name 0
+        (parts_of_link found.link) bytes.now) }
+    ensures short { IfOk result (λ found. (found.behind_hash ≤ length bytes.now)
+        × (found.behind_name ≤ length bytes.now)) }
     ensures within { IfErr result (λ fault. fault.left ≤ length bytes.now) }
 {
     let (hash, at_name) = match read_hash(bytes) {

@@ -26,7 +26,8 @@ impl<'a> PbNode<'a> {
     #[inline(always)]
     fn add(&mut self, part: &NodeField<'a>) -> Result<(), AllocError>
         ensures added { OnOk result ((rest : NodeParts)
-            → joined (parts_of_node self.old) (with_field (part_of part.now) rest) ≡ joined (parts_of_node self.new) rest) }
+            → joined (parts_of_node self.old) (with_field (part_of part.now) rest) ≡ joined
+            (parts_of_node self.new) rest) }
         ensures full { OnErr result (IsLinkField part.now) }
     {
         match part {
@@ -54,7 +55,8 @@ fn collect_node<'a>(alloc: Global, bytes: &'a [u8]) -> Result<PbNode<'a>, PbErro
     ensures exact { MatchResult result
         (λ node. read_node bytes.entry.now ≡ Ok (parts_of_node node))
         (λ error. IsOutOfMemory error ⊎ (read_node bytes.entry.now ≡ Err error)) }
-    ensures unlinked { (n : NodeParts) → read_node bytes.entry.now ≡ Ok n → n.links ≡ [] → IsOk result }
+    ensures unlinked { (n : NodeParts) → read_node bytes.entry.now ≡ Ok n → n.links ≡ []
+        → IsOk result }
 {
     let mut stage = Stage::Nothing;
     let mut rest = bytes;
@@ -98,7 +100,8 @@ pub fn read_node<'a>(alloc: Global, bytes: &'a [u8]) -> Result<PbNode<'a>, PbErr
 // Adds the hash of a field that is a link.
 #[inline(always)]
 fn push_hash(links: &mut Vec<Cid>, part: &NodeField<'_>) -> Result<(), AllocError>
-    ensures added { OnOk result ((rest : NodeParts) → map link_of links.old.items ++ hashes (with_field (part_of part.now) rest)
+    ensures added { OnOk result ((rest : NodeParts) → map link_of links.old.items ++ hashes
+        (with_field (part_of part.now) rest)
         ≡ map link_of links.new.items ++ hashes rest) }
     ensures full { OnErr result (IsLinkField part.now) }
 {
@@ -142,7 +145,8 @@ fn collect_links(alloc: Global, bytes: &[u8]) -> Result<Vec<Cid>, PbError>
 ///
 /// Those of [`read_node`]: the same error of the same bytes, unless an allocation fails.
 pub fn links_of_block(alloc: Global, bytes: &[u8]) -> Result<Vec<Cid>, PbError>
-    ensures found { IfOk result (λ links. (n : NodeParts) × IsNode n bytes.now × (map link_of links.items ≡ hashes n)) }
+    ensures found { IfOk result (λ links. (n : NodeParts) × IsNode n bytes.now
+        × (map link_of links.items ≡ hashes n)) }
     ensures only { (n : NodeParts) → IsNode n bytes.now
         → MatchResult result (λ links. map link_of links.items ≡ hashes n) IsOutOfMemory }
     ensures exact { MatchResult result

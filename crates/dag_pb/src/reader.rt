@@ -67,7 +67,8 @@ fn read_link_field(left: usize, bytes: &[u8]) -> Result<(PlacedLink<'_>, &[u8]),
         (λ found. reading.link_field left bytes.now ≡ Ok (parts_of_link found.0.link, found.1.now))
         (λ fault. reading.link_field left bytes.now ≡ Err fault) }
     ensures shorter { IfOk result (λ found. length found.1.now < length bytes.now) }
-    ensures places { IfOk result (λ found. BeginsBehindKey 18 (NodeField.Link found.0) bytes.now found.1.now) }
+    ensures places { IfOk result (λ found. BeginsBehindKey 18
+        (NodeField.Link found.0) bytes.now found.1.now) }
 {
     let (content, rest) = match read_content(bytes) {
         Ok(found) => found,
@@ -97,7 +98,8 @@ fn read_data_field(left: usize, bytes: &[u8]) -> Result<(&[u8], &[u8]), Fault>
         (λ found. reading.data_field left bytes.now ≡ Ok (found.0.now, found.1.now))
         (λ fault. reading.data_field left bytes.now ≡ Err fault) }
     ensures shorter { IfOk result (λ found. length found.1.now < length bytes.now) }
-    ensures places { IfOk result (λ found. BeginsBehindKey 10 (NodeField.Data found.0) bytes.now found.1.now) }
+    ensures places { IfOk result (λ found. BeginsBehindKey 10
+        (NodeField.Data found.0) bytes.now found.1.now) }
 {
     match read_content(bytes) {
         Ok((content, rest)) => Ok((content, rest)),
@@ -114,7 +116,8 @@ fn take_link(
 ) -> Result<(NodeField<'_>, Stage, &[u8]), Fault>
     requires { length bytes.now ≤ left }
     ensures exact { MatchResult result
-        (λ found. reading.link_part left bytes.now (reading.after_link stage) ≡ Ok (part_of found.0, found.1, found.2.now))
+        (λ found. reading.link_part left bytes.now (reading.after_link stage) ≡ Ok
+        (part_of found.0, found.1, found.2.now))
         (λ fault. reading.link_part left bytes.now (reading.after_link stage) ≡ Err fault) }
     ensures shorter { IfOk result (λ found. length found.2.now < length bytes.now) }
     ensures places { IfOk result (λ found. BeginsBehindKey 18 found.0 bytes.now found.2.now) }
@@ -139,7 +142,8 @@ fn take_data(
     bytes: &[u8],
 ) -> Result<(NodeField<'_>, Stage, &[u8]), Fault>
     ensures exact { MatchResult result
-        (λ found. reading.data_part left bytes.now (reading.after_data stage) ≡ Ok (part_of found.0, found.1, found.2.now))
+        (λ found. reading.data_part left bytes.now (reading.after_data stage) ≡ Ok
+        (part_of found.0, found.1, found.2.now))
         (λ fault. reading.data_part left bytes.now (reading.after_data stage) ≡ Err fault) }
     ensures shorter { IfOk result (λ found. length found.2.now < length bytes.now) }
     ensures places { IfOk result (λ found. BeginsBehindKey 10 found.0 bytes.now found.2.now) }

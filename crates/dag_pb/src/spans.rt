@@ -102,7 +102,8 @@ impl PbNodeSpans {
 // The spans of a block, which public clauses say more of.
 fn collect_spans(alloc: Global, bytes: &[u8]) -> Result<PbNodeSpans, PbError>
     ensures exact { MatchResult result
-        (λ spans. ((n : NodeParts) × (read_node bytes.now ≡ Ok n) × NodeStandsAt n bytes.now spans) × AreSpansOf spans bytes.now)
+        (λ spans. ((n : NodeParts) × (read_node bytes.now ≡ Ok n) × NodeStandsAt n bytes.now spans)
+        × AreSpansOf spans bytes.now)
         (λ error. IsOutOfMemory error ⊎ (read_node bytes.now ≡ Err error)) }
     ensures unlinked { (n : NodeParts) → read_node bytes.now ≡ Ok n → n.links ≡ [] → IsOk result }
 {
@@ -133,11 +134,13 @@ fn collect_spans(alloc: Global, bytes: &[u8]) -> Result<PbNodeSpans, PbError>
 ///
 /// Those of [`read_node`](crate::read_node): the same error of the same bytes, unless an allocation fails.
 pub fn node_spans(alloc: Global, bytes: &[u8]) -> Result<PbNodeSpans, PbError>
-    ensures found { IfOk result (λ spans. (n : NodeParts) × IsNode n bytes.now × NodeStandsAt n bytes.now spans) }
+    ensures found { IfOk result (λ spans. (n : NodeParts) × IsNode n bytes.now
+        × NodeStandsAt n bytes.now spans) }
     ensures only { (n : NodeParts) → IsNode n bytes.now
         → MatchResult result (λ spans. NodeStandsAt n bytes.now spans) IsOutOfMemory }
     ensures places { IfOk result (λ spans. AreSpansOf spans bytes.now) }
-    ensures errors { IfErr result (λ error. IsOutOfMemory error ⊎ (read_node bytes.now ≡ Err error)) }
+    ensures errors { IfErr result (λ error. IsOutOfMemory error
+        ⊎ (read_node bytes.now ≡ Err error)) }
     ensures unlinked { (n : NodeParts) → IsNode n bytes.now → n.links ≡ [] → IsOk result }
     ensures offset { IfErr result (λ error. error.offset ≤ length bytes.now) }
 {

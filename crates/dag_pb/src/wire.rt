@@ -42,7 +42,8 @@ pub(crate) fn read_content(bytes: &[u8]) -> Result<(&[u8], &[u8]), PbErrorKind>
     ensures exact { MatchResult result
         (λ found. reading.read_content bytes.now ≡ Ok (found.0.now, found.1.now))
         (λ error. reading.read_content bytes.now ≡ Err error) }
-    ensures shorter { IfOk result (λ found. length found.0.now + length found.1.now < length bytes.now) }
+    ensures shorter { IfOk result (λ found. length found.0.now + length found.1.now
+        < length bytes.now) }
 {
     let (size, rest) = read_varint(bytes)?;
     match rest.split_at_checked(size as usize) {
@@ -58,7 +59,8 @@ pub(crate) fn strip_key(key: u64, bytes: &[u8]) -> Result<Option<&[u8]>, PbError
     ensures exact { MatchResult result
         (λ found. reading.after_key key bytes.now ≡ Ok (option_map (λ rest. rest.now) found))
         (λ error. reading.after_key key bytes.now ≡ Err error) }
-    ensures shorter { IfOk result (λ found. IfSome found (λ rest. length rest.now < length bytes.now)) }
+    ensures shorter { IfOk result (λ found. IfSome found (λ rest.
+        length rest.now < length bytes.now)) }
 {
     if bytes.is_empty() {
         return Ok(None);

@@ -11,7 +11,8 @@ use std::alloc::Global;
 
 /// The text of the CID that the bytes encode, all of them.
 pub fn text_of_bytes(alloc: Global, bytes: &[u8]) -> Result<String, CidError>
-    ensures { IfOk result (λ text. (cid : Link) × IsCid 64 bytes.now cid × (string_bytes text ≡ text_of cid)) }
+    ensures { IfOk result (λ text. (cid : Link) × IsCid 64 bytes.now cid
+        × (string_bytes text ≡ text_of cid)) }
 {
     let cid = Cid::try_from(bytes)?;
     match cid.to_text(alloc) {

@@ -41,7 +41,8 @@ impl From<BlockError> for LinksError {
 /// The links are counted before the first is stored. Neither pass builds a tree, and both end where a limit is passed.
 pub fn links_within(alloc: Global, block: &[u8], limit: usize) -> Result<Vec<Cid>, LinksError>
     ensures few { IfOk result (λ links. vec_len links ≤ limit) }
-    ensures found { IfOk result (λ links. links_read true block.now ≡ Some (map link_of links.items)) }
+    ensures found { IfOk result (λ links. links_read true block.now ≡ Some
+        (map link_of links.items)) }
 {
     let options = ReadOptions {
         floats: true,

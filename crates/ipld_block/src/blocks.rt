@@ -39,7 +39,8 @@ fn cbor_error(error: BlockError) -> CheckError
 #[tactic(auto, using(crate::proofs::Faults::no_cbor))]
 fn check_cbor(alloc: Global, bytes: &[u8]) -> Result<(), CheckError>
     ensures valid { OnOk result (IsBlock BlockCodec.DagCbor bytes.now) }
-    ensures rejected { IfErr result (λ error. IfInvalid error (IsInvalid BlockCodec.DagCbor bytes.now)) }
+    ensures rejected { IfErr result (λ error.
+        IfInvalid error (IsInvalid BlockCodec.DagCbor bytes.now)) }
 {
     match check_block(alloc, bytes, &OPTIONS) {
         Ok(()) => Ok(()),

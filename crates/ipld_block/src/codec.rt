@@ -66,7 +66,8 @@ impl BlockCodec {
 /// The name of a codec in the multicodec table, of those that content is often in.
 #[tactic(auto, unfolding(crate::specs::Codes::codec_name_of))]
 pub fn codec_name(code: u64) -> Option<&'static str>
-    ensures { MatchOption result (codec_name_of code ≡ None) (λ name. codec_name_of code ≡ Some name.now) }
+    ensures { MatchOption result (codec_name_of code ≡ None) (λ name.
+        codec_name_of code ≡ Some name.now) }
 {
     match code {
         0x51 => Some("cbor"),
@@ -87,7 +88,8 @@ pub fn codec_name(code: u64) -> Option<&'static str>
 /// The name of a hash function in the multicodec table, of those that are often used.
 #[tactic(auto, unfolding(crate::specs::Codes::hash_name_of))]
 pub fn hash_name(code: u64) -> Option<&'static str>
-    ensures { MatchOption result (hash_name_of code ≡ None) (λ name. hash_name_of code ≡ Some name.now) }
+    ensures { MatchOption result (hash_name_of code ≡ None) (λ name.
+        hash_name_of code ≡ Some name.now) }
 {
     match code {
         0x00 => Some("identity"),

@@ -18,7 +18,8 @@ use std::io::{self, ErrorKind, Write};
 /// That of the writer, and `OutOfMemory` where the allocation failed.
 #[tactic(auto, using(ipld_cid_text::proofs::UsualTexts::usual_v1))]
 pub fn write_cid<W: Write>(alloc: Global, writer: &mut W, cid: &Cid) -> io::Result<()>
-    ensures { OnOk result (Appends (W.contents writer.old) (W.contents writer.new) (usual_text (link_of cid.now))) }
+    ensures { OnOk result (Appends (W.contents writer.old) (W.contents writer.new)
+        (usual_text (link_of cid.now))) }
 {
     match cid.version() {
         Version::V0 => match usual_text(alloc, cid) {
@@ -41,7 +42,8 @@ pub fn write_cid<W: Write>(alloc: Global, writer: &mut W, cid: &Cid) -> io::Resu
 ///
 /// Those of [`write_cid`].
 pub fn write_links<W: Write>(alloc: Global, links: &[Cid], writer: &mut W) -> io::Result<()>
-    ensures { OnOk result (Appends (W.contents writer.old) (W.contents writer.new) (lines_of (map link_of links.now))) }
+    ensures { OnOk result (Appends (W.contents writer.old) (W.contents writer.new)
+        (lines_of (map link_of links.now))) }
 {
     for link in links {
         write_cid(alloc, writer, link)?;

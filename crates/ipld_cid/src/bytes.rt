@@ -195,7 +195,8 @@ impl<const S: usize> CidGeneric<S> {
     /// };
     /// ```
     pub fn split_front(bytes: &[u8]) -> Result<(Self, &[u8]), CidError>
-        ensures found { IfOk result (λ split. front.BeginsWith S bytes.now (link_of split.0) split.1.now) }
+        ensures found { IfOk result (λ split. front.BeginsWith S bytes.now
+            (link_of split.0) split.1.now) }
         ensures only { (link : Link) (rest : List ℕ) → front.BeginsWith S bytes.now link rest
             → IsOkAnd result (λ split. (link_of split.0 ≡ link) × (split.1.now ≡ rest)) }
         ensures error { IfErr result (λ error. encoded.read_cid S bytes.now ≡ Err error) }
@@ -257,7 +258,8 @@ impl<const S: usize> CidGeneric<S> {
     pub fn write_to(&self, buffer: &mut [u8]) -> Option<usize>
         requires { S ≤ 1048576 }
         ensures written { MatchOption result
-            ((length buffer.old < length (encoded.bytes_of (link_of self.now))) × (buffer.new ≡ buffer.old))
+            ((length buffer.old < length (encoded.bytes_of (link_of self.now)))
+            × (buffer.new ≡ buffer.old))
             (λ len. (len ≡ length (encoded.bytes_of (link_of self.now)))
             × (buffer.new ≡ encoded.bytes_of (link_of self.now) ++ drop len buffer.old)) }
         ensures fits { S ≤ 127 → 22 + S ≤ length buffer.old → IsSome result }
@@ -293,8 +295,10 @@ impl<const S: usize> CidGeneric<S> {
     #[tactic(auto, unfolding(crate::specs::Bytes::bytes_of))]
     pub fn write_bytes(&self, bytes: &mut Vec<u8>) -> Result<(), AllocError>
         requires { S ≤ 1048576 }
-        ensures appended { bytes.new.items ≡ (if is_ok result then bytes.old.items ++ encoded.bytes_of (link_of self.now) else bytes.old.items) }
-        ensures full { OnErr result (vec_capacity bytes.old < vec_len bytes.old + length (encoded.bytes_of (link_of self.now))) }
+        ensures appended { bytes.new.items ≡ (if is_ok result
+            then bytes.old.items ++ encoded.bytes_of (link_of self.now) else bytes.old.items) }
+        ensures full { OnErr result (vec_capacity bytes.old < vec_len bytes.old + length
+            (encoded.bytes_of (link_of self.now))) }
     {
         let head = self.header();
         let digest = self.hash().digest();

@@ -49,7 +49,8 @@ impl<const S: usize> CidGeneric<S> {
     /// Returns `InvalidV0Multihash` where the hash isn't [`SHA2_256`] with 32 bytes, and nothing else.
     #[inline(always)]
     pub fn new_v0(hash: Multihash<S>) -> Result<Self, CidError>
-        ensures made { IsSha256 hash.entry → IsOkAnd result (λ c. link_of c ≡ link_from_parts Version.V0 DAG_PB hash.entry) }
+        ensures made { IsSha256 hash.entry → IsOkAnd result (λ c.
+            link_of c ≡ link_from_parts Version.V0 DAG_PB hash.entry) }
         ensures rejected { (IsSha256 hash.entry → ⊥) → result ≡ Err CidError.InvalidV0Multihash }
     {
         if hash.code() != SHA2_256 || hash.digest().len() != 32 {

@@ -24,7 +24,8 @@ const SHORT_LETTERS: usize = 154;
 #[inline(always)]
 fn block_number(letters: &[u8; 8]) -> Option<u64>
     ensures { MatchOption result (reading.values letters.now ≡ None)
-        (λ n. (groups : List ℕ) × (reading.values letters.now ≡ Some groups) × (flat_map (bits 5) groups ≡ bits 40 n)) }
+        (λ n. (groups : List ℕ) × (reading.values letters.now ≡ Some groups)
+        × (flat_map (bits 5) groups ≡ bits 40 n)) }
 {
     let mut bits = 0;
     // The values in one number, which is below 32 where each of them is.
@@ -59,7 +60,8 @@ fn are_zero(bytes: &[u8]) -> bool
 fn last_bytes(letters: &[u8]) -> Option<([u8; 5], usize)>
     requires { length letters.now < 8 }
     ensures { MatchOption result (reading.decoded letters.now ≡ None)
-        (λ last. (last.1 ≡ 5 * length letters.now / 8) × (reading.decoded letters.now ≡ Some (take last.1 last.0))) }
+        (λ last. (last.1 ≡ 5 * length letters.now / 8)
+        × (reading.decoded letters.now ≡ Some (take last.1 last.0))) }
 {
     // One, three or six letters leave over more bits than fill a letter.
     if 5 * letters.len() % 8 > 4 {
@@ -88,7 +90,8 @@ fn decoded_len(letters: &[u8]) -> usize
 #[inline(always)]
 fn decode_letters(letters: &[u8], bytes: &mut [u8]) -> Option<()>
     requires { length bytes.old ≡ 5 * length letters.now / 8 }
-    ensures { MatchOption result (reading.decoded letters.now ≡ None) (λ _. reading.decoded letters.now ≡ Some bytes.new) }
+    ensures { MatchOption result (reading.decoded letters.now ≡ None) (λ _.
+        reading.decoded letters.now ≡ Some bytes.new) }
 {
     let (blocks, rest) = letters.as_chunks::<8>();
     for (i, block) in blocks.iter().enumerate() {
@@ -129,7 +132,8 @@ fn read_letters<const S: usize>(letters: &[u8], bytes: &mut [u8]) -> Result<CidG
 fn read_long_text<const S: usize>(alloc: Global, letters: &[u8]) -> Result<CidGeneric<S>, CidError>
     ensures { MatchResult result
         (λ c. reading.read_decoded S (reading.decoded letters.now) ≡ Ok (link_of c))
-        (λ error. (error ≡ CidError.Memory) ⊎ (reading.read_decoded S (reading.decoded letters.now) ≡ Err error)) }
+        (λ error. (error ≡ CidError.Memory) ⊎ (reading.read_decoded S (reading.decoded letters.now)
+        ≡ Err error)) }
 {
     let mut bytes = Vec::new(alloc);
     let Ok(()) = bytes.resize(decoded_len(letters), 0) else {
@@ -157,7 +161,8 @@ fn read_text<const S: usize>(alloc: Global, text: &[u8]) -> Result<CidGeneric<S>
     ensures exact { MatchResult result
         (λ c. reading.read_text S text.now ≡ Ok (link_of c))
         (λ error. (error ≡ CidError.Memory) ⊎ (reading.read_text S text.now ≡ Err error)) }
-    ensures short { length text.now ≤ 155 → IfErr result (λ error. reading.read_text S text.now ≡ Err error) }
+    ensures short { length text.now ≤ 155 → IfErr result (λ error. reading.read_text S text.now
+        ≡ Err error) }
 {
     let [b'b', letters @ ..] = text else {
         return Err(CidError::InvalidText);
@@ -241,7 +246,8 @@ impl<const S: usize> CidGeneric<S> {
         ensures exact { MatchResult result
             (λ c. reading.read_text S text.now ≡ Ok (link_of c))
             (λ error. (error ≡ CidError.Memory) ⊎ (reading.read_text S text.now ≡ Err error)) }
-        ensures short { length text.now ≤ 155 → IfErr result (λ error. reading.read_text S text.now ≡ Err error) }
+        ensures short { length text.now ≤ 155
+            → IfErr result (λ error. reading.read_text S text.now ≡ Err error) }
     {
         read_text(alloc, text.as_bytes())
     }

@@ -21,19 +21,28 @@ use std::cmp::Ordering;
 /// - Bytes are rejected as trailing just where they begin with the bytes of a CID and go on after it.
 /// - The bytes of a CID that are cut anywhere are rejected as ending early, so none begin the bytes of another CID.
 pub fn cid_bytes_law<const S: usize>()
-    ensures read_is_encoded { (bytes : List ℕ) (link : Link) → IsBytes bytes → read_cid S bytes ≡ Ok link → IsCid S bytes link }
-    ensures encoded_is_read { (bytes : List ℕ) (link : Link) → IsCid S bytes link → read_cid S bytes ≡ Ok link }
+    ensures read_is_encoded { (bytes : List ℕ) (link : Link) → IsBytes bytes
+        → read_cid S bytes ≡ Ok link → IsCid S bytes link }
+    ensures encoded_is_read { (bytes : List ℕ) (link : Link) → IsCid S bytes link
+        → read_cid S bytes ≡ Ok link }
     ensures each_has_a_encoding { (link : Link) → IsValid S link → IsCid S (bytes_of link) link }
-    ensures encoded_is_valid { (bytes : List ℕ) (link : Link) → IsCid S bytes link → IsValid S link }
-    ensures one_encoding { (bytes : List ℕ) (link : Link) → IsCid S bytes link → bytes ≡ bytes_of link }
-    ensures one_meaning { (bytes : List ℕ) (link other : Link) → IsCid S bytes link → IsCid S bytes other → link ≡ other }
+    ensures encoded_is_valid { (bytes : List ℕ) (link : Link) → IsCid S bytes link
+        → IsValid S link }
+    ensures one_encoding { (bytes : List ℕ) (link : Link) → IsCid S bytes link
+        → bytes ≡ bytes_of link }
+    ensures one_meaning { (bytes : List ℕ) (link other : Link) → IsCid S bytes link
+        → IsCid S bytes other → link ≡ other }
     ensures trailing { (front : List ℕ) (x : ℕ) (more : List ℕ) (link : Link) → IsCid S front link
         → read_cid S (front ++ x ∷ more) ≡ Err CidError.TrailingBytes }
-    ensures trailing_only { (bytes : List ℕ) → IsBytes bytes → read_cid S bytes ≡ Err CidError.TrailingBytes
-        → (front : List ℕ) × (x : ℕ) × (more : List ℕ) × (link : Link) × (bytes ≡ front ++ x ∷ more) × IsCid S front link }
-    ensures cut { (front : List ℕ) (x : ℕ) (more : List ℕ) (link : Link) → IsCid S (front ++ x ∷ more) link
+    ensures trailing_only { (bytes : List ℕ) → IsBytes bytes
+        → read_cid S bytes ≡ Err CidError.TrailingBytes
+        → (front : List ℕ) × (x : ℕ) × (more : List ℕ) × (link : Link) × (bytes ≡ front ++ x ∷ more)
+        × IsCid S front link }
+    ensures cut { (front : List ℕ) (x : ℕ) (more : List ℕ) (link : Link)
+        → IsCid S (front ++ x ∷ more) link
         → read_cid S front ≡ Err CidError.End }
-    ensures no_front { (front : List ℕ) (x : ℕ) (more : List ℕ) (link other : Link) → IsCid S (front ++ x ∷ more) link → IsCid S front other → ⊥ }
+    ensures no_front { (front : List ℕ) (x : ℕ) (more : List ℕ) (link other : Link)
+        → IsCid S (front ++ x ∷ more) link → IsCid S front other → ⊥ }
 {}
 
 /// What holds of multihashes as bytes, at each capacity `S` for the digest. A call does nothing.
@@ -42,13 +51,20 @@ pub fn cid_bytes_law<const S: usize>()
 /// - Each valid multihash has an encoding, and only one. What is encoded is valid, and bytes encode at most one multihash.
 /// - Bytes after those of a multihash are rejected as trailing.
 pub fn multihash_bytes_law<const S: usize>()
-    ensures read_is_encoded { (bytes : List ℕ) (hash : HashParts) → IsBytes bytes → read_hash S bytes ≡ Ok hash → IsEncodedHash S bytes hash }
-    ensures encoded_is_read { (bytes : List ℕ) (hash : HashParts) → IsEncodedHash S bytes hash → read_hash S bytes ≡ Ok hash }
-    ensures each_has_an_encoding { (hash : HashParts) → IsMultihash S hash → IsEncodedHash S (hash_bytes_of hash) hash }
-    ensures encoded_is_valid { (bytes : List ℕ) (hash : HashParts) → IsEncodedHash S bytes hash → IsMultihash S hash }
-    ensures one_encoding { (bytes : List ℕ) (hash : HashParts) → IsEncodedHash S bytes hash → bytes ≡ hash_bytes_of hash }
-    ensures one_meaning { (bytes : List ℕ) (hash other : HashParts) → IsEncodedHash S bytes hash → IsEncodedHash S bytes other → hash ≡ other }
-    ensures trailing { (front : List ℕ) (x : ℕ) (more : List ℕ) (hash : HashParts) → IsEncodedHash S front hash
+    ensures read_is_encoded { (bytes : List ℕ) (hash : HashParts) → IsBytes bytes
+        → read_hash S bytes ≡ Ok hash → IsEncodedHash S bytes hash }
+    ensures encoded_is_read { (bytes : List ℕ) (hash : HashParts) → IsEncodedHash S bytes hash
+        → read_hash S bytes ≡ Ok hash }
+    ensures each_has_an_encoding { (hash : HashParts) → IsMultihash S hash
+        → IsEncodedHash S (hash_bytes_of hash) hash }
+    ensures encoded_is_valid { (bytes : List ℕ) (hash : HashParts) → IsEncodedHash S bytes hash
+        → IsMultihash S hash }
+    ensures one_encoding { (bytes : List ℕ) (hash : HashParts) → IsEncodedHash S bytes hash
+        → bytes ≡ hash_bytes_of hash }
+    ensures one_meaning { (bytes : List ℕ) (hash other : HashParts) → IsEncodedHash S bytes hash
+        → IsEncodedHash S bytes other → hash ≡ other }
+    ensures trailing { (front : List ℕ) (x : ℕ) (more : List ℕ) (hash : HashParts)
+        → IsEncodedHash S front hash
         → read_hash S (front ++ x ∷ more) ≡ Err CidError.TrailingBytes }
 {}
 
@@ -58,13 +74,19 @@ pub fn multihash_bytes_law<const S: usize>()
 /// - Each valid version 1 CID has a text, the printed one, and only that; so reading that returns the same CID.
 /// - The text that is printed for a version 0 CID is rejected.
 pub fn cid_text_law<const S: usize>()
-    ensures read_is_encoded { (text : List ℕ) (link : Link) → read_text S text ≡ Ok link → IsText S link text }
-    ensures encoded_is_read { (text : List ℕ) (link : Link) → IsText S link text → read_text S text ≡ Ok link }
-    ensures each_has_a_text { (link : Link) → IsValid S link → link.version ≡ Version.V1 → IsText S link (text_of link) }
-    ensures round_trip { (link : Link) → IsValid S link → link.version ≡ Version.V1 → read_text S (text_of link) ≡ Ok link }
+    ensures read_is_encoded { (text : List ℕ) (link : Link) → read_text S text ≡ Ok link
+        → IsText S link text }
+    ensures encoded_is_read { (text : List ℕ) (link : Link) → IsText S link text
+        → read_text S text ≡ Ok link }
+    ensures each_has_a_text { (link : Link) → IsValid S link → link.version ≡ Version.V1
+        → IsText S link (text_of link) }
+    ensures round_trip { (link : Link) → IsValid S link → link.version ≡ Version.V1
+        → read_text S (text_of link) ≡ Ok link }
     ensures one_text { (text : List ℕ) (link : Link) → IsText S link text → text ≡ text_of link }
-    ensures one_meaning { (text : List ℕ) (link other : Link) → IsText S link text → IsText S other text → link ≡ other }
-    ensures no_version_0 { (link : Link) → link.version ≡ Version.V0 → read_text S (text_of link) ≡ Err CidError.InvalidText }
+    ensures one_meaning { (text : List ℕ) (link other : Link) → IsText S link text
+        → IsText S other text → link ≡ other }
+    ensures no_version_0 { (link : Link) → link.version ≡ Version.V0
+        → read_text S (text_of link) ≡ Err CidError.InvalidText }
 {}
 
 /// What holds of the comparisons of CIDs. A call does nothing.

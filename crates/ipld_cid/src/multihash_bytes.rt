@@ -30,7 +30,8 @@ impl<const S: usize> Multihash<S> {
     /// `NotShortest` and `VarintTooLarge` as [`CidError`] says.
     pub fn from_bytes(bytes: &[u8]) -> Result<Self, CidError>
         ensures found { IfOk result (λ hash. encoded.IsEncodedHash S bytes.now hash) }
-        ensures only { (hash : HashParts) → encoded.IsEncodedHash S bytes.now hash → result ≡ Ok hash }
+        ensures only { (hash : HashParts) → encoded.IsEncodedHash S bytes.now hash
+            → result ≡ Ok hash }
         ensures exact { result ≡ encoded.read_hash S bytes.now }
     {
         read_hash(bytes)

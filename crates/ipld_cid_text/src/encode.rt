@@ -30,7 +30,8 @@ pub(crate) fn encode_digits(base: Base, bytes: &[u8]) -> Digits
 pub(crate) fn decode_digits(base: Base, digits: &[u8]) -> Result<Digits, TextError>
     requires few { length digits.now ≤ 190 }
     requires below { IsBelow (size base) digits.now }
-    ensures { MatchResult result (λ bytes. IsEncoded base bytes digits.now) (λ error. IsUnencoded base digits.now error) }
+    ensures { MatchResult result (λ bytes. IsEncoded base bytes digits.now) (λ error.
+        IsUnencoded base digits.now error) }
 {
     match base {
         Base::Base16Lower => bytes_of_groups::<4>(digits),
@@ -46,7 +47,8 @@ pub(crate) fn decode_digits(base: Base, digits: &[u8]) -> Result<Digits, TextErr
 #[inline(always)]
 pub(crate) fn digits_of_letters(base: Base, letters: &[u8]) -> Result<Digits, usize>
     requires { length letters.now ≤ 190 }
-    ensures { MatchResult result (λ digits. AreDigits base letters.now digits) (λ place. IsFirstOther base letters.now place) }
+    ensures { MatchResult result (λ digits. AreDigits base letters.now digits) (λ place.
+        IsFirstOther base letters.now place) }
 {
     let values = base.values();
     let mut digits = Digits::new();

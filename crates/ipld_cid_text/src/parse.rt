@@ -43,7 +43,8 @@ fn begins_qm(text: &[u8]) -> bool
 #[inline(always)]
 fn form_of(text: &[u8]) -> Option<(Base, Version, usize)>
     ensures { MatchOption result (texts.form_of text.now ≡ None)
-        (λ form. (texts.form_of text.now ≡ Some (record { base = form.0; version = form.1; skip = form.2 })) × (form.2 ≤ length text.now) × (form.2 ≤ 1)) }
+        (λ form. (texts.form_of text.now ≡ Some (record { base = form.0; version = form.1; skip =
+        form.2 })) × (form.2 ≤ length text.now) × (form.2 ≤ 1)) }
 {
     if text.len() == 46 && begins_qm(text) {
         return Some((Base::Base58Btc, Version::V0, 0));
@@ -64,7 +65,8 @@ fn read_letters(
 ) -> Result<Cid, TextError>
     requires { place ≤ 7 }
     ensures why { MatchResult result
-        (λ cid. ((link_of cid).version ≡ version) × (bytes : List ℕ) × Encodes base bytes letters.now × IsCid 64 bytes (link_of cid))
+        (λ cid. ((link_of cid).version ≡ version) × (bytes : List ℕ)
+        × Encodes base bytes letters.now × IsCid 64 bytes (link_of cid))
         (λ error. texts.IsLettersError base version place letters.now error) }
     ensures long { 190 < length letters.now → result ≡ Err TextError.InvalidLength }
 {
@@ -93,7 +95,8 @@ fn read_letters(
 
 // The CID of a text, in any base.
 fn read_text(text: &[u8]) -> Result<Cid, TextError>
-    ensures why { MatchResult result (λ cid. texts.IsText (link_of cid) text.now) (λ error. texts.IsTextError text.now error) }
+    ensures why { MatchResult result (λ cid. texts.IsText (link_of cid) text.now) (λ error.
+        texts.IsTextError text.now error) }
     ensures long { texts.IsTooLong text.now → result ≡ Err TextError.InvalidLength }
 {
     let path = path_len(text);
@@ -119,7 +122,8 @@ fn read_text(text: &[u8]) -> Result<Cid, TextError>
 /// - [`TextError::Cid`]: the letters encode bytes that are no CID, with the error that reading those bytes returns.
 pub fn parse_any(text: &str) -> Result<Cid, TextError>
     ensures found { IfOk result (λ cid. texts.IsText (link_of cid) text.now) }
-    ensures only { (link : Link) → texts.IsText link text.now → IsOkAnd result (λ cid. link_of cid ≡ link) }
+    ensures only { (link : Link) → texts.IsText link text.now
+        → IsOkAnd result (λ cid. link_of cid ≡ link) }
     ensures error { IfErr result (λ error. texts.IsTextError text.now error) }
     ensures long { texts.IsTooLong text.now → result ≡ Err TextError.InvalidLength }
 {

@@ -42,7 +42,8 @@ fn regroup<const FROM: u32, const TO: u32>(items: &[u8]) -> (Digits, u32, u32)
     ensures rest { result.1 < 2 ^ result.2 }
     ensures below { IsBelow (2 ^ TO) result.0 }
     ensures few { length result.0 ≤ 380 }
-    ensures bits { flat_map (bits FROM) items.now ≡ flat_map (bits TO) result.0 ++ bits result.2 result.1 }
+    ensures bits { flat_map (bits FROM) items.now ≡ flat_map (bits TO) result.0
+        ++ bits result.2 result.1 }
 {
     let mut groups = Digits::new();
     let mut rest = 0;
@@ -82,7 +83,8 @@ pub(crate) fn bytes_of_groups<const W: u32>(groups: &[u8]) -> Result<Digits, Tex
     requires wide { 4 ≤ W }
     requires few { length groups.now ≤ 190 }
     requires below { IsBelow (2 ^ W) groups.now }
-    ensures { MatchResult result (λ bytes. IsGrouped W bytes groups.now) (λ error. IsUngrouped W groups.now error) }
+    ensures { MatchResult result (λ bytes. IsGrouped W bytes groups.now) (λ error.
+        IsUngrouped W groups.now error) }
 {
     let (bytes, rest, count) = regroup::<W, 8>(groups);
     if count >= W {

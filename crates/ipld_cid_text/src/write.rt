@@ -31,7 +31,8 @@ fn push_letters(text: &mut Vec<u8>, base: Base, digits: &[u8]) -> Result<(), All
 
 // The letters that encode the CID's bytes, after the prefix where there is to be one.
 fn letters_of(alloc: Global, cid: &Cid, base: Base, prefixed: bool) -> Result<Vec<u8>, AllocError>
-    ensures { IfOk result (λ text. IsPrefixed base prefixed (bytes_of (link_of cid.now)) text.items) }
+    ensures { IfOk result (λ text. IsPrefixed base prefixed
+        (bytes_of (link_of cid.now)) text.items) }
 {
     let mut text = Vec::with_capacity(alloc, 1 + base.most_letters(cid.encoded_len()))?;
     cid.write_bytes(&mut text)?;
@@ -46,7 +47,8 @@ fn letters_of(alloc: Global, cid: &Cid, base: Base, prefixed: bool) -> Result<Ve
 
 // The text of these letters, which are ASCII.
 fn text_of(alloc: Global, cid: &Cid, base: Base, prefixed: bool) -> Result<String, AllocError>
-    ensures { IfOk result (λ text. IsPrefixed base prefixed (bytes_of (link_of cid.now)) (string_bytes text)) }
+    ensures { IfOk result (λ text. IsPrefixed base prefixed (bytes_of (link_of cid.now))
+        (string_bytes text)) }
 {
     let letters = letters_of(alloc, cid, base, prefixed)?;
     let Ok(text) = String::from_utf8(letters) else {
@@ -60,7 +62,8 @@ fn write_text(alloc: Global, cid: &Cid, base: Base) -> Result<String, ToStringEr
     ensures { MatchResult result
         (λ text. IsTextIn base (link_of cid.now) (string_bytes text))
         (λ error. (error ≡ ToStringError.Memory)
-        ⊎ ((error ≡ ToStringError.InvalidCidV0Base) × ((link_of cid.now).version ≡ Version.V0) × (base ≡ Base.Base58Btc → ⊥))) }
+        ⊎ ((error ≡ ToStringError.InvalidCidV0Base) × ((link_of cid.now).version ≡ Version.V0)
+        × (base ≡ Base.Base58Btc → ⊥))) }
 {
     let prefixed = match cid.version() {
         Version::V0 => {
@@ -90,7 +93,8 @@ pub fn to_string_of_base(alloc: Global, cid: &Cid, base: Base) -> Result<String,
     ensures exact { MatchResult result
         (λ text. IsTextIn base (link_of cid.now) (string_bytes text))
         (λ error. (error ≡ ToStringError.Memory)
-        ⊎ ((error ≡ ToStringError.InvalidCidV0Base) × ((link_of cid.now).version ≡ Version.V0) × (base ≡ Base.Base58Btc → ⊥))) }
+        ⊎ ((error ≡ ToStringError.InvalidCidV0Base) × ((link_of cid.now).version ≡ Version.V0)
+        × (base ≡ Base.Base58Btc → ⊥))) }
     ensures round_trip { IfOk result (λ text. IsText (link_of cid.now) (string_bytes text)) }
 {
     write_text(alloc, cid, base)

@@ -40,7 +40,8 @@ impl<'a> Read for FaultReader<'a> {
     /// `ErrorKind::Other` where no byte is left, also where the buffer is empty.
     fn read(&mut self, buf: &mut [u8]) -> io::Result<usize>
         ensures bound { ReadsAtMost result buf.new }
-        ensures bytes { ReadConsumes (Some (bytes_left self.old)) (Some (bytes_left self.new)) result buf.new }
+        ensures bytes { ReadConsumes (Some (bytes_left self.old))
+            (Some (bytes_left self.new)) result buf.new }
         ensures front { ReadsFront (bytes_left self.old) (bytes_left self.new) buf.new result }
         ensures kind { IfErr result (λ error. error_kind error ≡ ErrorKind.Other) }
     {
@@ -60,9 +61,11 @@ impl<'a> BufRead for FaultReader<'a> {
     fn fill_buf(&mut self) -> io::Result<&[u8]>
         ensures front { IfOk result (λ s. StartsWith (bytes_left self.old) s.now) }
         ensures end { IfOk result (λ s. length s.now ≡ 0 → bytes_left self.old ≡ []) }
-        ensures* after_borrow { sem 𝓛 (Rests (the_row (record { mir = named 1; lft = [] })) self.entry (λ new.
+        ensures* after_borrow { sem 𝓛 (Rests (the_row (record { mir = named 1; lft = [] }))
+            self.entry (λ new.
             FillKeeps (Some (bytes_left self.old)) (Some (bytes_left new)) None result)) }
-        ensures value { MatchResult result (λ s. (s.now ≡ bytes_left self.old) × (s.now ≢ [])) (λ _. bytes_left self.old ≡ []) }
+        ensures value { MatchResult result (λ s. (s.now ≡ bytes_left self.old) × (s.now ≢ [])) (λ _.
+            bytes_left self.old ≡ []) }
         ensures kind { IfErr result (λ error. error_kind error ≡ ErrorKind.Other) }
     {
         if self.bytes.is_empty() {
@@ -73,7 +76,8 @@ impl<'a> BufRead for FaultReader<'a> {
 
     /// Takes so many bytes off the front, or all where there are fewer.
     fn consume(&mut self, amount: usize)
-        ensures bytes { DropsConsumable (Some (bytes_left self.old)) (Some (bytes_left self.new)) None amount }
+        ensures bytes { DropsConsumable (Some (bytes_left self.old))
+            (Some (bytes_left self.new)) None amount }
         ensures rest { bytes_left self.new ≡ drop amount (bytes_left self.old) }
     {
         self.bytes.consume(amount);

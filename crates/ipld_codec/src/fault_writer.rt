@@ -50,7 +50,8 @@ impl Write for FaultWriter {
     /// `ErrorKind::Other` where no write is left.
     fn flush(&mut self) -> io::Result<()>
         ensures bytes { Keeps unreported unreported }
-        ensures outcome { MatchResult result (λ _. writes_left self.old ≢ 0) (λ _. writes_left self.old ≡ 0) }
+        ensures outcome { MatchResult result (λ _. writes_left self.old ≢ 0) (λ _.
+            writes_left self.old ≡ 0) }
         ensures stays { writes_left self.new ≡ writes_left self.old }
         ensures kind { IfErr result (λ error. error_kind error ≡ ErrorKind.Other) }
     {

@@ -100,7 +100,8 @@ impl Links for RawCodec {
     /// No links. It does not allocate and never fails.
     fn links(alloc: Global, _bytes: &[u8]) -> Result<LinkIter, RawError>
         ensures ok { IfOk result (λ links. raw_found _bytes.now ≡ Some (links_left links)) }
-        ensures err { IfErr result (λ error. MatchOption (raw_failure error) (raw_found _bytes.now ≡ None) (λ failure. failure ≡ memory)) }
+        ensures err { IfErr result (λ error. MatchOption (raw_failure error)
+            (raw_found _bytes.now ≡ None) (λ failure. failure ≡ memory)) }
         ensures none { IsOkAnd result (λ links. cids_left links ≡ []) }
     {
         Ok(LinkIter::new(Vec::new(alloc)))
@@ -138,11 +139,15 @@ impl Codec<Ipld> for RawCodec {
     ///
     /// The reader then has given some of its bytes, from the first on.
     fn decode<R: BufRead>(alloc: Global, reader: &mut R) -> Result<Ipld, RawError>
-        ensures ok { IfOk result (λ value. IfSome (R.remaining reader.old) (λ block. raw_decoded block ≡ Some (tree_of value))) }
-        ensures read_out { OnOk result (IsReadOut (R.remaining reader.old) (R.remaining reader.new)) }
+        ensures ok { IfOk result (λ value. IfSome (R.remaining reader.old) (λ block.
+            raw_decoded block ≡ Some (tree_of value))) }
+        ensures read_out { OnOk result (IsReadOut (R.remaining reader.old)
+            (R.remaining reader.new)) }
         ensures err { IfErr result (λ error. MatchOption (raw_failure error)
-            (IfSome (R.remaining reader.old) (λ block. raw_decoded block ≡ None)) (MemoryOr reading)) }
-        ensures errors { IfErr result (λ error. (error ≡ RawError.Memory) ⊎ (error ≡ RawError.Read)) }
+            (IfSome (R.remaining reader.old) (λ block. raw_decoded block ≡ None))
+            (MemoryOr reading)) }
+        ensures errors { IfErr result (λ error. (error ≡ RawError.Memory)
+            ⊎ (error ≡ RawError.Read)) }
         ensures left { OnErr result (LosesFront (R.remaining reader.old) (R.remaining reader.new)) }
     {
         Ok(Ipld::Bytes(read_to_end(alloc, reader)?))
@@ -158,11 +163,13 @@ impl Codec<Ipld> for RawCodec {
     ///
     /// After `Memory` and `Write` some of the bytes may have been written, from the first on, but never all.
     fn encode<W: Write>(_alloc: Global, writer: &mut W, value: &Ipld) -> Result<(), RawError>
-        ensures ok { OnOk result (Writes (raw_written (tree_of value.now)) (W.contents writer.old) (W.contents writer.new)) }
+        ensures ok { OnOk result (Writes (raw_written (tree_of value.now)) (W.contents writer.old)
+            (W.contents writer.new)) }
         ensures err { IfErr result (λ error. MatchOption (raw_failure error)
             (raw_written (tree_of value.now) ≡ None) (MemoryOr writing)) }
         ensures not_bytes { raw_written (tree_of value.now) ≡ None
-            → (result ≡ Err (RawError.NotBytes (kind_of (tree_of value.now)))) × (writer.new ≡ writer.old) }
+            → (result ≡ Err (RawError.NotBytes (kind_of (tree_of value.now))))
+            × (writer.new ≡ writer.old) }
         ensures part { OnErr result (IfSome (raw_written (tree_of value.now))
             (WritesPart (W.contents writer.old) (W.contents writer.new))) }
     {
@@ -199,7 +206,8 @@ impl Codec<Ipld> for RawCodec {
             (raw_written (tree_of value.now) ≡ None) (MemoryOr writing)) }
         ensures not_bytes { raw_written (tree_of value.now) ≡ None
             → result ≡ Err (RawError.NotBytes (kind_of (tree_of value.now))) }
-        ensures errors { IfErr result (λ error. (error ≡ RawError.Memory) ⊎ (raw_written (tree_of value.now) ≡ None)) }
+        ensures errors { IfErr result (λ error. (error ≡ RawError.Memory)
+            ⊎ (raw_written (tree_of value.now) ≡ None)) }
         ensures empty { raw_written (tree_of value.now) ≡ Some [] → IsOk result }
     {
         match value {

@@ -11,7 +11,8 @@ use std::io::{BufRead, ErrorKind};
 // The bytes that the reader still has. One that never ends has failed.
 #[tactic(auto, using(crate::proofs::Buffers::none_taken, crate::proofs::Buffers::buffer_taken, crate::proofs::Buffers::all_taken))]
 pub(crate) fn read_to_end<R: BufRead>(alloc: Global, reader: &mut R) -> Result<Vec<u8>, RawError>
-    ensures ok { IfOk result (λ bytes. IsRead (R.remaining reader.old) (R.remaining reader.new) bytes.items) }
+    ensures ok { IfOk result (λ bytes. IsRead (R.remaining reader.old)
+        (R.remaining reader.new) bytes.items) }
     ensures err { IfErr result (λ error. (error ≡ RawError.Memory) ⊎ (error ≡ RawError.Read)) }
     ensures left { OnErr result (LosesFront (R.remaining reader.old) (R.remaining reader.new)) }
 {
@@ -27,9 +28,11 @@ pub(crate) fn read_to_end<R: BufRead>(alloc: Global, reader: &mut R) -> Result<V
 // Takes what the reader has buffered, and returns whether that was its end. A read that was interrupted takes nothing, nor does one
 // that failed.
 fn take_buffer<R: BufRead>(reader: &mut R, bytes: &mut Vec<u8>) -> Result<bool, RawError>
-    ensures ok { IfOk result (λ at_end. TakesBuffer at_end (R.remaining reader.old) (R.remaining reader.new) bytes.old.items bytes.new.items) }
+    ensures ok { IfOk result (λ at_end. TakesBuffer at_end (R.remaining reader.old)
+        (R.remaining reader.new) bytes.old.items bytes.new.items) }
     ensures err { IfErr result (λ error. (error ≡ RawError.Memory) ⊎ (error ≡ RawError.Read)) }
-    ensures kept { OnErr result (Keeps (R.remaining reader.old) (R.remaining reader.new) × (bytes.new.items ≡ bytes.old.items)) }
+    ensures kept { OnErr result (Keeps (R.remaining reader.old) (R.remaining reader.new)
+        × (bytes.new.items ≡ bytes.old.items)) }
 {
     let count = match reader.fill_buf() {
         Ok(buffer) => {

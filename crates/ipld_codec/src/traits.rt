@@ -92,8 +92,10 @@ pub trait Codec<T>: Links {
     /// An allocation failed, the reader failed, or what it gave is no block of the format. How far the reader was read is then not
     /// said.
     fn decode<R: BufRead>(alloc: Global, reader: &mut R) -> Result<T, Self::Error>
-        ensures ok { IfOk result (λ value. IfSome (R.remaining reader.old) (λ block. decoded block ≡ Some (contents value))) }
-        ensures read_out { OnOk result (IsReadOut (R.remaining reader.old) (R.remaining reader.new)) }
+        ensures ok { IfOk result (λ value. IfSome (R.remaining reader.old) (λ block.
+            decoded block ≡ Some (contents value))) }
+        ensures read_out { OnOk result (IsReadOut (R.remaining reader.old)
+            (R.remaining reader.new)) }
         ensures err { IfErr result (λ error. MatchOption (failure_of error)
             (IfSome (R.remaining reader.old) (λ block. decoded block ≡ None)) (MemoryOr reading)) };
 
@@ -104,7 +106,8 @@ pub trait Codec<T>: Links {
     /// An allocation failed, the writer failed, or the value can't be written in the format. How much was written is then not said,
     /// but where a codec says it.
     fn encode<W: Write>(alloc: Global, writer: &mut W, value: &T) -> Result<(), Self::Error>
-        ensures ok { OnOk result (Writes (writes (contents value.now)) (W.contents writer.old) (W.contents writer.new)) }
+        ensures ok { OnOk result (Writes (writes (contents value.now)) (W.contents writer.old)
+            (W.contents writer.new)) }
         ensures err { IfErr result (λ error. MatchOption (failure_of error)
             (writes (contents value.now) ≡ None) (MemoryOr writing)) };
 

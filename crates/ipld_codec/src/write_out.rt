@@ -12,7 +12,8 @@ use std::io::{ErrorKind, Write};
 pub(crate) fn write_block<W: Write>(writer: &mut W, block: &[u8]) -> Result<(), RawError>
     ensures ok { OnOk result (Appends (W.contents writer.old) (W.contents writer.new) block.now) }
     ensures err { IfErr result (λ error. (error ≡ RawError.Memory) ⊎ (error ≡ RawError.Write)) }
-    ensures part { OnErr result (WritesPart (W.contents writer.old) (W.contents writer.new) block.now) }
+    ensures part { OnErr result (WritesPart (W.contents writer.old)
+        (W.contents writer.new) block.now) }
 {
     let mut rest = block;
     if rest.is_empty() {
@@ -31,7 +32,8 @@ pub(crate) fn write_block<W: Write>(writer: &mut W, block: &[u8]) -> Result<(), 
 // Writes some of the bytes, and returns how many: none where the write was interrupted.
 #[tactic(auto, using(crate::proofs::Pieces::appended_none, crate::proofs::Pieces::kept_for_none))]
 fn write_piece<W: Write>(writer: &mut W, rest: &[u8]) -> Result<usize, RawError>
-    ensures ok { IfOk result (λ count. (count ≤ length rest.now) × Appends (W.contents writer.old) (W.contents writer.new) (take count rest.now)) }
+    ensures ok { IfOk result (λ count. (count ≤ length rest.now) × Appends (W.contents writer.old)
+        (W.contents writer.new) (take count rest.now)) }
     ensures err { IfErr result (λ error. (error ≡ RawError.Memory) ⊎ (error ≡ RawError.Write)) }
     ensures kept { OnErr result (Keeps (W.contents writer.old) (W.contents writer.new)) }
 {

@@ -33,8 +33,10 @@ impl<T: Deserialize> Deserialize for Option<T> {
 
     #[inline(always)]
     fn deserialize(alloc: Global, value: Ipld) -> Result<Option<T>, SerdeError>
-        ensures ok { IfOk result (λ v. option_reading T.reads (tree_of value) ≡ Some (option_map T.contents v)) }
-        ensures err { IfErr result (λ e. RejectsAs (option_reading T.reads (tree_of value)) (OptionReadError T.read_error (tree_of value)) e) }
+        ensures ok { IfOk result (λ v. option_reading T.reads (tree_of value) ≡ Some
+            (option_map T.contents v)) }
+        ensures err { IfErr result (λ e. RejectsAs (option_reading T.reads (tree_of value))
+            (OptionReadError T.read_error (tree_of value)) e) }
         ensures none { tree_of value ≡ null → result ≡ Ok None }
     {
         match value.deserialize_option()? {
@@ -103,7 +105,8 @@ fn read_items<T: Deserialize>(
     mut items: SeqDeserializer,
 ) -> Result<Vec<T>, SerdeError>
     ensures ok { IfOk result (λ v. read_all T.reads (left items) ≡ Some (map T.contents v.items)) }
-    ensures err { IfErr result (λ e. RejectsAs (read_all T.reads (left items)) (ItemsError T.reads T.read_error (left items)) e) }
+    ensures err { IfErr result (λ e. RejectsAs (read_all T.reads (left items))
+        (ItemsError T.reads T.read_error (left items)) e) }
 {
     let mut all = Items::with_capacity(alloc, items.remaining())?;
     while let Some(item) = items.next_element(alloc)? {
@@ -123,7 +126,8 @@ fn read_image_items<T: Deserialize, R: ImageReader>(
     levels: usize,
     count: usize,
 ) -> Result<Vec<T>, Unread>
-    ensures ok { IfOk result (λ v. BeginAllRead (R.Begins levels) T.reads T.contents count v.items (R.contents reader.old) (R.contents reader.new)) }
+    ensures ok { IfOk result (λ v. BeginAllRead (R.Begins levels) T.reads T.contents count v.items
+        (R.contents reader.old) (R.contents reader.new)) }
     ensures never_missing { IfErr result (λ e. e ≢ Unread.MissingField) }
 {
     let mut all = Items::with_capacity(alloc, count.min(RESERVED))?;
@@ -164,8 +168,11 @@ fn read_members<K: DeserializeKey, T: Deserialize>(
     mut members: MapDeserializer,
 ) -> Result<BTreeMap<K, T>, SerdeError>
     requires { Ascends (entries_left members) }
-    ensures ok { IfOk result (λ m. read_entries K.is_key T.reads (entries_left members) ≡ Some (keyed_contents K.text_of T.contents m.entries)) }
-    ensures err { IfErr result (λ e. RejectsAs (read_entries K.is_key T.reads (entries_left members)) (EntriesError K.is_key K.key_error T.reads T.read_error (entries_left members)) e) }
+    ensures ok { IfOk result (λ m. read_entries K.is_key T.reads (entries_left members) ≡ Some
+        (keyed_contents K.text_of T.contents m.entries)) }
+    ensures err { IfErr result (λ e. RejectsAs (read_entries K.is_key T.reads
+        (entries_left members)) (EntriesError K.is_key K.key_error T.reads T.read_error
+        (entries_left members)) e) }
 {
     let mut all = Members::new(alloc);
     while let Some((text, value)) = members.next_entry() {

@@ -40,7 +40,8 @@ pub trait Deserialize: Sized + Drop {
     /// tree.
     fn deserialize(alloc: Global, value: Ipld) -> Result<Self, SerdeError>
         ensures ok { IfOk result (λ v. reads (tree_of value) ≡ Some (contents v)) }
-        ensures err { IfErr result (λ e. RejectsAs (reads (tree_of value)) (read_error (tree_of value)) e) };
+        ensures err { IfErr result (λ e. RejectsAs (reads (tree_of value))
+            (read_error (tree_of value)) e) };
 
     /// What the type reads from the tree that comes next, which nests no deeper than so many levels, part by part: no tree is made, where
     /// the type has a call of its own for this. By default the tree is made, and read by [`deserialize`](Deserialize::deserialize).
@@ -59,8 +60,11 @@ pub trait Deserialize: Sized + Drop {
         reader: &mut R,
         levels: usize,
     ) -> Result<Self, Unread>
-        ensures ok { IfOk result (λ v. BeginsRead (R.Begins levels) reads (contents v) (R.contents reader.old) (R.contents reader.new)) }
-        ensures missing { IfErr result (λ e. e ≡ Unread.MissingField → BeginsMissing (R.Begins levels) reads read_error (R.contents reader.old) (R.contents reader.new)) }
+        ensures ok { IfOk result (λ v. BeginsRead (R.Begins levels) reads (contents v)
+            (R.contents reader.old) (R.contents reader.new)) }
+        ensures missing { IfErr result (λ e. e ≡ Unread.MissingField
+            → BeginsMissing (R.Begins levels) reads read_error (R.contents reader.old)
+            (R.contents reader.new)) }
     {
         let tree = reader.read_tree(alloc, levels)?;
         Ok(Self::deserialize(alloc, tree)?)
@@ -85,7 +89,8 @@ pub trait Deserialize: Sized + Drop {
 #[inline(always)]
 pub fn from_ipld<T: Deserialize>(alloc: Global, value: Ipld) -> Result<T, SerdeError>
     ensures ok { IfOk result (λ v. T.reads (tree_of value) ≡ Some (T.contents v)) }
-    ensures err { IfErr result (λ e. RejectsAs (T.reads (tree_of value)) (T.read_error (tree_of value)) e) }
+    ensures err { IfErr result (λ e. RejectsAs (T.reads (tree_of value))
+        (T.read_error (tree_of value)) e) }
 {
     T::deserialize(alloc, value)
 }

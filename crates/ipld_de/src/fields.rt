@@ -60,7 +60,8 @@ pub trait Fields: sealed::Sealed + Sized + Drop {
 
     /// Nothing found yet.
     fn new() -> Self
-        ensures reads { (names : List (List ℕ)) (ms : Members) → reads result names ms ≡ named_reads names ms }
+        ensures reads { (names : List (List ℕ)) (ms : Members)
+            → reads result names ms ≡ named_reads names ms }
         ensures wait { (i : ℕ) → i < count → waits result i ≡ true };
 
     /// Hands the field at this index what its name holds, and drops it where there are no fields. A field keeps what it was handed
@@ -72,14 +73,20 @@ pub trait Fields: sealed::Sealed + Sized + Drop {
     /// That of the field's type, or [`SerdeError::Memory`].
     fn offer(&mut self, alloc: Global, index: usize, value: Ipld) -> Result<(), SerdeError>
         requires { index ≤ count - 1 }
-        ensures ok { (names : List (List ℕ)) (k : List ℕ) → AreDistinct names → slice_get names index ≡ Some k
-            → OnOk result ((ms : Members) → reads self.new names ms ≡ reads self.old names (member k (tree_of value) ms)) }
+        ensures ok { (names : List (List ℕ)) (k : List ℕ) → AreDistinct names
+            → slice_get names index ≡ Some k
+            → OnOk result ((ms : Members) → reads self.new names ms ≡ reads self.old names
+            (member k (tree_of value) ms)) }
         ensures err { (names : List (List ℕ)) (k : List ℕ) → slice_get names index ≡ Some k
-            → IfErr result (λ e. (e ≡ error.Memory) ⊎ ((ms : Members) → reads self.old names (member k (tree_of value) ms) ≡ None)) }
-        ensures why { IfErr result (λ e. (e ≡ error.Memory) ⊎ RejectsAt parts index (tree_of value) e) }
-        ensures accepts { OnOk result (waits self.old index ≡ true → accepts_at parts index (tree_of value) ≡ true) }
+            → IfErr result (λ e. (e ≡ error.Memory) ⊎ ((ms : Members)
+            → reads self.old names (member k (tree_of value) ms) ≡ None)) }
+        ensures why { IfErr result (λ e. (e ≡ error.Memory)
+            ⊎ RejectsAt parts index (tree_of value) e) }
+        ensures accepts { OnOk result (waits self.old index ≡ true
+            → accepts_at parts index (tree_of value) ≡ true) }
         ensures others { (i : ℕ) → (i ≡ index → ⊥) → waits self.new i ≡ waits self.old i }
-        ensures unchanged { (names : List (List ℕ)) → OnErr result ((ms : Members) → reads self.new names ms ≡ reads self.old names ms) };
+        ensures unchanged { (names : List (List ℕ)) → OnErr result ((ms : Members)
+            → reads self.new names ms ≡ reads self.old names ms) };
 
     /// Hands the field at this index the value that comes next, which nests no deeper than so many levels, read part by part.
     ///
@@ -95,8 +102,11 @@ pub trait Fields: sealed::Sealed + Sized + Drop {
         levels: usize,
     ) -> Result<(), Unread>
         requires { index ≤ count - 1 }
-        ensures ok { (names : List (List ℕ)) (k : List ℕ) → AreDistinct names → slice_get names index ≡ Some k
-            → OnOk result (ValueRead (R.Begins levels) (accepts_at parts index) (reads self.old names) (reads self.new names) k (R.contents reader.old) (R.contents reader.new)) }
+        ensures ok { (names : List (List ℕ)) (k : List ℕ) → AreDistinct names
+            → slice_get names index ≡ Some k
+            → OnOk result (ValueRead (R.Begins levels) (accepts_at parts index)
+            (reads self.old names) (reads self.new names) k (R.contents reader.old)
+            (R.contents reader.new)) }
         ensures never_missing { IfErr result (λ e. e ≢ Unread.MissingField) }
         ensures second { waits self.old index ≡ false → result ≡ Err Unread.Rejected };
 
@@ -106,8 +116,10 @@ pub trait Fields: sealed::Sealed + Sized + Drop {
     ///
     /// `Custom("missing field")` where a field was handed nothing.
     fn finish(self) -> Result<Self::Values, SerdeError>
-        ensures ok { (names : List (List ℕ)) → length names ≡ count → IfOk result (λ v. reads self names no_members ≡ Some (contents v)) }
-        ensures err { (names : List (List ℕ)) → IfErr result (λ _. reads self names no_members ≡ None) }
+        ensures ok { (names : List (List ℕ)) → length names ≡ count
+            → IfOk result (λ v. reads self names no_members ≡ Some (contents v)) }
+        ensures err { (names : List (List ℕ))
+            → IfErr result (λ _. reads self names no_members ≡ None) }
         ensures missing { IfErr result (IsCustom (codes "missing field")) };
 
     // the law that an entry of another name changes nothing
@@ -345,9 +357,12 @@ pub fn read_fields<F: Fields>(
 ) -> Result<F::Values, SerdeError>
     requires count { length names.now ≡ F.count }
     requires distinct { AreDistinct (strings names.now) }
-    ensures ok { IfOk result (λ v. F.named_reads (strings names.now) (entries_left map) ≡ Some (F.contents v)) }
-    ensures err { IfErr result (λ e. RejectsToRead (F.named_reads (strings names.now) (entries_left map)) e) }
-    ensures why { Ascends (entries_left map) → IfErr result (λ e. (e ≡ error.Memory) ⊎ FieldsError false F.parts (strings names.now) (entries_left map) e) }
+    ensures ok { IfOk result (λ v. F.named_reads (strings names.now) (entries_left map) ≡ Some
+        (F.contents v)) }
+    ensures err { IfErr result (λ e. RejectsToRead (F.named_reads (strings names.now)
+        (entries_left map)) e) }
+    ensures why { Ascends (entries_left map) → IfErr result (λ e. (e ≡ error.Memory)
+        ⊎ FieldsError false F.parts (strings names.now) (entries_left map) e) }
 {
     read_named::<F>(alloc, map, names, false)
 }
@@ -365,9 +380,12 @@ pub fn read_only_fields<F: Fields>(
 ) -> Result<F::Values, SerdeError>
     requires count { length names.now ≡ F.count }
     requires distinct { AreDistinct (strings names.now) }
-    ensures ok { IfOk result (λ v. only_fields (strings names.now) (F.named_reads (strings names.now)) (entries_left map) ≡ Some (F.contents v)) }
-    ensures err { IfErr result (λ e. RejectsToRead (only_fields (strings names.now) (F.named_reads (strings names.now)) (entries_left map)) e) }
-    ensures why { Ascends (entries_left map) → IfErr result (λ e. (e ≡ error.Memory) ⊎ FieldsError true F.parts (strings names.now) (entries_left map) e) }
+    ensures ok { IfOk result (λ v. only_fields (strings names.now)
+        (F.named_reads (strings names.now)) (entries_left map) ≡ Some (F.contents v)) }
+    ensures err { IfErr result (λ e. RejectsToRead (only_fields (strings names.now)
+        (F.named_reads (strings names.now)) (entries_left map)) e) }
+    ensures why { Ascends (entries_left map) → IfErr result (λ e. (e ≡ error.Memory)
+        ⊎ FieldsError true F.parts (strings names.now) (entries_left map) e) }
 {
     read_named::<F>(alloc, map, names, true)
 }
@@ -382,9 +400,12 @@ fn read_named<F: Fields>(
 ) -> Result<F::Values, SerdeError>
     requires count { length names.now ≡ F.count }
     requires distinct { AreDistinct (strings names.now) }
-    ensures ok { IfOk result (λ v. reads_fields strict (strings names.now) (F.named_reads (strings names.now)) (entries_left map) ≡ Some (F.contents v)) }
-    ensures err { IfErr result (λ e. RejectsToRead (reads_fields strict (strings names.now) (F.named_reads (strings names.now)) (entries_left map)) e) }
-    ensures why { Ascends (entries_left map) → IfErr result (λ e. (e ≡ error.Memory) ⊎ FieldsError strict F.parts (strings names.now) (entries_left map) e) }
+    ensures ok { IfOk result (λ v. reads_fields strict (strings names.now)
+        (F.named_reads (strings names.now)) (entries_left map) ≡ Some (F.contents v)) }
+    ensures err { IfErr result (λ e. RejectsToRead (reads_fields strict (strings names.now)
+        (F.named_reads (strings names.now)) (entries_left map)) e) }
+    ensures why { Ascends (entries_left map) → IfErr result (λ e. (e ≡ error.Memory)
+        ⊎ FieldsError strict F.parts (strings names.now) (entries_left map) e) }
 {
     let mut fields = F::new();
     while let Some((name, value)) = map.next_entry() {
@@ -414,8 +435,10 @@ pub fn read_struct<F: Fields>(
 ) -> Result<F::Values, SerdeError>
     requires count { length names.now ≡ F.count }
     requires distinct { AreDistinct (strings names.now) }
-    ensures ok { IfOk result (λ v. struct_reading (F.named_reads (strings names.now)) (tree_of value) ≡ Some (F.contents v)) }
-    ensures err { IfErr result (λ e. RejectsAs (struct_reading (F.named_reads (strings names.now)) (tree_of value)) (StructReadError false F.parts (strings names.now) (tree_of value)) e) }
+    ensures ok { IfOk result (λ v. struct_reading (F.named_reads (strings names.now))
+        (tree_of value) ≡ Some (F.contents v)) }
+    ensures err { IfErr result (λ e. RejectsAs (struct_reading (F.named_reads (strings names.now))
+        (tree_of value)) (StructReadError false F.parts (strings names.now) (tree_of value)) e) }
 {
     let map = value.deserialize_struct(name, names)?;
     read_fields::<F>(alloc, map, names)
@@ -435,8 +458,11 @@ pub fn read_strict_struct<F: Fields>(
 ) -> Result<F::Values, SerdeError>
     requires count { length names.now ≡ F.count }
     requires distinct { AreDistinct (strings names.now) }
-    ensures ok { IfOk result (λ v. struct_reading (only_fields (strings names.now) (F.named_reads (strings names.now))) (tree_of value) ≡ Some (F.contents v)) }
-    ensures err { IfErr result (λ e. RejectsAs (struct_reading (only_fields (strings names.now) (F.named_reads (strings names.now))) (tree_of value)) (StructReadError true F.parts (strings names.now) (tree_of value)) e) }
+    ensures ok { IfOk result (λ v. struct_reading (only_fields (strings names.now)
+        (F.named_reads (strings names.now))) (tree_of value) ≡ Some (F.contents v)) }
+    ensures err { IfErr result (λ e. RejectsAs (struct_reading (only_fields (strings names.now)
+        (F.named_reads (strings names.now))) (tree_of value)) (StructReadError true F.parts
+        (strings names.now) (tree_of value)) e) }
 {
     let map = value.deserialize_struct(name, names)?;
     read_only_fields::<F>(alloc, map, names)

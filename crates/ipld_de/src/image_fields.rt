@@ -33,9 +33,13 @@ pub fn read_struct_image<F: Fields, R: ImageReader>(
 ) -> Result<F::Values, Unread>
     requires count { length names.now ≡ F.count }
     requires distinct { AreDistinct (strings names.now) }
-    ensures ok { IfOk result (λ v. BeginsRead (R.Begins levels) (struct_reading (F.named_reads (strings names.now))) (F.contents v) (R.contents reader.old) (R.contents reader.new)) }
+    ensures ok { IfOk result (λ v. BeginsRead (R.Begins levels)
+        (struct_reading (F.named_reads (strings names.now))) (F.contents v) (R.contents reader.old)
+        (R.contents reader.new)) }
     ensures missing { IfErr result (λ e. e ≡ Unread.MissingField
-        → BeginsMissing (R.Begins levels) (struct_reading (F.named_reads (strings names.now))) (StructReadError false F.parts (strings names.now)) (R.contents reader.old) (R.contents reader.new)) }
+        → BeginsMissing (R.Begins levels) (struct_reading (F.named_reads (strings names.now)))
+        (StructReadError false F.parts (strings names.now)) (R.contents reader.old)
+        (R.contents reader.new)) }
 {
     let Some(inner) = levels.checked_sub(1) else {
         return Err(Unread::Rejected);
@@ -61,7 +65,9 @@ fn read_entries<F: Fields, R: ImageReader>(
 ) -> Result<(), Unread>
     requires count { length names.now ≡ F.count }
     requires distinct { AreDistinct (strings names.now) }
-    ensures ok { OnOk result (EntriesRead R.BeginsKey (R.Begins levels) (accepts_named F.parts (strings names.now)) (λ ms. F.reads fields.old (strings names.now) ms) (λ ms. F.reads fields.new (strings names.now) ms)
+    ensures ok { OnOk result (EntriesRead R.BeginsKey (R.Begins levels) (accepts_named F.parts
+        (strings names.now)) (λ ms. F.reads fields.old (strings names.now) ms) (λ ms.
+        F.reads fields.new (strings names.now) ms)
         count (R.contents reader.old) (R.contents reader.new)) }
     ensures never_missing { IfErr result (λ e. e ≢ Unread.MissingField) }
 {
@@ -87,8 +93,11 @@ fn read_entry<F: Fields, R: ImageReader>(
 ) -> Result<R::Key, Unread>
     requires count { length names.now ≡ F.count }
     requires distinct { AreDistinct (strings names.now) }
-    ensures ok { IfOk result (λ key. EntryRead R.BeginsKey (R.Begins levels) (accepts_named F.parts (strings names.now)) (λ ms. F.reads fields.old (strings names.now) ms) (λ ms. F.reads fields.new (strings names.now) ms)
-        (option_map R.key_bytes last) (R.key_bytes key) (R.contents reader.old) (R.contents reader.new)) }
+    ensures ok { IfOk result (λ key. EntryRead R.BeginsKey (R.Begins levels) (accepts_named F.parts
+        (strings names.now)) (λ ms. F.reads fields.old (strings names.now) ms) (λ ms.
+        F.reads fields.new (strings names.now) ms)
+        (option_map R.key_bytes last) (R.key_bytes key) (R.contents reader.old)
+        (R.contents reader.new)) }
     ensures never_missing { IfErr result (λ e. e ≢ Unread.MissingField) }
 {
     let key = reader.read_key()?;
@@ -114,7 +123,9 @@ fn read_field<F: Fields, R: ImageReader>(
 ) -> Result<(), Unread>
     requires count { length names.now ≡ F.count }
     requires distinct { AreDistinct (strings names.now) }
-    ensures ok { OnOk result (ValueRead (R.Begins levels) (accepts_named F.parts (strings names.now) name.now) (F.reads fields.old (strings names.now)) (F.reads fields.new (strings names.now))
+    ensures ok { OnOk result (ValueRead (R.Begins levels) (accepts_named F.parts
+        (strings names.now) name.now) (F.reads fields.old (strings names.now))
+        (F.reads fields.new (strings names.now))
         name.now (R.contents reader.old) (R.contents reader.new)) }
     ensures never_missing { IfErr result (λ e. e ≢ Unread.MissingField) }
 {

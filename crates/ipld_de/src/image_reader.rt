@@ -109,58 +109,70 @@ pub trait ImageReader: Sized {
 
     /// Whether a Null comes. It is then read, and else nothing is.
     fn read_null(&mut self) -> bool
-        ensures null { result ≡ true → (levels : ℕ) → Begins levels null (contents self.old) (contents self.new) }
+        ensures null { result ≡ true → (levels : ℕ) → Begins levels null (contents self.old)
+            (contents self.new) }
         ensures same { result ≡ false → contents self.new ≡ contents self.old }
-        ensures other { result ≡ false → (levels : ℕ) (t : Tree) (rest : List ℕ) → Begins levels t (contents self.old) rest → t ≢ null };
+        ensures other { result ≡ false → (levels : ℕ) (t : Tree) (rest : List ℕ)
+            → Begins levels t (contents self.old) rest → t ≢ null };
 
     /// Reads a Bool.
     fn read_bool(&mut self) -> Result<bool, Unread>
-        ensures ok { (levels : ℕ) → IfOk result (λ v. Begins levels (boolean v) (contents self.old) (contents self.new)) }
+        ensures ok { (levels : ℕ) → IfOk result (λ v. Begins levels (boolean v) (contents self.old)
+            (contents self.new)) }
         ensures rejected { IfErr result (λ e. e ≡ Unread.Rejected) };
 
     /// Reads an Integer.
     fn read_integer(&mut self) -> Result<i128, Unread>
-        ensures ok { (levels : ℕ) → IfOk result (λ v. Begins levels (integer v) (contents self.old) (contents self.new)) }
+        ensures ok { (levels : ℕ) → IfOk result (λ v. Begins levels (integer v) (contents self.old)
+            (contents self.new)) }
         ensures rejected { IfErr result (λ e. e ≡ Unread.Rejected) };
 
     /// Reads a String, which is copied.
     fn read_string(&mut self, alloc: Global) -> Result<String, Unread>
-        ensures ok { (levels : ℕ) → IfOk result (λ v. Begins levels (text (string_bytes v)) (contents self.old) (contents self.new)) }
+        ensures ok { (levels : ℕ) → IfOk result (λ v. Begins levels (text (string_bytes v))
+            (contents self.old) (contents self.new)) }
         ensures never_missing { IfErr result (λ e. e ≢ Unread.MissingField) };
 
     /// Reads Bytes, which are copied.
     fn read_bytes(&mut self, alloc: Global) -> Result<Vec<u8>, Unread>
-        ensures ok { (levels : ℕ) → IfOk result (λ v. Begins levels (bytes v.items) (contents self.old) (contents self.new)) }
+        ensures ok { (levels : ℕ) → IfOk result (λ v. Begins levels (bytes v.items)
+            (contents self.old) (contents self.new)) }
         ensures never_missing { IfErr result (λ e. e ≢ Unread.MissingField) };
 
     /// Reads a Link.
     fn read_link(&mut self) -> Result<Cid, Unread>
-        ensures ok { (levels : ℕ) → IfOk result (λ v. Begins levels (link (link_of v)) (contents self.old) (contents self.new)) }
+        ensures ok { (levels : ℕ) → IfOk result (λ v. Begins levels (link (link_of v))
+            (contents self.old) (contents self.new)) }
         ensures rejected { IfErr result (λ e. e ≡ Unread.Rejected) };
 
     /// Reads any tree that nests no deeper than so many levels.
     fn read_tree(&mut self, alloc: Global, levels: usize) -> Result<Ipld, Unread>
-        ensures ok { IfOk result (λ v. Begins levels (tree_of v) (contents self.old) (contents self.new)) }
+        ensures ok { IfOk result (λ v. Begins levels (tree_of v) (contents self.old)
+            (contents self.new)) }
         ensures never_missing { IfErr result (λ e. e ≢ Unread.MissingField) };
 
     /// Reads past any tree that nests no deeper than so many levels.
     fn skip_tree(&mut self, alloc: Global, levels: usize) -> Result<(), Unread>
-        ensures ok { OnOk result ((t : Tree) × Begins levels t (contents self.old) (contents self.new)) }
+        ensures ok { OnOk result ((t : Tree) × Begins levels t (contents self.old)
+            (contents self.new)) }
         ensures never_missing { IfErr result (λ e. e ≢ Unread.MissingField) };
 
     /// Reads the head of a List, and returns the number of the items that follow. It is what the head claims, and they may not come.
     fn begin_list(&mut self) -> Result<usize, Unread>
-        ensures ok { IfOk result (λ count. BeginsList count (contents self.old) (contents self.new)) }
+        ensures ok { IfOk result (λ count. BeginsList count (contents self.old)
+            (contents self.new)) }
         ensures rejected { IfErr result (λ e. e ≡ Unread.Rejected) };
 
     /// Reads the head of a Map, and returns the number of the entries that follow. It is what the head claims, and they may not come.
     fn begin_map(&mut self) -> Result<usize, Unread>
-        ensures ok { IfOk result (λ count. BeginsMap count (contents self.old) (contents self.new)) }
+        ensures ok { IfOk result (λ count. BeginsMap count (contents self.old)
+            (contents self.new)) }
         ensures rejected { IfErr result (λ e. e ≡ Unread.Rejected) };
 
     /// Reads a key, which its value follows.
     fn read_key(&mut self) -> Result<Self::Key, Unread>
-        ensures ok { IfOk result (λ key. BeginsKey (key_bytes key) (contents self.old) (contents self.new)) }
+        ensures ok { IfOk result (λ key. BeginsKey (key_bytes key) (contents self.old)
+            (contents self.new)) }
         ensures rejected { IfErr result (λ e. e ≡ Unread.Rejected) };
 
     /// The string that a key is.

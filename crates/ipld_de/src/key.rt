@@ -21,8 +21,10 @@ pub trait DeserializeKey: SerializeKey + Sized + Drop {
     ///
     /// [`SerdeError::Memory`] where an allocation failed; another kind, the type's `key_error`, only where the string is no key.
     fn from_text(alloc: Global, text: String) -> Result<Self, SerdeError>
-        ensures ok { IfOk result (λ k. key_in Self.is_key (string_bytes text) ≡ Some (Self.text_of k)) }
-        ensures err { IfErr result (λ e. RejectsAs (key_in Self.is_key (string_bytes text)) (key_error (string_bytes text)) e) };
+        ensures ok { IfOk result (λ k. key_in Self.is_key (string_bytes text) ≡ Some
+            (Self.text_of k)) }
+        ensures err { IfErr result (λ e. RejectsAs (key_in Self.is_key (string_bytes text))
+            (key_error (string_bytes text)) e) };
 }
 
 /// The string itself.
@@ -43,7 +45,8 @@ impl DeserializeKey for char {
 
     fn from_text(_alloc: Global, text: String) -> Result<char, SerdeError>
         ensures ok { IfOk result (λ k. key_in one_char (string_bytes text) ≡ Some (encode_utf8 k)) }
-        ensures err { IfErr result (λ e. RejectsAs (key_in one_char (string_bytes text)) (NotOneCharacter (string_bytes text)) e) }
+        ensures err { IfErr result (λ e. RejectsAs (key_in one_char (string_bytes text))
+            (NotOneCharacter (string_bytes text)) e) }
         ensures no_memory { IfErr result (λ e. NotOneCharacter (string_bytes text) e) }
     {
         single_char(text.as_str())

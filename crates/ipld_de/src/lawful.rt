@@ -61,10 +61,14 @@ pub fn write_and_read<T: Lawful>(alloc: Global, value: &T) -> Result<T, SerdeErr
 #[inline(always)]
 pub fn read_written<T: Lawful>(alloc: Global, tree: Ipld) -> Result<T, SerdeError>
     ensures ok { IfOk result (λ w. T.reads (tree_of tree) ≡ Some (T.contents w)) }
-    ensures err { IfErr result (λ e. RejectsAs (T.reads (tree_of tree)) (T.read_error (tree_of tree)) e) }
-    ensures same_image { (v : T) → T.image v ≡ Some (tree_of tree) → IfOk result (λ w. T.image w ≡ Some (tree_of tree)) }
-    ensures same { (v : T) → T.image v ≡ Some (tree_of tree) → T.plain v → IfOk result (λ w. T.contents w ≡ T.contents v) }
-    ensures memory_alone { (v : T) → T.image v ≡ Some (tree_of tree) → IfErr result (λ e. e ≡ error.Memory) }
+    ensures err { IfErr result (λ e. RejectsAs (T.reads (tree_of tree))
+        (T.read_error (tree_of tree)) e) }
+    ensures same_image { (v : T) → T.image v ≡ Some (tree_of tree)
+        → IfOk result (λ w. T.image w ≡ Some (tree_of tree)) }
+    ensures same { (v : T) → T.image v ≡ Some (tree_of tree) → T.plain v
+        → IfOk result (λ w. T.contents w ≡ T.contents v) }
+    ensures memory_alone { (v : T) → T.image v ≡ Some (tree_of tree)
+        → IfErr result (λ e. e ≡ error.Memory) }
 {
     from_ipld(alloc, tree)
 }

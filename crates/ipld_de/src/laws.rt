@@ -13,8 +13,10 @@ use ipld_ser::ByteBuf;
 /// Links and bytes are never confused: a CID is read from a Link alone and is the link's, bytes are read from Bytes alone and are
 /// those, and so neither is read from the other, also where the bytes encode a CID. A call does nothing.
 pub fn links_and_bytes_law()
-    ensures from_a_link { (t : Tree) (l : Link) → ⟦<Cid as Deserialize>⟧.reads t ≡ Some l → t ≡ link l }
-    ensures from_bytes { (t : Tree) (b : List ℕ) → ⟦<ByteBuf as Deserialize>⟧.reads t ≡ Some b → t ≡ bytes b }
+    ensures from_a_link { (t : Tree) (l : Link) → ⟦<Cid as Deserialize>⟧.reads t ≡ Some l
+        → t ≡ link l }
+    ensures from_bytes { (t : Tree) (b : List ℕ) → ⟦<ByteBuf as Deserialize>⟧.reads t ≡ Some b
+        → t ≡ bytes b }
     ensures no_link_in_bytes { (b : List ℕ) → ⟦<Cid as Deserialize>⟧.reads (bytes b) ≡ None }
     ensures no_bytes_in_a_link { (l : Link) → ⟦<ByteBuf as Deserialize>⟧.reads (link l) ≡ None }
 {}
@@ -25,6 +27,8 @@ pub fn links_and_bytes_law()
 pub fn equal_values_law<T: Lawful + Faithful>()
     ensures equal { (v w : T) → T.contents v ≡ T.contents w → T.eq v w ≡ true }
     ensures same_contents { (v w : T) → T.eq v w ≡ true → T.contents v ≡ T.contents w }
-    ensures round_trip { (v w : T) (t : Tree) → T.image v ≡ Some t → T.plain v → T.reads t ≡ Some (T.contents w) → T.eq v w ≡ true }
-    ensures one_image { (v w : T) (t : Tree) → T.image v ≡ Some t → T.image w ≡ Some t → T.plain v → T.plain w → T.eq v w ≡ true }
+    ensures round_trip { (v w : T) (t : Tree) → T.image v ≡ Some t → T.plain v
+        → T.reads t ≡ Some (T.contents w) → T.eq v w ≡ true }
+    ensures one_image { (v w : T) (t : Tree) → T.image v ≡ Some t → T.image w ≡ Some t → T.plain v
+        → T.plain w → T.eq v w ≡ true }
 {}

@@ -43,7 +43,8 @@ impl MapDeserializer {
     pub(crate) fn next_entry(&mut self) -> Option<(String, Ipld)>
         ensures { MatchOption result
             ((entries_left self.old ≡ no_members) × (entries_left self.new ≡ no_members))
-            (λ e. entries_left self.old ≡ member (string_bytes e.0) (tree_of e.1) (entries_left self.new)) }
+            (λ e. entries_left self.old ≡ member (string_bytes e.0) (tree_of e.1)
+            (entries_left self.new)) }
     {
         self.entries.next()
     }
@@ -56,10 +57,13 @@ impl MapDeserializer {
     /// That of `K`, or [`SerdeError::Memory`].
     #[inline(always)]
     pub fn next_key<K: Deserialize>(&mut self, alloc: Global) -> Result<Option<K>, SerdeError>
-        ensures ok { IfOk result (λ o. read_key K.reads (entries_left self.old) ≡ Some (option_map K.contents o)) }
-        ensures err { IfErr result (λ e. RejectsAs (read_key K.reads (entries_left self.old)) (KeyError K.read_error (entries_left self.old)) e) }
+        ensures ok { IfOk result (λ o. read_key K.reads (entries_left self.old) ≡ Some
+            (option_map K.contents o)) }
+        ensures err { IfErr result (λ e. RejectsAs (read_key K.reads (entries_left self.old))
+            (KeyError K.read_error (entries_left self.old)) e) }
         ensures gone { entries_left self.new ≡ after_member (entries_left self.old) }
-        ensures waits { waiting self.new ≡ waiting_after (entries_left self.old) (waiting self.old) }
+        ensures waits { waiting self.new ≡ waiting_after (entries_left self.old)
+            (waiting self.old) }
     {
         match self.entries.next() {
             None => Ok(None),
@@ -80,8 +84,10 @@ impl MapDeserializer {
     /// [`SerdeError::MissingValue`] where no value waits; that of `T`, or [`SerdeError::Memory`].
     #[inline(always)]
     pub fn next_value<T: Deserialize>(&mut self, alloc: Global) -> Result<T, SerdeError>
-        ensures ok { IfOk result (λ v. option_and_then T.reads (waiting self.old) ≡ Some (T.contents v)) }
-        ensures err { IfErr result (λ e. RejectsAs (option_and_then T.reads (waiting self.old)) (ContentError error.MissingValue T.read_error (waiting self.old)) e) }
+        ensures ok { IfOk result (λ v. option_and_then T.reads (waiting self.old) ≡ Some
+            (T.contents v)) }
+        ensures err { IfErr result (λ e. RejectsAs (option_and_then T.reads (waiting self.old))
+            (ContentError error.MissingValue T.read_error (waiting self.old)) e) }
         ensures missing { waiting self.old ≡ None → result ≡ Err error.MissingValue }
         ensures consumed { waiting self.new ≡ None }
         ensures same { entries_left self.new ≡ entries_left self.old }

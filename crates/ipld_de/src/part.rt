@@ -17,7 +17,8 @@ pub(crate) fn read_part<T: Deserialize, R: ImageReader>(
     reader: &mut R,
     levels: usize,
 ) -> Result<T, Unread>
-    ensures ok { IfOk result (λ v. BeginsRead (R.Begins levels) T.reads (T.contents v) (R.contents reader.old) (R.contents reader.new)) }
+    ensures ok { IfOk result (λ v. BeginsRead (R.Begins levels) T.reads (T.contents v)
+        (R.contents reader.old) (R.contents reader.new)) }
     ensures never_missing { IfErr result (λ e. e ≢ Unread.MissingField) }
 {
     match T::read_image(alloc, reader, levels) {
@@ -120,7 +121,8 @@ impl<K: DeserializeKey, T: Deserialize> Members<K, T> {
     // Puts a value at a key. What stood there is discarded, and the value where an allocation fails.
     #[inline(always)]
     pub(crate) fn insert(&mut self, key: K, value: T) -> Result<(), AllocError>
-        ensures { OnOk result (self.new.members.entries ≡ insert_entry K.cmp self.old.members.entries key value) }
+        ensures { OnOk result (self.new.members.entries
+            ≡ insert_entry K.cmp self.old.members.entries key value) }
     {
         match self.members.insert(key, value) {
             Ok(None) => Ok(()),

@@ -542,7 +542,8 @@ fn read_variant(
     content: VariantDeserializer,
 ) -> Result<MyEnum, SerdeError>
     ensures ok { IfOk result (λ v. my_enum_variant name.now (content_of content) ≡ Some v) }
-    ensures err { IfErr result (λ e. RejectsAs (my_enum_variant name.now (content_of content)) (MyEnumError name.now (content_of content)) e) }
+    ensures err { IfErr result (λ e. RejectsAs (my_enum_variant name.now (content_of content))
+        (MyEnumError name.now (content_of content)) e) }
 {
     match name {
         "One" => {

@@ -58,7 +58,8 @@ impl Deserialize for i8 {
 
     #[inline(always)]
     fn deserialize(_alloc: Global, value: Ipld) -> Result<i8, SerdeError>
-        ensures exact { result ≡ ok_or (signed_reading 8 (tree_of value)) (number_error (tree_of value)) }
+        ensures exact { result ≡ ok_or (signed_reading 8 (tree_of value))
+            (number_error (tree_of value)) }
     {
         value.deserialize_i8()
     }
@@ -86,7 +87,8 @@ impl Deserialize for i16 {
 
     #[inline(always)]
     fn deserialize(_alloc: Global, value: Ipld) -> Result<i16, SerdeError>
-        ensures exact { result ≡ ok_or (signed_reading 16 (tree_of value)) (number_error (tree_of value)) }
+        ensures exact { result ≡ ok_or (signed_reading 16 (tree_of value))
+            (number_error (tree_of value)) }
     {
         value.deserialize_i16()
     }
@@ -114,7 +116,8 @@ impl Deserialize for i32 {
 
     #[inline(always)]
     fn deserialize(_alloc: Global, value: Ipld) -> Result<i32, SerdeError>
-        ensures exact { result ≡ ok_or (signed_reading 32 (tree_of value)) (number_error (tree_of value)) }
+        ensures exact { result ≡ ok_or (signed_reading 32 (tree_of value))
+            (number_error (tree_of value)) }
     {
         value.deserialize_i32()
     }
@@ -142,7 +145,8 @@ impl Deserialize for i64 {
 
     #[inline(always)]
     fn deserialize(_alloc: Global, value: Ipld) -> Result<i64, SerdeError>
-        ensures exact { result ≡ ok_or (signed_reading 64 (tree_of value)) (number_error (tree_of value)) }
+        ensures exact { result ≡ ok_or (signed_reading 64 (tree_of value))
+            (number_error (tree_of value)) }
     {
         value.deserialize_i64()
     }
@@ -198,7 +202,8 @@ impl Deserialize for isize {
 
     #[inline(always)]
     fn deserialize(_alloc: Global, value: Ipld) -> Result<isize, SerdeError>
-        ensures exact { result ≡ ok_or (signed_reading 64 (tree_of value)) (number_error (tree_of value)) }
+        ensures exact { result ≡ ok_or (signed_reading 64 (tree_of value))
+            (number_error (tree_of value)) }
     {
         Ok(value.deserialize_i64()? as isize)
     }
@@ -226,7 +231,8 @@ impl Deserialize for u8 {
 
     #[inline(always)]
     fn deserialize(_alloc: Global, value: Ipld) -> Result<u8, SerdeError>
-        ensures exact { result ≡ ok_or (unsigned_reading 8 (tree_of value)) (number_error (tree_of value)) }
+        ensures exact { result ≡ ok_or (unsigned_reading 8 (tree_of value))
+            (number_error (tree_of value)) }
     {
         value.deserialize_u8()
     }
@@ -254,7 +260,8 @@ impl Deserialize for u16 {
 
     #[inline(always)]
     fn deserialize(_alloc: Global, value: Ipld) -> Result<u16, SerdeError>
-        ensures exact { result ≡ ok_or (unsigned_reading 16 (tree_of value)) (number_error (tree_of value)) }
+        ensures exact { result ≡ ok_or (unsigned_reading 16 (tree_of value))
+            (number_error (tree_of value)) }
     {
         value.deserialize_u16()
     }
@@ -282,7 +289,8 @@ impl Deserialize for u32 {
 
     #[inline(always)]
     fn deserialize(_alloc: Global, value: Ipld) -> Result<u32, SerdeError>
-        ensures exact { result ≡ ok_or (unsigned_reading 32 (tree_of value)) (number_error (tree_of value)) }
+        ensures exact { result ≡ ok_or (unsigned_reading 32 (tree_of value))
+            (number_error (tree_of value)) }
     {
         value.deserialize_u32()
     }
@@ -310,7 +318,8 @@ impl Deserialize for u64 {
 
     #[inline(always)]
     fn deserialize(_alloc: Global, value: Ipld) -> Result<u64, SerdeError>
-        ensures exact { result ≡ ok_or (unsigned_reading 64 (tree_of value)) (number_error (tree_of value)) }
+        ensures exact { result ≡ ok_or (unsigned_reading 64 (tree_of value))
+            (number_error (tree_of value)) }
     {
         value.deserialize_u64()
     }
@@ -338,7 +347,8 @@ impl Deserialize for usize {
 
     #[inline(always)]
     fn deserialize(_alloc: Global, value: Ipld) -> Result<usize, SerdeError>
-        ensures exact { result ≡ ok_or (unsigned_reading 64 (tree_of value)) (number_error (tree_of value)) }
+        ensures exact { result ≡ ok_or (unsigned_reading 64 (tree_of value))
+            (number_error (tree_of value)) }
     {
         Ok(value.deserialize_u64()? as usize)
     }
@@ -366,7 +376,8 @@ impl Deserialize for u128 {
 
     #[inline(always)]
     fn deserialize(_alloc: Global, value: Ipld) -> Result<u128, SerdeError>
-        ensures exact { result ≡ ok_or (not_negative_reading (tree_of value)) (number_error (tree_of value)) }
+        ensures exact { result ≡ ok_or (not_negative_reading (tree_of value))
+            (number_error (tree_of value)) }
     {
         value.deserialize_u128()
     }

@@ -35,8 +35,10 @@ impl SeqDeserializer {
     /// That of `T`, or [`SerdeError::Memory`].
     #[inline(always)]
     pub fn next_element<T: Deserialize>(&mut self, alloc: Global) -> Result<Option<T>, SerdeError>
-        ensures ok { IfOk result (λ o. read_next T.reads (left self.old) ≡ Some (option_map T.contents o)) }
-        ensures err { IfErr result (λ e. RejectsAs (read_next T.reads (left self.old)) (NextError T.read_error (left self.old)) e) }
+        ensures ok { IfOk result (λ o. read_next T.reads (left self.old) ≡ Some
+            (option_map T.contents o)) }
+        ensures err { IfErr result (λ e. RejectsAs (read_next T.reads (left self.old))
+            (NextError T.read_error (left self.old)) e) }
         ensures gone { left self.new ≡ after_item (left self.old) }
     {
         match self.items.next() {

@@ -34,7 +34,8 @@ trait Parts: Sized + Drop {
     // Reads the items that are left.
     fn read(alloc: Global, items: SeqDeserializer) -> Result<Self, SerdeError>
         ensures ok { IfOk result (λ v. reads (left items) ≡ Some (contents v)) }
-        ensures err { IfErr result (λ e. RejectsAs (reads (left items)) (read_error (left items)) e) };
+        ensures err { IfErr result (λ e. RejectsAs (reads (left items)) (read_error (left items)) e)
+            };
 
     // Reads as many items part by part.
     fn read_each<R: ImageReader>(
@@ -42,7 +43,8 @@ trait Parts: Sized + Drop {
         reader: &mut R,
         levels: usize,
     ) -> Result<Self, Unread>
-        ensures ok { IfOk result (λ v. BeginPartsRead (R.Begins levels) reads count (contents v) (R.contents reader.old) (R.contents reader.new)) }
+        ensures ok { IfOk result (λ v. BeginPartsRead (R.Begins levels) reads count (contents v)
+            (R.contents reader.old) (R.contents reader.new)) }
         ensures never_missing { IfErr result (λ e. e ≢ Unread.MissingField) };
 
     // Hands each on to its own `discard`.
@@ -119,7 +121,8 @@ impl<T: Deserialize, P: Parts> Parts for (T, P) {
 #[inline(always)]
 fn next_part<T: Deserialize>(alloc: Global, items: &mut SeqDeserializer) -> Result<T, SerdeError>
     ensures ok { IfOk result (λ v. read_first T.reads (left items.old) ≡ Some (T.contents v)) }
-    ensures err { IfErr result (λ e. RejectsAs (read_first T.reads (left items.old)) (FirstError T.read_error (left items.old)) e) }
+    ensures err { IfErr result (λ e. RejectsAs (read_first T.reads (left items.old))
+        (FirstError T.read_error (left items.old)) e) }
     ensures gone { left items.new ≡ after_item (left items.old) }
 {
     items.next_element(alloc)?.ok_or(SerdeError::WrongLength)
@@ -134,7 +137,8 @@ fn read_tuple_image<P: Parts, R: ImageReader>(
     count: usize,
 ) -> Result<P, Unread>
     requires { count ≡ P.count }
-    ensures ok { IfOk result (λ v. BeginsRead (R.Begins levels) (tuple_reading P.reads) (P.contents v) (R.contents reader.old) (R.contents reader.new)) }
+    ensures ok { IfOk result (λ v. BeginsRead (R.Begins levels) (tuple_reading P.reads)
+        (P.contents v) (R.contents reader.old) (R.contents reader.new)) }
     ensures never_missing { IfErr result (λ e. e ≢ Unread.MissingField) }
 {
     let Some(inner) = levels.checked_sub(1) else {

@@ -58,9 +58,11 @@ impl EnumDeserializer {
     ///
     /// `Custom("unknown variant")` where the name is none of them.
     pub fn variant_among(self, names: &[&str]) -> Result<(usize, VariantDeserializer), SerdeError>
-        ensures found { IfOk result (λ v. (slice_get (strings names.now) v.0 ≡ Some (variant_of self).0) × (content_of v.1 ≡ (variant_of self).1)) }
+        ensures found { IfOk result (λ v. (slice_get (strings names.now) v.0 ≡ Some
+            (variant_of self).0) × (content_of v.1 ≡ (variant_of self).1)) }
         ensures within { IfOk result (λ v. v.0 < length names.now) }
-        ensures unknown { IfErr result (λ e. IsCustom (codes "unknown variant") e × AreOthers (variant_of self).0 (strings names.now)) }
+        ensures unknown { IfErr result (λ e. IsCustom (codes "unknown variant") e
+            × AreOthers (variant_of self).0 (strings names.now)) }
     {
         let (name, content) = self.variant();
         match position_of(names, name.as_str()) {
@@ -94,8 +96,10 @@ impl VariantDeserializer {
     /// [`SerdeError::VariantContent`] where there is no content; that of `T`, or [`SerdeError::Memory`].
     #[inline(always)]
     pub fn newtype_variant<T: Deserialize>(self, alloc: Global) -> Result<T, SerdeError>
-        ensures ok { IfOk result (λ v. option_and_then T.reads (content_of self) ≡ Some (T.contents v)) }
-        ensures err { IfErr result (λ e. RejectsAs (option_and_then T.reads (content_of self)) (ContentError error.VariantContent T.read_error (content_of self)) e) }
+        ensures ok { IfOk result (λ v. option_and_then T.reads (content_of self) ≡ Some
+            (T.contents v)) }
+        ensures err { IfErr result (λ e. RejectsAs (option_and_then T.reads (content_of self))
+            (ContentError error.VariantContent T.read_error (content_of self)) e) }
         ensures none { content_of self ≡ None → result ≡ Err error.VariantContent }
     {
         let VariantDeserializer { content } = self;
@@ -117,9 +121,13 @@ impl VariantDeserializer {
     ) -> Result<F::Values, SerdeError>
         requires count { length names.now ≡ F.count }
         requires distinct { AreDistinct (strings names.now) }
-        ensures ok { IfOk result (λ v. option_and_then (struct_reading (F.named_reads (strings names.now))) (content_of self) ≡ Some (F.contents v)) }
-        ensures err { IfErr result (λ e. RejectsAs (option_and_then (struct_reading (F.named_reads (strings names.now))) (content_of self))
-            (ContentError error.VariantContent (StructReadError false F.parts (strings names.now)) (content_of self)) e) }
+        ensures ok { IfOk result (λ v. option_and_then
+            (struct_reading (F.named_reads (strings names.now))) (content_of self) ≡ Some
+            (F.contents v)) }
+        ensures err { IfErr result (λ e. RejectsAs
+            (option_and_then (struct_reading (F.named_reads (strings names.now))) (content_of self))
+            (ContentError error.VariantContent (StructReadError false F.parts (strings names.now))
+            (content_of self)) e) }
     {
         let VariantDeserializer { content } = self;
         match content {

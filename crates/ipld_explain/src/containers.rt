@@ -49,8 +49,10 @@ fn explain_items<T: Explain>(
     alloc: Global,
     mut items: SeqDeserializer,
 ) -> Result<Option<Explanation>, AllocError>
-    ensures why { IfOk result (λ found. Explains (list_reading T.reads) (ListFails T.reads T.fails) (list (left items)) (option_map failure_of found)) }
-    ensures error { IfOk result (λ found. IfSome found (λ explanation. ItemsError T.reads T.read_error (left items) explanation.error)) }
+    ensures why { IfOk result (λ found. Explains (list_reading T.reads) (ListFails T.reads T.fails)
+        (list (left items)) (option_map failure_of found)) }
+    ensures error { IfOk result (λ found. IfSome found (λ explanation.
+        ItemsError T.reads T.read_error (left items) explanation.error)) }
 {
     let count = items.remaining();
     let mut index = 0usize;
@@ -85,8 +87,10 @@ fn explain_values<T: Explain>(
     mut map: MapDeserializer,
 ) -> Result<Option<Explanation>, AllocError>
     requires { Ascends (entries_left map) }
-    ensures why { IfOk result (λ found. Explains (map_reading T.reads) (MapFails T.reads T.fails) (entries (entries_left map)) (option_map failure_of found)) }
-    ensures error { IfOk result (λ found. IfSome found (λ explanation. EntriesError any_text NoError T.reads T.read_error (entries_left map) explanation.error)) }
+    ensures why { IfOk result (λ found. Explains (map_reading T.reads) (MapFails T.reads T.fails)
+        (entries (entries_left map)) (option_map failure_of found)) }
+    ensures error { IfOk result (λ found. IfSome found (λ explanation.
+        EntriesError any_text NoError T.reads T.read_error (entries_left map) explanation.error)) }
 {
     while let Some((key, value)) = next_entry(alloc, &mut map)? {
         if let Some(explanation) = T::explain(alloc, value)? {

@@ -31,7 +31,8 @@ pub(crate) fn next_entry(
 ) -> Result<Option<(String, Ipld)>, AllocError>
     ensures { IfOk result (λ found. MatchOption found
         (entries_left map.old ≡ no_members)
-        (λ e. entries_left map.old ≡ member (string_bytes e.0) (tree_of e.1) (entries_left map.new))) }
+        (λ e. entries_left map.old ≡ member (string_bytes e.0) (tree_of e.1)
+        (entries_left map.new))) }
 {
     match map.next_key::<String>(alloc) {
         Ok(None) => Ok(None),

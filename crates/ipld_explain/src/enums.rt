@@ -55,8 +55,11 @@ pub trait ExplainContent {
     ) -> Result<Option<Explanation>, AllocError>
         requires count { length fields.now ≡ count }
         requires distinct { AreDistinct (strings fields.now) }
-        ensures why { IfOk result (λ o. ExplainsContent (reads (strings fields.now)) (fails (strings fields.now)) (string_bytes name) (option_map tree_of content) (option_map failure_of o)) }
-        ensures error { IfOk result (λ o. IfSome o (λ explanation. read_error (strings fields.now) (option_map tree_of content) explanation.error)) };
+        ensures why { IfOk result (λ o. ExplainsContent (reads (strings fields.now))
+            (fails (strings fields.now)) (string_bytes name) (option_map tree_of content)
+            (option_map failure_of o)) }
+        ensures error { IfOk result (λ o. IfSome o (λ explanation. read_error (strings fields.now)
+            (option_map tree_of content) explanation.error)) };
 }
 
 /// A variant that holds nothing, as `Started`.
@@ -201,8 +204,11 @@ pub trait ExplainVariants {
         names: &[(&str, &[&str])],
     ) -> Result<Option<Explanation>, AllocError>
         requires { named (names_of names.now) }
-        ensures why { IfOk result (λ o. ExplainsVariant (reads (names_of names.now)) (fails (names_of names.now)) (string_bytes name) (option_map tree_of content) (option_map failure_of o)) }
-        ensures error { IfOk result (λ o. IfSome o (λ explanation. read_error (names_of names.now) (string_bytes name) (option_map tree_of content) explanation.error)) };
+        ensures why { IfOk result (λ o. ExplainsVariant (reads (names_of names.now))
+            (fails (names_of names.now)) (string_bytes name) (option_map tree_of content)
+            (option_map failure_of o)) }
+        ensures error { IfOk result (λ o. IfSome o (λ explanation. read_error (names_of names.now)
+            (string_bytes name) (option_map tree_of content) explanation.error)) };
 }
 
 impl ExplainVariants for () {
@@ -287,8 +293,10 @@ pub fn explain_enum<V: ExplainVariants>(
     names: &[(&str, &[&str])],
 ) -> Result<Option<Explanation>, AllocError>
     requires { V.named (names_of names.now) }
-    ensures why { IfOk result (λ o. Explains (enum_reading (V.reads (names_of names.now))) (EnumFails (V.fails (names_of names.now))) (tree_of value) (option_map failure_of o)) }
-    ensures error { IfOk result (λ o. IfSome o (λ explanation. EnumReadError (V.read_error (names_of names.now)) (tree_of value) explanation.error)) }
+    ensures why { IfOk result (λ o. Explains (enum_reading (V.reads (names_of names.now)))
+        (EnumFails (V.fails (names_of names.now))) (tree_of value) (option_map failure_of o)) }
+    ensures error { IfOk result (λ o. IfSome o (λ explanation.
+        EnumReadError (V.read_error (names_of names.now)) (tree_of value) explanation.error)) }
 {
     let found = value.kind();
     match value.deserialize_enum("", &[]) {

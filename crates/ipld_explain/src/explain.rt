@@ -27,8 +27,10 @@ pub trait Explain: Deserialize {
     ///
     /// `AllocError` where an allocation failed.
     fn explain(alloc: Global, value: Ipld) -> Result<Option<Explanation>, AllocError>
-        ensures why { IfOk result (λ found. Explains Self.reads fails (tree_of value) (option_map failure_of found)) }
-        ensures error { IfOk result (λ found. IfSome found (λ explanation. Self.read_error (tree_of value) explanation.error)) };
+        ensures why { IfOk result (λ found. Explains Self.reads fails (tree_of value)
+            (option_map failure_of found)) }
+        ensures error { IfOk result (λ found. IfSome found (λ explanation.
+            Self.read_error (tree_of value) explanation.error)) };
 }
 
 /// Explains a value that is taken as a whole: where the type doesn't read it, it is the value itself that is at fault. For the `explain` of
@@ -42,8 +44,10 @@ pub fn explain_whole<T: Deserialize>(
     value: Ipld,
     expected: Expected,
 ) -> Result<Option<Explanation>, AllocError>
-    ensures why { IfOk result (λ found. Explains T.reads (λ t. FailsHere expected (T.read_error t)) (tree_of value) (option_map failure_of found)) }
-    ensures error { IfOk result (λ found. IfSome found (λ explanation. T.read_error (tree_of value) explanation.error)) }
+    ensures why { IfOk result (λ found. Explains T.reads (λ t. FailsHere expected (T.read_error t))
+        (tree_of value) (option_map failure_of found)) }
+    ensures error { IfOk result (λ found. IfSome found (λ explanation.
+        T.read_error (tree_of value) explanation.error)) }
 {
     let found = value.kind();
     match T::deserialize(alloc, value) {

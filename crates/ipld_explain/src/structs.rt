@@ -40,13 +40,17 @@ pub trait ExplainFields: Fields {
         value: Ipld,
     ) -> Result<Option<Explanation>, AllocError>
         requires { index ≤ length fields - 1 }
-        ensures why { IfOk result (λ found. ExplainsAt fields index (tree_of value) (option_map failure_of found)) }
-        ensures error { IfOk result (λ found. IfSome found (λ explanation. RejectsAt Self.parts index (tree_of value) explanation.error)) }
-        ensures accepted { IfOk result (λ found. IfNone found (reading.accepts_at Self.parts index (tree_of value) ≡ true)) };
+        ensures why { IfOk result (λ found. ExplainsAt fields index (tree_of value)
+            (option_map failure_of found)) }
+        ensures error { IfOk result (λ found. IfSome found (λ explanation.
+            RejectsAt Self.parts index (tree_of value) explanation.error)) }
+        ensures accepted { IfOk result (λ found. IfNone found (reading.accepts_at Self.parts index
+            (tree_of value) ≡ true)) };
 
     /// The first of the names, in the order of the fields, that has to be in the map and isn't.
     fn missing_name<'a>(names: &[&'a str], map: &Ipld) -> Option<&'a str>
-        ensures { (ms : Members) → tree_of map.now ≡ entries ms → option_map (λ name. name.now) result ≡ first_missing fields (strings names.now) ms };
+        ensures { (ms : Members) → tree_of map.now ≡ entries ms
+            → option_map (λ name. name.now) result ≡ first_missing fields (strings names.now) ms };
 
     // the law that the fields are read exactly where what each name holds will do
     ghost decides: { (names : List (List ℕ)) (ms : Members) → is_some (Self.named_reads names ms) ≡ all_will_do fields names ms };
@@ -54,7 +58,8 @@ pub trait ExplainFields: Fields {
 
 // Whether the map lacks the name.
 fn is_missing(map: &Ipld, name: &str) -> bool
-    ensures { (ms : Members) → tree_of map.now ≡ entries ms → result ≡ is_none (value_at name.now ms) }
+    ensures { (ms : Members) → tree_of map.now ≡ entries ms
+        → result ≡ is_none (value_at name.now ms) }
 {
     match map.get(name) {
         Ok(Some(_)) => false,
@@ -135,8 +140,11 @@ pub fn explain_struct<F: ExplainFields>(
 ) -> Result<Option<Explanation>, AllocError>
     requires count { length names.now ≡ length F.fields }
     requires distinct { AreDistinct (strings names.now) }
-    ensures why { IfOk result (λ found. Explains (struct_reading (F.named_reads (strings names.now))) (StructFails false F.fields (strings names.now)) (tree_of value) (option_map failure_of found)) }
-    ensures error { IfOk result (λ found. IfSome found (λ explanation. StructReadError false F.parts (strings names.now) (tree_of value) explanation.error)) }
+    ensures why { IfOk result (λ found. Explains
+        (struct_reading (F.named_reads (strings names.now))) (StructFails false F.fields
+        (strings names.now)) (tree_of value) (option_map failure_of found)) }
+    ensures error { IfOk result (λ found. IfSome found (λ explanation. StructReadError false F.parts
+        (strings names.now) (tree_of value) explanation.error)) }
 {
     explain_fields::<F>(alloc, value, names, false)
 }
@@ -155,8 +163,11 @@ pub fn explain_strict_struct<F: ExplainFields>(
 ) -> Result<Option<Explanation>, AllocError>
     requires count { length names.now ≡ length F.fields }
     requires distinct { AreDistinct (strings names.now) }
-    ensures why { IfOk result (λ found. Explains (struct_reading (only_fields (strings names.now) (F.named_reads (strings names.now)))) (StructFails true F.fields (strings names.now)) (tree_of value) (option_map failure_of found)) }
-    ensures error { IfOk result (λ found. IfSome found (λ explanation. StructReadError true F.parts (strings names.now) (tree_of value) explanation.error)) }
+    ensures why { IfOk result (λ found. Explains (struct_reading (only_fields (strings names.now)
+        (F.named_reads (strings names.now)))) (StructFails true F.fields (strings names.now))
+        (tree_of value) (option_map failure_of found)) }
+    ensures error { IfOk result (λ found. IfSome found (λ explanation. StructReadError true F.parts
+        (strings names.now) (tree_of value) explanation.error)) }
 {
     explain_fields::<F>(alloc, value, names, true)
 }
@@ -170,8 +181,12 @@ fn explain_fields<F: ExplainFields>(
 ) -> Result<Option<Explanation>, AllocError>
     requires count { length names.now ≡ length F.fields }
     requires distinct { AreDistinct (strings names.now) }
-    ensures why { IfOk result (λ found. Explains (struct_reading (reads_fields strict (strings names.now) (F.named_reads (strings names.now)))) (StructFails strict F.fields (strings names.now)) (tree_of value) (option_map failure_of found)) }
-    ensures error { IfOk result (λ found. IfSome found (λ explanation. StructReadError strict F.parts (strings names.now) (tree_of value) explanation.error)) }
+    ensures why { IfOk result (λ found. Explains
+        (struct_reading (reads_fields strict (strings names.now)
+        (F.named_reads (strings names.now)))) (StructFails strict F.fields (strings names.now))
+        (tree_of value) (option_map failure_of found)) }
+    ensures error { IfOk result (λ found. IfSome found (λ explanation.
+        StructReadError strict F.parts (strings names.now) (tree_of value) explanation.error)) }
 {
     let found = value.kind();
     let missing = F::missing_name(names, &value);
@@ -197,8 +212,10 @@ fn explain_entries<F: ExplainFields>(
     requires count { length names.now ≡ length F.fields }
     requires distinct { AreDistinct (strings names.now) }
     requires ascends { Ascends (entries_left map) }
-    ensures why { IfOk result (λ found. ExplainsEntries strict F.fields (strings names.now) (entries_left map) (option_map failure_of found)) }
-    ensures error { IfOk result (λ found. RejectsEntries strict F.parts (strings names.now) (entries_left map) (option_map (λ explanation. explanation.error) found)) }
+    ensures why { IfOk result (λ found. ExplainsEntries strict F.fields (strings names.now)
+        (entries_left map) (option_map failure_of found)) }
+    ensures error { IfOk result (λ found. RejectsEntries strict F.parts (strings names.now)
+        (entries_left map) (option_map (λ explanation. explanation.error) found)) }
 {
     while let Some((key, value)) = next_entry(alloc, &mut map)? {
         let Some(index) = position_of(names, key.as_str()) else {

@@ -40,8 +40,10 @@ trait Parts: Sized {
         found: usize,
     ) -> Result<Option<Explanation>, AllocError>
         requires { index + count_items (left items) ≡ found }
-        ensures why { IfOk result (λ o. ExplainsParts reads parts expected found index (left items) (option_map failure_of o)) }
-        ensures error { IfOk result (λ o. IfSome o (λ explanation. read_error (left items) explanation.error)) };
+        ensures why { IfOk result (λ o. ExplainsParts reads parts expected found index (left items)
+            (option_map failure_of o)) }
+        ensures error { IfOk result (λ o. IfSome o (λ explanation.
+            read_error (left items) explanation.error)) };
 }
 
 impl Parts for () {
@@ -101,8 +103,10 @@ fn explain_tuple<P: Parts>(
     expected: usize,
 ) -> Result<Option<Explanation>, AllocError>
     requires { expected ≡ length P.parts }
-    ensures why { IfOk result (λ o. Explains (tuple_reading P.reads) (TupleFails P.parts) (tree_of value) (option_map failure_of o)) }
-    ensures error { IfOk result (λ o. IfSome o (λ explanation. TupleReadError P.read_error (tree_of value) explanation.error)) }
+    ensures why { IfOk result (λ o. Explains (tuple_reading P.reads) (TupleFails P.parts)
+        (tree_of value) (option_map failure_of o)) }
+    ensures error { IfOk result (λ o. IfSome o (λ explanation. TupleReadError P.read_error
+        (tree_of value) explanation.error)) }
 {
     let kind = value.kind();
     match value.deserialize_seq() {

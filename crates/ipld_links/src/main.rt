@@ -68,7 +68,8 @@ fn run_arguments<R: BufRead, W: Write>(
     writer: &mut W,
 ) -> Result<Status, RunFault>
     ensures { IfOk result (λ status. IfSome (R.remaining reader.old)
-        (λ input. Writes (W.contents writer.old) (W.contents writer.new) (Output (word_in arguments) input status))) }
+        (λ input. Writes (W.contents writer.old) (W.contents writer.new)
+        (Output (word_in arguments) input status))) }
 {
     let word = word_of(alloc, arguments)?;
     run(alloc, word.as_str(), reader, writer)

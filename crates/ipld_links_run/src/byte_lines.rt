@@ -38,7 +38,8 @@ pub(crate) fn write_links_of_lines<R: BufRead, W: Write>(
     writer: &mut W,
 ) -> Result<Status, RunFault>
     ensures output { IfOk result (λ status. IfSome (R.remaining reader.old)
-        (λ input. Writes (W.contents writer.old) (W.contents writer.new) (LinesOutput (reading_of content) input status))) }
+        (λ input. Writes (W.contents writer.old) (W.contents writer.new)
+        (LinesOutput (reading_of content) input status))) }
     ensures all_read { OnOk result (IsReadOut (R.remaining reader.old) (R.remaining reader.new)) }
 {
     let mut line = Vec::new(alloc);
@@ -139,7 +140,8 @@ fn take_links(links: LinkIter, found: &mut Vec<Cid>) -> Result<(), RunFault>
 /// Writes the text of each CID, each on a line, and returns how many texts were written with those before.
 fn write_counted<W: Write>(writer: &mut W, cids: &[Cid], before: u64) -> Result<u64, RunFault>
     ensures { IfOk result (λ count. (count ≡ before + length cids.now)
-        × Appends (W.contents writer.old) (W.contents writer.new) (written (map text_of (map link_of cids.now)))) }
+        × Appends (W.contents writer.old) (W.contents writer.new)
+        (written (map text_of (map link_of cids.now)))) }
 {
     let Some(count) = before.checked_add(cids.len() as u64) else {
         return Err(RunFault::Read);
@@ -155,7 +157,8 @@ fn end_output<R: BufRead, W: Write>(
     verdict: Verdict,
 ) -> Result<Status, RunFault>
     ensures written { IfOk result (λ status. (status ≡ status_of (verdict_of verdict))
-        × Appends (W.contents writer.old) (W.contents writer.new) (last_line (verdict_of verdict) ++ 10 ∷ [])) }
+        × Appends (W.contents writer.old) (W.contents writer.new)
+        (last_line (verdict_of verdict) ++ 10 ∷ [])) }
     ensures all_read { OnOk result (IsReadOut (R.remaining reader.old) (R.remaining reader.new)) }
 {
     let status = write_verdict(writer, verdict)?;

@@ -37,7 +37,8 @@ pub(crate) fn write_links_of_tokens<R: BufRead, W: Write>(
     writer: &mut W,
 ) -> Result<Status, RunFault>
     ensures output { IfOk result (λ status. IfSome (R.remaining reader.old)
-        (λ input. Writes (W.contents writer.old) (W.contents writer.new) (WritesTokens (OutcomeFor wanted) (tokens_in input) status))) }
+        (λ input. Writes (W.contents writer.old) (W.contents writer.new)
+        (WritesTokens (OutcomeFor wanted) (tokens_in input) status))) }
     ensures all_read { OnOk result (IsReadOut (R.remaining reader.old) (R.remaining reader.new)) }
 {
     match read_tokens(alloc, reader)? {
@@ -51,7 +52,8 @@ pub(crate) fn write_links_of_tokens<R: BufRead, W: Write>(
 
 /// Writes the text of each link and how many there are, or why there are none.
 fn write_outcome<W: Write>(writer: &mut W, outcome: &Outcome) -> Result<Status, RunFault>
-    ensures { IfOk result (λ status. Writes (W.contents writer.old) (W.contents writer.new) (WritesOutcome (outcome_of outcome.now) status)) }
+    ensures { IfOk result (λ status. Writes (W.contents writer.old) (W.contents writer.new)
+        (WritesOutcome (outcome_of outcome.now) status)) }
 {
     match outcome {
         Ok(links) => {
@@ -68,7 +70,8 @@ fn find_links<'a>(
     wanted: ReadAs,
     tokens: &'a [Token<'a>],
 ) -> Result<Outcome, RunFault>
-    ensures { IfOk result (λ outcome. OutcomeFor wanted (map erase tokens.entry.now) (outcome_of outcome)) }
+    ensures { IfOk result (λ outcome. OutcomeFor wanted (map erase tokens.entry.now)
+        (outcome_of outcome)) }
 {
     let mut source = SliceSource::new(tokens);
     match wanted {

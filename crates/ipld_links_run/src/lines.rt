@@ -85,7 +85,8 @@ pub(crate) fn skip_rest<R: BufRead>(reader: &mut R) -> Result<(), RunFault>
 
 /// Takes what the reader has buffered, and returns whether that was its end.
 fn skip_buffer<R: BufRead>(reader: &mut R) -> Result<bool, RunFault>
-    ensures { IfOk result (λ at_end. TakesBuffer at_end (R.remaining reader.old) (R.remaining reader.new)) }
+    ensures { IfOk result (λ at_end. TakesBuffer at_end (R.remaining reader.old)
+        (R.remaining reader.new)) }
 {
     let count = match reader.fill_buf() {
         Ok(buffer) => buffer.len(),
@@ -109,7 +110,8 @@ fn run_fault_of(error: &Error) -> RunFault
 
 /// Writes a line, and a line feed after it.
 pub(crate) fn write_line<W: Write>(writer: &mut W, line: &[u8]) -> Result<(), RunFault>
-    ensures appends { OnOk result (Appends (W.contents writer.old) (W.contents writer.new) (line.now ++ 10 ∷ [])) }
+    ensures appends { OnOk result (Appends (W.contents writer.old) (W.contents writer.new)
+        (line.now ++ 10 ∷ [])) }
     ensures errors { IfErr result (λ fault. fault ≡ RunFault.Write) }
 {
     match writer.write_all(line) {

@@ -96,7 +96,8 @@ pub fn run<R: BufRead, W: Write>(
     writer: &mut W,
 ) -> Result<Status, RunFault>
     ensures output { IfOk result (λ status. IfSome (R.remaining reader.old)
-        (λ input. Writes (W.contents writer.old) (W.contents writer.new) (Output word.now input status))) }
+        (λ input. Writes (W.contents writer.old) (W.contents writer.new)
+        (Output word.now input status))) }
     ensures all_read { IsWord word.now
         → OnOk result (IsReadOut (R.remaining reader.old) (R.remaining reader.new)) }
 

@@ -60,7 +60,8 @@ pub(crate) enum Verdict {
 /// Writes the last line of a run, and returns the status of the run.
 pub(crate) fn write_verdict<W: Write>(writer: &mut W, verdict: Verdict) -> Result<Status, RunFault>
     ensures { IfOk result (λ status. (status ≡ status_of (verdict_of verdict))
-        × Appends (W.contents writer.old) (W.contents writer.new) (last_line (verdict_of verdict) ++ 10 ∷ [])) }
+        × Appends (W.contents writer.old) (W.contents writer.new)
+        (last_line (verdict_of verdict) ++ 10 ∷ [])) }
 {
     let (status, written) = match verdict {
         Verdict::Done(texts) => (Status::Done, writeln!(writer, "ok {texts}")),

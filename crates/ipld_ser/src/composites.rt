@@ -24,7 +24,8 @@ impl<T: Serialize> Serialize for Option<T> {
     #[inline(always)]
     fn serialize(&self, alloc: Global, serializer: Serializer) -> Result<Ipld, SerdeError>
         ensures ok { IfOk result (λ t. option_image T.image self.now ≡ Some (tree_of t)) }
-        ensures err { IfErr result (λ e. RejectsAs (option_image T.image self.now) (OptionError T.write_error self.now) e) }
+        ensures err { IfErr result (λ e. RejectsAs (option_image T.image self.now)
+            (OptionError T.write_error self.now) e) }
         ensures none { self.now ≡ None → IsOk result }
     {
         match self {
@@ -102,7 +103,8 @@ fn list_of<T: Serialize>(
     items: &[T],
 ) -> Result<Ipld, SerdeError>
     ensures ok { IfOk result (λ t. list_image T.image items.now ≡ Some (tree_of t)) }
-    ensures err { IfErr result (λ e. RejectsAs (list_image T.image items.now) (ListError T.image T.write_error items.now) e) }
+    ensures err { IfErr result (λ e. RejectsAs (list_image T.image items.now)
+        (ListError T.image T.write_error items.now) e) }
 {
     let mut list = serializer.serialize_seq(alloc, Some(items.len()))?;
     for item in items {
@@ -117,7 +119,8 @@ fn write_list<T: Serialize, W: ImageWriter>(
     writer: &mut W,
     items: &[T],
 ) -> Result<(), Unwritten>
-    ensures { OnOk result (Appends (written_image W.written (list_image T.image items.now)) (W.contents writer.old) (W.contents writer.new)) }
+    ensures { OnOk result (Appends (written_image W.written (list_image T.image items.now))
+        (W.contents writer.old) (W.contents writer.new)) }
 {
     writer.begin_list(items.len())?;
     for item in items {
@@ -144,8 +147,11 @@ fn map_of<K: SerializeKey, T: Serialize>(
     serializer: Serializer,
     members: &BTreeMap<K, T>,
 ) -> Result<Ipld, SerdeError>
-    ensures ok { IfOk result (λ t. keyed_image K.text_of K.is_key T.image members.now.entries ≡ Some (tree_of t)) }
-    ensures err { IfErr result (λ e. RejectsAs (keyed_image K.text_of K.is_key T.image members.now.entries) (MapError T.image T.write_error members.now.entries) e) }
+    ensures ok { IfOk result (λ t. keyed_image K.text_of K.is_key T.image members.now.entries ≡ Some
+        (tree_of t)) }
+    ensures err { IfErr result (λ e. RejectsAs
+        (keyed_image K.text_of K.is_key T.image members.now.entries)
+        (MapError T.image T.write_error members.now.entries) e) }
 {
     let mut map = serializer.serialize_map(alloc, Some(members.len()))?;
     for (key, member) in members.iter() {

@@ -34,13 +34,16 @@ pub trait SerializeFields: sealed::Sealed + Sized + Drop {
     ///
     /// That of the first field without an image, or [`SerdeError::Memory`].
     fn write(self, map: SerializeStructVariant) -> Result<SerializeStructVariant, SerdeError>
-        ensures ok { IfOk result (λ b. put_fields (fields self) (variant_filed map) ≡ Some (variant_filed b)) }
+        ensures ok { IfOk result (λ b. put_fields (fields self) (variant_filed map) ≡ Some
+            (variant_filed b)) }
         ensures name { IfOk result (λ b. struct_name b ≡ struct_name map) }
-        ensures err { IfErr result (λ e. RejectsAs (put_fields (fields self) (variant_filed map)) (StructError (errors self)) e) };
+        ensures err { IfErr result (λ e. RejectsAs (put_fields (fields self) (variant_filed map))
+            (StructError (errors self)) e) };
 
     /// The name of the field at an index, where there is one.
     fn name_at(&self, index: usize) -> Option<&str>
-        ensures some { IfSome result (λ name. slice_get (names_of (fields self.now)) index ≡ Some name.now) }
+        ensures some { IfSome result (λ name. slice_get (names_of (fields self.now)) index
+            ≡ Some name.now) }
         ensures none { IfNone result (slice_get (names_of (fields self.now)) index ≡ None) };
 
     /// Writes the value of the field at an index.
@@ -54,7 +57,8 @@ pub trait SerializeFields: sealed::Sealed + Sized + Drop {
         index: usize,
         writer: &mut W,
     ) -> Result<(), Unwritten>
-        ensures { OnOk result (Appends (written_at W.written (fields self.now) index) (W.contents writer.old) (W.contents writer.new)) };
+        ensures { OnOk result (Appends (written_at W.written (fields self.now) index)
+            (W.contents writer.old) (W.contents writer.new)) };
 }
 
 mod sealed {
@@ -148,8 +152,10 @@ impl Serializer {
         variant: &str,
         fields: F,
     ) -> Result<Ipld, E>
-        ensures ok { IfOk result (λ t. option_map (variant_tree variant.now) (struct_image (F.fields fields)) ≡ Some (tree_of t)) }
-        ensures err { IfErr result (λ e. RejectsAs (struct_image (F.fields fields)) (StructError (F.errors fields)) (E.reported e)) }
+        ensures ok { IfOk result (λ t. option_map (variant_tree variant.now)
+            (struct_image (F.fields fields)) ≡ Some (tree_of t)) }
+        ensures err { IfErr result (λ e. RejectsAs (struct_image (F.fields fields))
+            (StructError (F.errors fields)) (E.reported e)) }
     {
         match variant_of(self, alloc, variant, fields) {
             Ok(tree) => Ok(tree),
@@ -166,8 +172,10 @@ fn variant_of<F: SerializeFields>(
     variant: &str,
     fields: F,
 ) -> Result<Ipld, SerdeError>
-    ensures ok { IfOk result (λ t. option_map (variant_tree variant.now) (struct_image (F.fields fields)) ≡ Some (tree_of t)) }
-    ensures err { IfErr result (λ e. RejectsAs (struct_image (F.fields fields)) (StructError (F.errors fields)) e) }
+    ensures ok { IfOk result (λ t. option_map (variant_tree variant.now)
+        (struct_image (F.fields fields)) ≡ Some (tree_of t)) }
+    ensures err { IfErr result (λ e. RejectsAs (struct_image (F.fields fields))
+        (StructError (F.errors fields)) e) }
 {
     let map = serializer.serialize_struct_variant(alloc, "", 0, variant, 0)?;
     fields.write(map)?.end()

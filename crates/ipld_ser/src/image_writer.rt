@@ -72,27 +72,33 @@ pub trait ImageWriter: Sized {
 
     /// Writes a Bool.
     fn write_bool(&mut self, value: bool) -> Result<(), Unwritten>
-        ensures { OnOk result (Appends (written (boolean value)) (contents self.old) (contents self.new)) };
+        ensures { OnOk result (Appends (written (boolean value)) (contents self.old)
+            (contents self.new)) };
 
     /// Writes an Integer.
     fn write_integer(&mut self, value: i128) -> Result<(), Unwritten>
-        ensures { OnOk result (Appends (written (integer value)) (contents self.old) (contents self.new)) };
+        ensures { OnOk result (Appends (written (integer value)) (contents self.old)
+            (contents self.new)) };
 
     /// Writes a String.
     fn write_str(&mut self, value: &str) -> Result<(), Unwritten>
-        ensures { OnOk result (Appends (written (text value.now)) (contents self.old) (contents self.new)) };
+        ensures { OnOk result (Appends (written (text value.now)) (contents self.old)
+            (contents self.new)) };
 
     /// Writes Bytes.
     fn write_bytes(&mut self, value: &[u8]) -> Result<(), Unwritten>
-        ensures { OnOk result (Appends (written (bytes value.now)) (contents self.old) (contents self.new)) };
+        ensures { OnOk result (Appends (written (bytes value.now)) (contents self.old)
+            (contents self.new)) };
 
     /// Writes a Link.
     fn write_link(&mut self, value: &Cid) -> Result<(), Unwritten>
-        ensures { OnOk result (Appends (written (link (link_of value.now))) (contents self.old) (contents self.new)) };
+        ensures { OnOk result (Appends (written (link (link_of value.now))) (contents self.old)
+            (contents self.new)) };
 
     /// Writes a tree.
     fn write_tree(&mut self, alloc: Global, value: &Ipld) -> Result<(), Unwritten>
-        ensures { OnOk result (Appends (written (tree_of value.now)) (contents self.old) (contents self.new)) };
+        ensures { OnOk result (Appends (written (tree_of value.now)) (contents self.old)
+            (contents self.new)) };
 
     /// Writes the head of a List, of which so many items follow.
     fn begin_list(&mut self, count: usize) -> Result<(), Unwritten>
@@ -121,7 +127,8 @@ pub fn write_fields<F: SerializeFields, W: ImageWriter>(
     fields: &F,
 ) -> Result<(), Unwritten>
     requires { AreDistinct (names_of (F.fields fields.now)) }
-    ensures { OnOk result (Appends (written_image W.written (struct_image (F.fields fields.now))) (W.contents writer.old) (W.contents writer.new)) }
+    ensures { OnOk result (Appends (written_image W.written (struct_image (F.fields fields.now)))
+        (W.contents writer.old) (W.contents writer.new)) }
 {
     let order = order_of(alloc, fields)?;
     writer.begin_map(order.len())?;
@@ -136,7 +143,9 @@ fn write_in_order<F: SerializeFields, W: ImageWriter>(
     fields: &F,
     order: &[(&str, usize)],
 ) -> Result<(), Unwritten>
-    ensures { OnOk result (Appends (one_after_another (map (entry_at W.written (F.fields fields.now)) order.now)) (W.contents writer.old) (W.contents writer.new)) }
+    ensures { OnOk result (Appends (one_after_another
+        (map (entry_at W.written (F.fields fields.now)) order.now)) (W.contents writer.old)
+        (W.contents writer.new)) }
 {
     for entry in order {
         write_entry(alloc, writer, fields, entry)?;
@@ -152,7 +161,8 @@ fn write_entry<F: SerializeFields, W: ImageWriter>(
     fields: &F,
     entry: &(&str, usize),
 ) -> Result<(), Unwritten>
-    ensures { OnOk result (Appends (entry_at W.written (F.fields fields.now) entry.now) (W.contents writer.old) (W.contents writer.new)) }
+    ensures { OnOk result (Appends (entry_at W.written (F.fields fields.now) entry.now)
+        (W.contents writer.old) (W.contents writer.new)) }
 {
     writer.write_str(entry.0)?;
     fields.write_value(alloc, entry.1, writer)?;
@@ -164,7 +174,8 @@ fn order_of<'a, F: SerializeFields>(
     alloc: Global,
     fields: &'a F,
 ) -> Result<Vec<(&'a str, usize)>, AllocError>
-    ensures { IfOk result (λ order. indexed order.items ≡ filed_from 0 (names_of (F.fields fields.now)) []) }
+    ensures { IfOk result (λ order. indexed order.items ≡ filed_from 0
+        (names_of (F.fields fields.now)) []) }
 {
     let mut order = Vec::with_capacity(alloc, RESERVED)?;
     while let Some(name) = fields.name_at(order.len()) {
@@ -178,7 +189,8 @@ const RESERVED: usize = 8;
 
 // Puts a name at its place among names in order, with their number as its index.
 fn insert_name<'a>(order: &mut Vec<(&'a str, usize)>, name: &'a str) -> Result<(), AllocError>
-    ensures filed { OnOk result (indexed order.new.items ≡ filed name.entry.now (length order.old.items) (indexed order.old.items)) }
+    ensures filed { OnOk result (indexed order.new.items ≡ filed name.entry.now
+        (length order.old.items) (indexed order.old.items)) }
     ensures len { OnOk result (length order.new.items ≡ length order.old.items + 1) }
 {
     let index = order.len();
@@ -190,7 +202,8 @@ fn insert_name<'a>(order: &mut Vec<(&'a str, usize)>, name: &'a str) -> Result<(
 // The place of a name among names in order.
 fn place_of(order: &[(&str, usize)], name: &str) -> usize
     ensures within { result ≤ length order.now }
-    ensures filed { (index : ℕ) → filed name.now index (indexed order.now) ≡ insert (indexed order.now) result (name.now, index) }
+    ensures filed { (index : ℕ) → filed name.now index (indexed order.now) ≡ insert
+        (indexed order.now) result (name.now, index) }
 {
     let mut place = 0;
     for entry in order {

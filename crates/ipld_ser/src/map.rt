@@ -66,7 +66,8 @@ impl SerializeMap {
     /// or [`SerdeError::Memory`].
     #[inline(always)]
     pub fn serialize_key<K: Serialize>(&mut self, key: &K) -> Result<(), SerdeError>
-        ensures ok { OnOk result (WritesKey (K.image key.now) (state_of self.old) (state_of self.new)) }
+        ensures ok { OnOk result (WritesKey (K.image key.now) (state_of self.old)
+            (state_of self.new)) }
         ensures err { IfErr result (λ e. RejectsKey (K.image key.now) (K.write_error key.now) e) }
         ensures unchanged { OnErr result (state_of self.new ≡ state_of self.old) }
     {
@@ -94,8 +95,10 @@ impl SerializeMap {
     #[inline(always)]
     pub fn serialize_value<T: Serialize>(&mut self, value: &T) -> Result<(), SerdeError>
         requires { IsSome (state_of self.old).pending }
-        ensures ok { OnOk result (WritesValue (T.image value.now) (state_of self.old) (state_of self.new)) }
-        ensures err { IfErr result (λ e. RejectsAs (T.image value.now) (T.write_error value.now) e) }
+        ensures ok { OnOk result (WritesValue (T.image value.now) (state_of self.old)
+            (state_of self.new)) }
+        ensures err { IfErr result (λ e. RejectsAs (T.image value.now)
+            (T.write_error value.now) e) }
         ensures unchanged { OnErr result (state_of self.new ≡ without_key (state_of self.old)) }
     {
         let key = self.key.take().unwrap();
@@ -116,8 +119,11 @@ impl SerializeMap {
         key: &K,
         value: &T,
     ) -> Result<(), SerdeError>
-        ensures ok { OnOk result (WritesEntry (K.image key.now) (T.image value.now) (state_of self.old) (state_of self.new)) }
-        ensures err { IfErr result (λ e. RejectsEntry (K.image key.now) (K.write_error key.now) (T.image value.now) (T.write_error value.now) e (state_of self.old) (state_of self.new)) }
+        ensures ok { OnOk result (WritesEntry (K.image key.now) (T.image value.now)
+            (state_of self.old) (state_of self.new)) }
+        ensures err { IfErr result (λ e. RejectsEntry (K.image key.now) (K.write_error key.now)
+            (T.image value.now) (T.write_error value.now) e (state_of self.old)
+            (state_of self.new)) }
     {
         let name = string_key(key.serialize(self.alloc, Serializer)?)?;
         self.put_image(name, value)
@@ -131,8 +137,11 @@ impl SerializeMap {
     /// That of the value, or [`SerdeError::Memory`].
     #[inline(always)]
     pub fn serialize_field<T: Serialize>(&mut self, key: &str, value: &T) -> Result<(), SerdeError>
-        ensures ok { OnOk result (WritesEntry (Some (text key.now)) (T.image value.now) (state_of self.old) (state_of self.new)) }
-        ensures err { IfErr result (λ e. RejectsEntry (Some (text key.now)) (NoError key.now) (T.image value.now) (T.write_error value.now) e (state_of self.old) (state_of self.new)) }
+        ensures ok { OnOk result (WritesEntry (Some (text key.now)) (T.image value.now)
+            (state_of self.old) (state_of self.new)) }
+        ensures err { IfErr result (λ e. RejectsEntry (Some (text key.now)) (NoError key.now)
+            (T.image value.now) (T.write_error value.now) e (state_of self.old)
+            (state_of self.new)) }
     {
         let name = String::from_str(self.alloc, key)?;
         self.put_image(name, value)
@@ -146,9 +155,11 @@ impl SerializeMap {
         key: String,
         value: &T,
     ) -> Result<(), SerdeError>
-        ensures ok { OnOk result (PutsImage (string_bytes key) (T.image value.now) (state_of self.old).filed (state_of self.new).filed) }
+        ensures ok { OnOk result (PutsImage (string_bytes key) (T.image value.now)
+            (state_of self.old).filed (state_of self.new).filed) }
         ensures no_key { (state_of self.new).pending ≡ None }
-        ensures err { IfErr result (λ e. RejectsAs (T.image value.now) (T.write_error value.now) e) }
+        ensures err { IfErr result (λ e. RejectsAs (T.image value.now)
+            (T.write_error value.now) e) }
         ensures unchanged { OnErr result (state_of self.new ≡ without_key (state_of self.old)) }
     {
         self.key = None;

@@ -21,7 +21,8 @@ impl Serializer {
     #[inline(always)]
     pub fn serialize_some<T: Serialize>(self, alloc: Global, value: &T) -> Result<Ipld, SerdeError>
         ensures ok { IfOk result (λ t. T.image value.now ≡ Some (tree_of t)) }
-        ensures err { IfErr result (λ e. RejectsAs (T.image value.now) (T.write_error value.now) e) }
+        ensures err { IfErr result (λ e. RejectsAs (T.image value.now)
+            (T.write_error value.now) e) }
     {
         value.serialize(alloc, Serializer)
     }
@@ -39,8 +40,10 @@ impl Serializer {
         name: &str,
         value: &T,
     ) -> Result<Ipld, SerdeError>
-        ensures ok { IfOk result (λ t. newtype_image name.now (T.image value.now) ≡ Some (tree_of t)) }
-        ensures err { IfErr result (λ e. RejectsAs (newtype_image name.now (T.image value.now)) (NewtypeError name.now (T.image value.now) (T.write_error value.now)) e) }
+        ensures ok { IfOk result (λ t. newtype_image name.now (T.image value.now) ≡ Some
+            (tree_of t)) }
+        ensures err { IfErr result (λ e. RejectsAs (newtype_image name.now (T.image value.now))
+            (NewtypeError name.now (T.image value.now) (T.write_error value.now)) e) }
         ensures error { IfErr result (λ e. RejectsNewtype name.now (T.image value.now) e) }
     {
         let content = value.serialize(alloc, self)?;

@@ -67,7 +67,8 @@ impl Serialize for i16 {
     #[inline(always)]
     fn serialize(&self, _alloc: Global, serializer: Serializer) -> Result<Ipld, SerdeError>
         ensures ok { IfOk result (λ t. signed_image 16 self.now ≡ Some (tree_of t)) }
-        ensures err { IfErr result (λ e. RejectsAs (signed_image 16 self.now) (NoError self.now) e) }
+        ensures err { IfErr result (λ e. RejectsAs (signed_image 16 self.now)
+            (NoError self.now) e) }
         ensures succeeds { IsOk result }
     {
         serializer.serialize_i16(*self)
@@ -88,7 +89,8 @@ impl Serialize for i32 {
     #[inline(always)]
     fn serialize(&self, _alloc: Global, serializer: Serializer) -> Result<Ipld, SerdeError>
         ensures ok { IfOk result (λ t. signed_image 32 self.now ≡ Some (tree_of t)) }
-        ensures err { IfErr result (λ e. RejectsAs (signed_image 32 self.now) (NoError self.now) e) }
+        ensures err { IfErr result (λ e. RejectsAs (signed_image 32 self.now)
+            (NoError self.now) e) }
         ensures succeeds { IsOk result }
     {
         serializer.serialize_i32(*self)
@@ -109,7 +111,8 @@ impl Serialize for i64 {
     #[inline(always)]
     fn serialize(&self, _alloc: Global, serializer: Serializer) -> Result<Ipld, SerdeError>
         ensures ok { IfOk result (λ t. signed_image 64 self.now ≡ Some (tree_of t)) }
-        ensures err { IfErr result (λ e. RejectsAs (signed_image 64 self.now) (NoError self.now) e) }
+        ensures err { IfErr result (λ e. RejectsAs (signed_image 64 self.now)
+            (NoError self.now) e) }
         ensures succeeds { IsOk result }
     {
         serializer.serialize_i64(*self)
@@ -130,7 +133,8 @@ impl Serialize for i128 {
     #[inline(always)]
     fn serialize(&self, _alloc: Global, serializer: Serializer) -> Result<Ipld, SerdeError>
         ensures ok { IfOk result (λ t. signed_image 128 self.now ≡ Some (tree_of t)) }
-        ensures err { IfErr result (λ e. RejectsAs (signed_image 128 self.now) (NoError self.now) e) }
+        ensures err { IfErr result (λ e. RejectsAs (signed_image 128 self.now)
+            (NoError self.now) e) }
         ensures succeeds { IsOk result }
     {
         serializer.serialize_i128(*self)
@@ -151,7 +155,8 @@ impl Serialize for isize {
     #[inline(always)]
     fn serialize(&self, _alloc: Global, serializer: Serializer) -> Result<Ipld, SerdeError>
         ensures ok { IfOk result (λ t. signed_image 64 self.now ≡ Some (tree_of t)) }
-        ensures err { IfErr result (λ e. RejectsAs (signed_image 64 self.now) (NoError self.now) e) }
+        ensures err { IfErr result (λ e. RejectsAs (signed_image 64 self.now)
+            (NoError self.now) e) }
         ensures succeeds { IsOk result }
     {
         serializer.serialize_i64(*self as i64)
@@ -172,7 +177,8 @@ impl Serialize for u8 {
     #[inline(always)]
     fn serialize(&self, _alloc: Global, serializer: Serializer) -> Result<Ipld, SerdeError>
         ensures ok { IfOk result (λ t. unsigned_image 8 self.now ≡ Some (tree_of t)) }
-        ensures err { IfErr result (λ e. RejectsAs (unsigned_image 8 self.now) (NoError self.now) e) }
+        ensures err { IfErr result (λ e. RejectsAs (unsigned_image 8 self.now)
+            (NoError self.now) e) }
         ensures succeeds { IsOk result }
     {
         serializer.serialize_u8(*self)
@@ -193,7 +199,8 @@ impl Serialize for u16 {
     #[inline(always)]
     fn serialize(&self, _alloc: Global, serializer: Serializer) -> Result<Ipld, SerdeError>
         ensures ok { IfOk result (λ t. unsigned_image 16 self.now ≡ Some (tree_of t)) }
-        ensures err { IfErr result (λ e. RejectsAs (unsigned_image 16 self.now) (NoError self.now) e) }
+        ensures err { IfErr result (λ e. RejectsAs (unsigned_image 16 self.now)
+            (NoError self.now) e) }
         ensures succeeds { IsOk result }
     {
         serializer.serialize_u16(*self)
@@ -214,7 +221,8 @@ impl Serialize for u32 {
     #[inline(always)]
     fn serialize(&self, _alloc: Global, serializer: Serializer) -> Result<Ipld, SerdeError>
         ensures ok { IfOk result (λ t. unsigned_image 32 self.now ≡ Some (tree_of t)) }
-        ensures err { IfErr result (λ e. RejectsAs (unsigned_image 32 self.now) (NoError self.now) e) }
+        ensures err { IfErr result (λ e. RejectsAs (unsigned_image 32 self.now)
+            (NoError self.now) e) }
         ensures succeeds { IsOk result }
     {
         serializer.serialize_u32(*self)
@@ -235,7 +243,8 @@ impl Serialize for u64 {
     #[inline(always)]
     fn serialize(&self, _alloc: Global, serializer: Serializer) -> Result<Ipld, SerdeError>
         ensures ok { IfOk result (λ t. unsigned_image 64 self.now ≡ Some (tree_of t)) }
-        ensures err { IfErr result (λ e. RejectsAs (unsigned_image 64 self.now) (NoError self.now) e) }
+        ensures err { IfErr result (λ e. RejectsAs (unsigned_image 64 self.now)
+            (NoError self.now) e) }
         ensures succeeds { IsOk result }
     {
         serializer.serialize_u64(*self)
@@ -256,7 +265,8 @@ impl Serialize for usize {
     #[inline(always)]
     fn serialize(&self, _alloc: Global, serializer: Serializer) -> Result<Ipld, SerdeError>
         ensures ok { IfOk result (λ t. unsigned_image 64 self.now ≡ Some (tree_of t)) }
-        ensures err { IfErr result (λ e. RejectsAs (unsigned_image 64 self.now) (NoError self.now) e) }
+        ensures err { IfErr result (λ e. RejectsAs (unsigned_image 64 self.now)
+            (NoError self.now) e) }
         ensures succeeds { IsOk result }
     {
         serializer.serialize_u64(*self as u64)
@@ -277,7 +287,8 @@ impl Serialize for u128 {
     #[inline(always)]
     fn serialize(&self, _alloc: Global, serializer: Serializer) -> Result<Ipld, SerdeError>
         ensures ok { IfOk result (λ t. unsigned_image 127 self.now ≡ Some (tree_of t)) }
-        ensures err { IfErr result (λ e. RejectsAs (unsigned_image 127 self.now) (λ e. e ≡ error.U128) e) }
+        ensures err { IfErr result (λ e. RejectsAs (unsigned_image 127 self.now) (λ e.
+            e ≡ error.U128) e) }
         ensures no_memory { IfErr result (λ e. e ≡ error.U128) }
     {
         serializer.serialize_u128(*self)
@@ -305,7 +316,8 @@ impl Serialize for String {
     #[inline(always)]
     fn serialize(&self, alloc: Global, serializer: Serializer) -> Result<Ipld, SerdeError>
         ensures ok { IfOk result (λ t. Some (text (string_bytes self.now)) ≡ Some (tree_of t)) }
-        ensures err { IfErr result (λ e. RejectsAs (Some (text (string_bytes self.now))) (NoError self.now) e) }
+        ensures err { IfErr result (λ e. RejectsAs (Some (text (string_bytes self.now)))
+            (NoError self.now) e) }
         ensures empty { string_bytes self.now ≡ [] → IsOk result }
     {
         serializer.serialize_str(alloc, self)
@@ -326,7 +338,8 @@ impl<'a> Serialize for &'a str {
     #[inline(always)]
     fn serialize(&self, alloc: Global, serializer: Serializer) -> Result<Ipld, SerdeError>
         ensures ok { IfOk result (λ t. Some (text (self.now.now)) ≡ Some (tree_of t)) }
-        ensures err { IfErr result (λ e. RejectsAs (Some (text (self.now.now))) (NoError self.now) e) }
+        ensures err { IfErr result (λ e. RejectsAs (Some (text (self.now.now)))
+            (NoError self.now) e) }
         ensures empty { self.now.now ≡ [] → IsOk result }
     {
         serializer.serialize_str(alloc, self)
@@ -347,7 +360,8 @@ impl Serialize for Cid {
     #[inline(always)]
     fn serialize(&self, _alloc: Global, _serializer: Serializer) -> Result<Ipld, SerdeError>
         ensures ok { IfOk result (λ t. Some (link (link_of self.now)) ≡ Some (tree_of t)) }
-        ensures err { IfErr result (λ e. RejectsAs (Some (link (link_of self.now))) (NoError self.now) e) }
+        ensures err { IfErr result (λ e. RejectsAs (Some (link (link_of self.now)))
+            (NoError self.now) e) }
         ensures succeeds { IsOk result }
     {
         Ok(Ipld::Link(*self))

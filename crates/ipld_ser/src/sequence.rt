@@ -79,8 +79,10 @@ impl SerializeVec {
     /// That of the element, or [`SerdeError::Memory`].
     #[inline(always)]
     pub fn serialize_element<T: Serialize>(&mut self, value: &T) -> Result<(), SerdeError>
-        ensures ok { OnOk result (option_map (λ t. fed self.old ++ t ∷ []) (T.image value.now) ≡ Some (fed self.new)) }
-        ensures err { IfErr result (λ e. RejectsAs (T.image value.now) (T.write_error value.now) e) }
+        ensures ok { OnOk result (option_map (λ t. fed self.old ++ t ∷ []) (T.image value.now)
+            ≡ Some (fed self.new)) }
+        ensures err { IfErr result (λ e. RejectsAs (T.image value.now)
+            (T.write_error value.now) e) }
         ensures unchanged { OnErr result (fed self.new ≡ fed self.old) }
     {
         let item = value.serialize(self.alloc, Serializer)?;
@@ -95,8 +97,10 @@ impl SerializeVec {
     /// That of the field, or [`SerdeError::Memory`].
     #[inline(always)]
     pub fn serialize_field<T: Serialize>(&mut self, value: &T) -> Result<(), SerdeError>
-        ensures ok { OnOk result (option_map (λ t. fed self.old ++ t ∷ []) (T.image value.now) ≡ Some (fed self.new)) }
-        ensures err { IfErr result (λ e. RejectsAs (T.image value.now) (T.write_error value.now) e) }
+        ensures ok { OnOk result (option_map (λ t. fed self.old ++ t ∷ []) (T.image value.now)
+            ≡ Some (fed self.new)) }
+        ensures err { IfErr result (λ e. RejectsAs (T.image value.now)
+            (T.write_error value.now) e) }
         ensures unchanged { OnErr result (fed self.new ≡ fed self.old) }
     {
         self.serialize_element(value)

@@ -45,7 +45,8 @@ pub trait Serialize {
     /// [`Unwritten::Memory`] where an allocation failed. [`Unwritten::Rejected`] where the value has no image or the writer doesn't take
     /// it: [`serialize`](Serialize::serialize) says why.
     fn write_image<W: ImageWriter>(&self, alloc: Global, writer: &mut W) -> Result<(), Unwritten>
-        ensures { OnOk result (Appends (written_image W.written (image self.now)) (W.contents writer.old) (W.contents writer.new)) }
+        ensures { OnOk result (Appends (written_image W.written (image self.now))
+            (W.contents writer.old) (W.contents writer.new)) }
     {
         match self.serialize(alloc, Serializer) {
             Ok(tree) => {

@@ -28,12 +28,15 @@ trait Parts: Sized + Drop {
 
     // Writes them after the elements of the list.
     fn write(self, list: SerializeVec) -> Result<SerializeVec, SerdeError>
-        ensures ok { IfOk result (λ b. option_map (λ ts. fed list ++ ts) (all_of (images self)) ≡ Some (fed b)) }
-        ensures err { IfErr result (λ e. RejectsAs (all_of (images self)) (StructError (errors self)) e) };
+        ensures ok { IfOk result (λ b. option_map (λ ts. fed list ++ ts) (all_of (images self))
+            ≡ Some (fed b)) }
+        ensures err { IfErr result (λ e. RejectsAs (all_of (images self))
+            (StructError (errors self)) e) };
 
     // Writes them one after the other, with no head.
     fn write_each<W: ImageWriter>(self, alloc: Global, writer: &mut W) -> Result<(), Unwritten>
-        ensures { OnOk result (Appends (one_after_another (map (written_image W.written) (images self))) (W.contents writer.old) (W.contents writer.new)) };
+        ensures { OnOk result (Appends (one_after_another (map (written_image W.written)
+            (images self))) (W.contents writer.old) (W.contents writer.new)) };
 }
 
 impl Parts for () {
@@ -80,8 +83,10 @@ trait FrontParts: Parts {
         others: Q,
         list: SerializeVec,
     ) -> Result<SerializeVec, SerdeError>
-        ensures ok { IfOk result (λ b. option_map (λ ts. fed list ++ ts) (all_of (Self.images self ++ Q.images others)) ≡ Some (fed b)) }
-        ensures err { IfErr result (λ e. RejectsAs (all_of (Self.images self ++ Q.images others)) (StructError (Self.errors self ++ Q.errors others)) e) };
+        ensures ok { IfOk result (λ b. option_map (λ ts. fed list ++ ts)
+            (all_of (Self.images self ++ Q.images others)) ≡ Some (fed b)) }
+        ensures err { IfErr result (λ e. RejectsAs (all_of (Self.images self ++ Q.images others))
+            (StructError (Self.errors self ++ Q.errors others)) e) };
 
     // Writes them, and the others behind them, one after the other, with no head.
     fn write_each_before<Q: Parts, W: ImageWriter>(
@@ -90,7 +95,9 @@ trait FrontParts: Parts {
         alloc: Global,
         writer: &mut W,
     ) -> Result<(), Unwritten>
-        ensures { OnOk result (Appends (one_after_another (map (written_image W.written) (Self.images self ++ Q.images others))) (W.contents writer.old) (W.contents writer.new)) };
+        ensures { OnOk result (Appends (one_after_another (map (written_image W.written)
+            (Self.images self ++ Q.images others))) (W.contents writer.old) (W.contents writer.new))
+            };
 }
 
 impl FrontParts for () {
@@ -148,7 +155,8 @@ fn tuple_of<P: Parts, E: SerializeError>(
     parts: P,
 ) -> Result<Ipld, E>
     ensures ok { IfOk result (λ t. list_of (P.images parts) ≡ Some (tree_of t)) }
-    ensures err { IfErr result (λ e. RejectsAs (list_of (P.images parts)) (StructError (P.errors parts)) (E.reported e)) }
+    ensures err { IfErr result (λ e. RejectsAs (list_of (P.images parts))
+        (StructError (P.errors parts)) (E.reported e)) }
 {
     match list_of_parts(alloc, serializer, len, parts) {
         Ok(tree) => Ok(tree),
@@ -164,7 +172,8 @@ fn list_of_parts<P: Parts>(
     parts: P,
 ) -> Result<Ipld, SerdeError>
     ensures ok { IfOk result (λ t. list_of (P.images parts) ≡ Some (tree_of t)) }
-    ensures err { IfErr result (λ e. RejectsAs (list_of (P.images parts)) (StructError (P.errors parts)) e) }
+    ensures err { IfErr result (λ e. RejectsAs (list_of (P.images parts))
+        (StructError (P.errors parts)) e) }
 {
     let list = serializer.serialize_tuple(alloc, len)?;
     parts.write(list)?.end()
@@ -179,7 +188,8 @@ fn write_tuple<P: Parts, W: ImageWriter>(
     parts: P,
 ) -> Result<(), Unwritten>
     requires { len ≡ length (P.images parts) }
-    ensures { OnOk result (Appends (written_image W.written (list_of (P.images parts))) (W.contents writer.old) (W.contents writer.new)) }
+    ensures { OnOk result (Appends (written_image W.written (list_of (P.images parts)))
+        (W.contents writer.old) (W.contents writer.new)) }
 {
     writer.begin_list(len)?;
     parts.write_each(alloc, writer)
@@ -195,7 +205,8 @@ fn long_tuple_of<P: FrontParts, Q: Parts, E: SerializeError>(
     others: Q,
 ) -> Result<Ipld, E>
     ensures ok { IfOk result (λ t. list_of (P.images parts ++ Q.images others) ≡ Some (tree_of t)) }
-    ensures err { IfErr result (λ e. RejectsAs (list_of (P.images parts ++ Q.images others)) (StructError (P.errors parts ++ Q.errors others)) (E.reported e)) }
+    ensures err { IfErr result (λ e. RejectsAs (list_of (P.images parts ++ Q.images others))
+        (StructError (P.errors parts ++ Q.errors others)) (E.reported e)) }
 {
     match list_of_all(alloc, serializer, len, parts, others) {
         Ok(tree) => Ok(tree),
@@ -212,7 +223,8 @@ fn list_of_all<P: FrontParts, Q: Parts>(
     others: Q,
 ) -> Result<Ipld, SerdeError>
     ensures ok { IfOk result (λ t. list_of (P.images parts ++ Q.images others) ≡ Some (tree_of t)) }
-    ensures err { IfErr result (λ e. RejectsAs (list_of (P.images parts ++ Q.images others)) (StructError (P.errors parts ++ Q.errors others)) e) }
+    ensures err { IfErr result (λ e. RejectsAs (list_of (P.images parts ++ Q.images others))
+        (StructError (P.errors parts ++ Q.errors others)) e) }
 {
     let list = serializer.serialize_tuple(alloc, len)?;
     parts.write_before(others, list)?.end()
@@ -228,7 +240,9 @@ fn write_long_tuple<P: FrontParts, Q: Parts, W: ImageWriter>(
     others: Q,
 ) -> Result<(), Unwritten>
     requires { len ≡ length (P.images parts ++ Q.images others) }
-    ensures { OnOk result (Appends (written_image W.written (list_of (P.images parts ++ Q.images others))) (W.contents writer.old) (W.contents writer.new)) }
+    ensures { OnOk result (Appends (written_image W.written
+        (list_of (P.images parts ++ Q.images others))) (W.contents writer.old)
+        (W.contents writer.new)) }
 {
     writer.begin_list(len)?;
     parts.write_each_before(others, alloc, writer)

@@ -49,8 +49,10 @@ impl Serializer {
         variant: &str,
         value: &T,
     ) -> Result<Ipld, SerdeError>
-        ensures ok { IfOk result (λ t. option_map (variant_tree variant.now) (T.image value.now) ≡ Some (tree_of t)) }
-        ensures err { IfErr result (λ e. RejectsAs (T.image value.now) (T.write_error value.now) e) }
+        ensures ok { IfOk result (λ t. option_map (variant_tree variant.now) (T.image value.now)
+            ≡ Some (tree_of t)) }
+        ensures err { IfErr result (λ e. RejectsAs (T.image value.now)
+            (T.write_error value.now) e) }
     {
         let name = string_of(alloc, variant)?;
         let content = value.serialize(alloc, self)?;
@@ -125,8 +127,10 @@ impl SerializeTupleVariant {
     /// That of the field, or [`SerdeError::Memory`].
     #[inline(always)]
     pub fn serialize_field<T: Serialize>(&mut self, value: &T) -> Result<(), SerdeError>
-        ensures ok { OnOk result (option_map (λ t. variant_fed self.old ++ t ∷ []) (T.image value.now) ≡ Some (variant_fed self.new)) }
-        ensures err { IfErr result (λ e. RejectsAs (T.image value.now) (T.write_error value.now) e) }
+        ensures ok { OnOk result (option_map (λ t. variant_fed self.old ++ t ∷ [])
+            (T.image value.now) ≡ Some (variant_fed self.new)) }
+        ensures err { IfErr result (λ e. RejectsAs (T.image value.now)
+            (T.write_error value.now) e) }
         ensures unchanged { OnErr result (variant_fed self.new ≡ variant_fed self.old) }
         ensures name { tuple_name self.new ≡ tuple_name self.old }
     {
@@ -140,7 +144,8 @@ impl SerializeTupleVariant {
     /// [`SerdeError::Memory`] alone.
     #[inline(always)]
     pub fn end(self) -> Result<Ipld, SerdeError>
-        ensures ok { IfOk result (λ t. tree_of t ≡ variant_tree (tuple_name self) (list (as_items (variant_fed self)))) }
+        ensures ok { IfOk result (λ t. tree_of t ≡ variant_tree (tuple_name self)
+            (list (as_items (variant_fed self)))) }
         ensures err { IfErr result (λ e. e ≡ SerdeError.Memory) }
     {
         let content = self.list.end()?;
@@ -156,8 +161,10 @@ impl SerializeStructVariant {
     /// That of the value, or [`SerdeError::Memory`].
     #[inline(always)]
     pub fn serialize_field<T: Serialize>(&mut self, key: &str, value: &T) -> Result<(), SerdeError>
-        ensures ok { OnOk result (PutsImage key.now (T.image value.now) (variant_filed self.old) (variant_filed self.new)) }
-        ensures err { IfErr result (λ e. RejectsAs (T.image value.now) (T.write_error value.now) e) }
+        ensures ok { OnOk result (PutsImage key.now (T.image value.now) (variant_filed self.old)
+            (variant_filed self.new)) }
+        ensures err { IfErr result (λ e. RejectsAs (T.image value.now)
+            (T.write_error value.now) e) }
         ensures unchanged { OnErr result (variant_filed self.new ≡ variant_filed self.old) }
         ensures name { struct_name self.new ≡ struct_name self.old }
     {
@@ -171,7 +178,8 @@ impl SerializeStructVariant {
     /// [`SerdeError::Memory`] alone.
     #[inline(always)]
     pub fn end(self) -> Result<Ipld, SerdeError>
-        ensures ok { IfOk result (λ t. tree_of t ≡ variant_tree (struct_name self) (entries (variant_filed self))) }
+        ensures ok { IfOk result (λ t. tree_of t ≡ variant_tree (struct_name self)
+            (entries (variant_filed self))) }
         ensures err { IfErr result (λ e. e ≡ SerdeError.Memory) }
     {
         let content = self.map.end()?;

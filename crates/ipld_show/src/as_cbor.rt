@@ -20,7 +20,8 @@ use std::alloc::{AllocError, Global};
 
 // Adds the entry of a link's name, where it has one.
 fn write_name(block: &mut Vec<u8>, link: &PbLink<'_>) -> Result<(), AllocError>
-    ensures { OnOk result (Adds (written_entry (codes "Name") (option_map tree.text (parts_of_link link.now).name)) block.old.items block.new.items) }
+    ensures { OnOk result (Adds (written_entry (codes "Name") (option_map tree.text
+        (parts_of_link link.now).name)) block.old.items block.new.items) }
 {
     match link.name {
         Some(name) => {
@@ -34,7 +35,8 @@ fn write_name(block: &mut Vec<u8>, link: &PbLink<'_>) -> Result<(), AllocError>
 
 // Adds the entry of a link's size, where it has one.
 fn write_tsize(block: &mut Vec<u8>, link: &PbLink<'_>) -> Result<(), AllocError>
-    ensures { OnOk result (Adds (written_entry (codes "Tsize") (option_map (λ n. tree.integer (pos n)) link.now.tsize)) block.old.items block.new.items) }
+    ensures { OnOk result (Adds (written_entry (codes "Tsize")
+        (option_map (λ n. tree.integer (pos n)) link.now.tsize)) block.old.items block.new.items) }
 {
     match link.tsize {
         Some(tsize) => {
@@ -48,7 +50,8 @@ fn write_tsize(block: &mut Vec<u8>, link: &PbLink<'_>) -> Result<(), AllocError>
 
 // Adds the map of a link of DAG-PB.
 fn write_pb_link(block: &mut Vec<u8>, link: &PbLink<'_>) -> Result<(), AllocError>
-    ensures { OnOk result (Adds (canonical (link_tree (parts_of_link link.now))) block.old.items block.new.items) }
+    ensures { OnOk result (Adds (canonical (link_tree (parts_of_link link.now))) block.old.items
+        block.new.items) }
 {
     let entries = 1 + u64::from(link.name.is_some()) + u64::from(link.tsize.is_some());
     write_head(block, Major::Map, entries)?;
@@ -61,7 +64,8 @@ fn write_pb_link(block: &mut Vec<u8>, link: &PbLink<'_>) -> Result<(), AllocErro
 
 // Adds the maps of links of DAG-PB.
 fn write_pb_links(block: &mut Vec<u8>, links: &[PbLink<'_>]) -> Result<(), AllocError>
-    ensures { OnOk result (Adds (canonical_items (link_trees (map parts_of_link links.now))) block.old.items block.new.items) }
+    ensures { OnOk result (Adds (canonical_items (link_trees (map parts_of_link links.now)))
+        block.old.items block.new.items) }
 {
     for link in links {
         write_pb_link(block, link)?;
@@ -71,7 +75,8 @@ fn write_pb_links(block: &mut Vec<u8>, links: &[PbLink<'_>]) -> Result<(), Alloc
 
 // Adds the entry of a node's data, where it has any.
 fn write_data(block: &mut Vec<u8>, node: &PbNode<'_>) -> Result<(), AllocError>
-    ensures { OnOk result (Adds (written_entry (codes "Data") (option_map tree.bytes (parts_of_node node.now).content)) block.old.items block.new.items) }
+    ensures { OnOk result (Adds (written_entry (codes "Data") (option_map tree.bytes
+        (parts_of_node node.now).content)) block.old.items block.new.items) }
 {
     match node.data {
         Some(data) => {
@@ -85,7 +90,8 @@ fn write_data(block: &mut Vec<u8>, node: &PbNode<'_>) -> Result<(), AllocError>
 
 // Adds the map of a node of DAG-PB.
 fn write_pb_node(block: &mut Vec<u8>, node: &PbNode<'_>) -> Result<(), AllocError>
-    ensures { OnOk result (Adds (canonical (node_tree (parts_of_node node.now))) block.old.items block.new.items) }
+    ensures { OnOk result (Adds (canonical (node_tree (parts_of_node node.now))) block.old.items
+        block.new.items) }
 {
     write_head(block, Major::Map, 1 + u64::from(node.data.is_some()))?;
     write_data(block, node)?;

@@ -18,7 +18,8 @@ use std::io::Write;
 
 // The tree of a block of this codec as a valid block of DAG-CBOR, unless it is one itself.
 fn as_cbor(alloc: Global, codec: BlockCodec, bytes: &[u8]) -> Result<Option<Vec<u8>>, ShowError>
-    ensures made { IfOk result (λ made. MatchOption made (IsCborOf codec bytes.now bytes.now) (λ block. IsCborOf codec bytes.now block.items)) }
+    ensures made { IfOk result (λ made. MatchOption made (IsCborOf codec bytes.now bytes.now)
+        (λ block. IsCborOf codec bytes.now block.items)) }
     ensures rejected { IfErr result (IsNoBlock codec bytes.now) }
 {
     match codec {
@@ -53,7 +54,8 @@ fn cbor_or<'a>(made: &'a Option<Vec<u8>>, bytes: &'a [u8]) -> &'a [u8]
 
 fn write_json_line<W: Write>(alloc: Global, value: &[u8], writer: &mut W) -> Result<(), ShowError>
     ensures { (d : DataItem) (behind : List ℕ) → BeginsWithItem d value.now behind
-        → MatchResult result (λ _. (t : List ℕ) × IsJson d t × Appends (W.contents writer.old) (W.contents writer.new) (t ++ codes "\n")) (IsJsonError d) }
+        → MatchResult result (λ _. (t : List ℕ) × IsJson d t × Appends (W.contents writer.old)
+        (W.contents writer.new) (t ++ codes "\n")) (IsJsonError d) }
 {
     match write_json(alloc, value, writer) {
         Ok(()) => {
@@ -72,9 +74,13 @@ fn show_at<W: Write>(
     json: bool,
     writer: &mut W,
 ) -> Result<(), ShowError>
-    ensures shown { (d : DataItem) → BeginsWithItem d block.now [] → json ≡ false → IsTreeAt d path.now result (W.contents writer.old) (W.contents writer.new) }
-    ensures shown_as_json { (d : DataItem) → BeginsWithItem d block.now [] → json ≡ true → IsJsonAt d path.now result (W.contents writer.old) (W.contents writer.new) }
-    ensures unwritten { (d : DataItem) → BeginsWithItem d block.now [] → IfErr result (λ error. IsUnwritten error (W.contents writer.old) (W.contents writer.new)) }
+    ensures shown { (d : DataItem) → BeginsWithItem d block.now [] → json ≡ false
+        → IsTreeAt d path.now result (W.contents writer.old) (W.contents writer.new) }
+    ensures shown_as_json { (d : DataItem) → BeginsWithItem d block.now [] → json ≡ true
+        → IsJsonAt d path.now result (W.contents writer.old) (W.contents writer.new) }
+    ensures unwritten { (d : DataItem) → BeginsWithItem d block.now []
+        → IfErr result (λ error. IsUnwritten error (W.contents writer.old)
+        (W.contents writer.new)) }
 {
     let value = match value_at(block, path) {
         Ok(value) => value,
@@ -102,9 +108,12 @@ pub fn show<W: Write>(
     json: bool,
     writer: &mut W,
 ) -> Result<(), ShowError>
-    ensures shown { json ≡ false → OfBlock codec bytes.now result (λ d. IsTreeAt d path.now result (W.contents writer.old) (W.contents writer.new)) }
-    ensures shown_as_json { json ≡ true → OfBlock codec bytes.now result (λ d. IsJsonAt d path.now result (W.contents writer.old) (W.contents writer.new)) }
-    ensures unwritten { IfErr result (λ error. IsUnwritten error (W.contents writer.old) (W.contents writer.new)) }
+    ensures shown { json ≡ false → OfBlock codec bytes.now result (λ d. IsTreeAt d path.now result
+        (W.contents writer.old) (W.contents writer.new)) }
+    ensures shown_as_json { json ≡ true → OfBlock codec bytes.now result (λ d.
+        IsJsonAt d path.now result (W.contents writer.old) (W.contents writer.new)) }
+    ensures unwritten { IfErr result (λ error. IsUnwritten error (W.contents writer.old)
+        (W.contents writer.new)) }
 {
     match as_cbor(alloc, codec, bytes) {
         Ok(made) => show_at(alloc, cbor_or(&made, bytes), path, json, writer),

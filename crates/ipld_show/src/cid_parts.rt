@@ -26,7 +26,8 @@ fn write_in_base<W: Write>(
     base: Base,
     writer: &mut W,
 ) -> Result<(), ShowError>
-    ensures { MatchResult result (λ _. (t : List ℕ) × IsBaseLine base label.now (link_of cid.now) t × Appends (W.contents writer.old) (W.contents writer.new) t) IsOutputError }
+    ensures { MatchResult result (λ _. (t : List ℕ) × IsBaseLine base label.now (link_of cid.now) t
+        × Appends (W.contents writer.old) (W.contents writer.new) t) IsOutputError }
 {
     match to_string_of_base(alloc, cid, base) {
         Ok(text) => {
@@ -48,7 +49,8 @@ fn write_code<W: Write>(
     code: u64,
     writer: &mut W,
 ) -> Result<(), ShowError>
-    ensures { MatchResult result (λ _. Appends (W.contents writer.old) (W.contents writer.new) (line label.now (code_text (option_map (λ s. s.now) name.entry) code))) IsOutputError }
+    ensures { MatchResult result (λ _. Appends (W.contents writer.old) (W.contents writer.new)
+        (line label.now (code_text (option_map (λ s. s.now) name.entry) code))) IsOutputError }
 {
     writer.write_all(label)?;
     match name {
@@ -60,7 +62,8 @@ fn write_code<W: Write>(
 
 // A line of bytes in hexadecimal digits.
 fn write_hex_line<W: Write>(label: &[u8], bytes: &[u8], writer: &mut W) -> Result<(), ShowError>
-    ensures { MatchResult result (λ _. Appends (W.contents writer.old) (W.contents writer.new) (line label.now (hex_text bytes.now))) IsOutputError }
+    ensures { MatchResult result (λ _. Appends (W.contents writer.old) (W.contents writer.new)
+        (line label.now (hex_text bytes.now))) IsOutputError }
 {
     writer.write_all(label)?;
     write_hex(writer, bytes)?;
@@ -70,7 +73,8 @@ fn write_hex_line<W: Write>(label: &[u8], bytes: &[u8], writer: &mut W) -> Resul
 
 // The line of a CID's text.
 fn write_text<W: Write>(alloc: Global, cid: &Cid, writer: &mut W) -> Result<(), ShowError>
-    ensures { MatchResult result (λ _. Appends (W.contents writer.old) (W.contents writer.new) (line (codes "cid         ") (usual_text (link_of cid.now)))) IsOutputError }
+    ensures { MatchResult result (λ _. Appends (W.contents writer.old) (W.contents writer.new)
+        (line (codes "cid         ") (usual_text (link_of cid.now)))) IsOutputError }
 {
     writer.write_all(b"cid         ")?;
     write_cid(alloc, writer, cid)?;
@@ -79,7 +83,8 @@ fn write_text<W: Write>(alloc: Global, cid: &Cid, writer: &mut W) -> Result<(), 
 }
 
 fn write_version<W: Write>(version: Version, writer: &mut W) -> Result<(), ShowError>
-    ensures { MatchResult result (λ _. Appends (W.contents writer.old) (W.contents writer.new) (line (codes "version     ") (version_text version))) IsOutputError }
+    ensures { MatchResult result (λ _. Appends (W.contents writer.old) (W.contents writer.new)
+        (line (codes "version     ") (version_text version))) IsOutputError }
 {
     match version {
         Version::V0 => writer.write_all(b"version     0\n")?,
@@ -90,7 +95,8 @@ fn write_version<W: Write>(version: Version, writer: &mut W) -> Result<(), ShowE
 
 // The lines of a CID's parts.
 fn write_parts<W: Write>(alloc: Global, cid: &Cid, writer: &mut W) -> Result<(), ShowError>
-    ensures { MatchResult result (λ _. (hash : Option (List ℕ)) × Appends (W.contents writer.old) (W.contents writer.new) (part_lines hash (link_of cid.now))) IsOutputError }
+    ensures { MatchResult result (λ _. (hash : Option (List ℕ)) × Appends (W.contents writer.old)
+        (W.contents writer.new) (part_lines hash (link_of cid.now))) IsOutputError }
 {
     let bytes = cid.to_bytes(alloc)?;
     write_text(alloc, cid, writer)?;
@@ -106,7 +112,8 @@ fn write_parts<W: Write>(alloc: Global, cid: &Cid, writer: &mut W) -> Result<(),
 
 // The lines of a CID's text in each base.
 fn write_bases<W: Write>(alloc: Global, cid: &Cid, writer: &mut W) -> Result<(), ShowError>
-    ensures { MatchResult result (λ _. (t : List ℕ) × AreBaseLines (link_of cid.now) t × Appends (W.contents writer.old) (W.contents writer.new) t) IsOutputError }
+    ensures { MatchResult result (λ _. (t : List ℕ) × AreBaseLines (link_of cid.now) t
+        × Appends (W.contents writer.old) (W.contents writer.new) t) IsOutputError }
 {
     write_in_base(alloc, cid, b"base16      ", Base::Base16Lower, writer)?;
     write_in_base(alloc, cid, b"base32      ", Base::Base32Lower, writer)?;
@@ -123,7 +130,8 @@ fn write_bases<W: Write>(alloc: Global, cid: &Cid, writer: &mut W) -> Result<(),
 ///
 /// `Write` where the writer failed, `Memory` where an allocation did.
 pub fn write_cid_parts<W: Write>(alloc: Global, cid: &Cid, writer: &mut W) -> Result<(), ShowError>
-    ensures { MatchResult result (λ _. (t : List ℕ) × AreCidParts (link_of cid.now) t × Appends (W.contents writer.old) (W.contents writer.new) t) IsOutputError }
+    ensures { MatchResult result (λ _. (t : List ℕ) × AreCidParts (link_of cid.now) t
+        × Appends (W.contents writer.old) (W.contents writer.new) t) IsOutputError }
 {
     write_parts(alloc, cid, writer)?;
     write_bases(alloc, cid, writer)?;
@@ -142,9 +150,12 @@ pub fn write_cid_of_block<W: Write>(
     bytes: &[u8],
     writer: &mut W,
 ) -> Result<(), ShowError>
-    ensures written { OnOk result (IsBlock codec bytes.now × (code : ℕ) × (codec_of_code code ≡ Some codec)
-        × Appends (W.contents writer.old) (W.contents writer.new) (usual_text (cid_of_block code bytes.now) ++ codes "\n")) }
-    ensures rejected { IfErr result (λ error. IsCidError codec bytes.now error (W.contents writer.old) (W.contents writer.new)) }
+    ensures written { OnOk result (IsBlock codec bytes.now × (code : ℕ)
+        × (codec_of_code code ≡ Some codec)
+        × Appends (W.contents writer.old) (W.contents writer.new)
+        (usual_text (cid_of_block code bytes.now) ++ codes "\n")) }
+    ensures rejected { IfErr result (λ error. IsCidError codec bytes.now error
+        (W.contents writer.old) (W.contents writer.new)) }
 {
     match check(alloc, codec, bytes) {
         Ok(()) => {}

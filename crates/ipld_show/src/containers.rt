@@ -35,8 +35,11 @@ fn begin_item(
     head: &ItemHead<'_>,
     left: usize,
 ) -> Result<(), AllocError>
-    ensures { (d : DataItem) (after more : List ℕ) (all : List Extent) → IsHeadOf head.now d after more → IsDataItem d → length after ≤ left → left ≡ length (encoding d) + length more
-        → Pending opened.old.items more (containers.old.items ++ extents d) all → OnOk result (Pending opened.new.items after containers.new.items all) }
+    ensures { (d : DataItem) (after more : List ℕ) (all : List Extent)
+        → IsHeadOf head.now d after more → IsDataItem d → length after ≤ left
+        → left ≡ length (encoding d) + length more
+        → Pending opened.old.items more (containers.old.items ++ extents d) all
+        → OnOk result (Pending opened.new.items after containers.new.items all) }
 {
     match head {
         ItemHead::List(_) | ItemHead::Map(_) => {
@@ -70,7 +73,8 @@ fn end_finished(
     containers: &mut Vec<Extent>,
     left: usize,
 ) -> Result<(), AllocError>
-    ensures { (all : List Extent) (rest : List ℕ) → left ≡ length rest → Pending opened.old.items rest containers.old.items all
+    ensures { (all : List Extent) (rest : List ℕ) → left ≡ length rest
+        → Pending opened.old.items rest containers.old.items all
         → OnOk result (Following opened.new.items rest containers.new.items all) }
 {
     while let Some(innermost) = opened.pop() {
@@ -89,7 +93,8 @@ fn end_finished(
 
 // The lists and maps of the value at the front, in the order in which they begin.
 pub(crate) fn containers_of(alloc: Global, value: &[u8]) -> Result<Vec<Extent>, ShowError>
-    ensures { (d : DataItem) (behind : List ℕ) → BeginsWithItem d value.now behind → MatchResult result (λ containers. containers.items ≡ extents d) IsOutputError }
+    ensures { (d : DataItem) (behind : List ℕ) → BeginsWithItem d value.now behind
+        → MatchResult result (λ containers. containers.items ≡ extents d) IsOutputError }
 {
     let mut containers = Vec::new(alloc);
     let mut opened = Vec::new(alloc);

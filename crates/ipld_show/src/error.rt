@@ -78,8 +78,10 @@ fn write_number<W: fmt::Write>(
     number: usize,
     after: &str,
 ) -> fmt::Result
-    ensures writes { WritesOnOk W.write_str_gives f.old result (before.now ++ (decimal number ++ after.now)) f.new }
-    ensures styled { WritesStyledOnOk W.write_str_gives f.old result (before.now ++ (decimal number ++ after.now)) f.new }
+    ensures writes { WritesOnOk W.write_str_gives f.old result
+        (before.now ++ (decimal number ++ after.now)) f.new }
+    ensures styled { WritesStyledOnOk W.write_str_gives f.old result
+        (before.now ++ (decimal number ++ after.now)) f.new }
 {
     f.write_str(before)?;
     f.write_str(Buffer::new().format(number))?;

@@ -47,7 +47,8 @@ fn write_bytes_object<W: Write>(
     writer: &mut W,
     bytes: &[u8],
 ) -> Result<(), ShowError>
-    ensures { MatchResult result (λ _. Appends (W.contents writer.old) (W.contents writer.new) (bytes_json bytes.now)) IsOutputError }
+    ensures { MatchResult result (λ _. Appends (W.contents writer.old) (W.contents writer.new)
+        (bytes_json bytes.now)) IsOutputError }
 {
     let text = STANDARD_NO_PAD.encode(alloc, bytes)?;
     writer.write_all(b"{\"/\":{\"bytes\":\"")?;
@@ -58,7 +59,9 @@ fn write_bytes_object<W: Write>(
 
 // A link by the bytes of its CID, which is an object.
 fn write_link_object<W: Write>(alloc: Global, writer: &mut W, bytes: &[u8]) -> Result<(), ShowError>
-    ensures { (cid : Link) → IsCid 64 bytes.now cid → MatchResult result (λ _. Appends (W.contents writer.old) (W.contents writer.new) (link_json cid)) IsOutputError }
+    ensures { (cid : Link) → IsCid 64 bytes.now cid
+        → MatchResult result (λ _. Appends (W.contents writer.old) (W.contents writer.new)
+        (link_json cid)) IsOutputError }
 {
     writer.write_all(b"{\"/\":\"")?;
     match write_cid_bytes(alloc, writer, bytes) {
@@ -76,7 +79,8 @@ fn write_scalar<W: Write>(
     writer: &mut W,
     head: &ItemHead<'_>,
 ) -> Result<(), ShowError>
-    ensures { HasCid head.now → MatchResult result (λ _. (t : List ℕ) × IsHeadJson head.now t × Appends (W.contents writer.old) (W.contents writer.new) t) IsOutputError }
+    ensures { HasCid head.now → MatchResult result (λ _. (t : List ℕ) × IsHeadJson head.now t
+        × Appends (W.contents writer.old) (W.contents writer.new) t) IsOutputError }
 {
     match head {
         ItemHead::Null | ItemHead::List(_) | ItemHead::Map(_) => writer.write_all(b"null")?,
@@ -99,8 +103,11 @@ fn enter_list<'a, W: Write>(
     frames: &mut Vec<Frame<'a>>,
     writer: &mut W,
 ) -> Result<Place<'a>, ShowError>
-    ensures { (whole : DataItem) (total : ℕ) (w : List ℕ) (n : ℕ) (c : Coming whole total (reverse frames.old.items) place.entry w n) → IsHeadOf (begin.List items) c.value rest.now c.part.mid
-        → MatchResult result (λ inner. Wrote whole total (reverse frames.new.items) inner false w n (W.contents writer.old) (W.contents writer.new)) IsOutputError }
+    ensures { (whole : DataItem) (total : ℕ) (w : List ℕ) (n : ℕ) (c : Coming whole total
+        (reverse frames.old.items) place.entry w n)
+        → IsHeadOf (begin.List items) c.value rest.now c.part.mid
+        → MatchResult result (λ inner. Wrote whole total (reverse frames.new.items) inner false w n
+        (W.contents writer.old) (W.contents writer.new)) IsOutputError }
 {
     writer.write_all(b"[")?;
     frames.push(Frame::List(items))?;
@@ -117,8 +124,11 @@ fn enter_map<'a, W: Write>(
     frames: &mut Vec<Frame<'a>>,
     writer: &mut W,
 ) -> Result<(), ShowError>
-    ensures { (whole : DataItem) (w : List ℕ) (n : ℕ) (c : Coming whole total (reverse frames.old.items) place.entry w n) → IsHeadOf (begin.Map count) c.value rest.now c.part.mid
-        → MatchResult result (λ _. Wrote whole total (reverse frames.new.items) place.entry false w n (W.contents writer.old) (W.contents writer.new)) (IsJsonError whole) }
+    ensures { (whole : DataItem) (w : List ℕ) (n : ℕ) (c : Coming whole total
+        (reverse frames.old.items) place.entry w n)
+        → IsHeadOf (begin.Map count) c.value rest.now c.part.mid
+        → MatchResult result (λ _. Wrote whole total (reverse frames.new.items) place.entry false w
+        n (W.contents writer.old) (W.contents writer.new)) (IsJsonError whole) }
 {
     let mut entries = match entries_at(alloc, count, first_place(place, rest)) {
         Ok(entries) => entries,
@@ -146,8 +156,10 @@ fn write_value<'a, W: Write>(
     frames: &mut Vec<Frame<'a>>,
     writer: &mut W,
 ) -> Result<(Place<'a>, bool), ShowError>
-    ensures { (whole : DataItem) (w : List ℕ) (n : ℕ) → Coming whole total (reverse frames.old.items) place.entry w n
-        → MatchResult result (λ wrote. Wrote whole total (reverse frames.new.items) wrote.0 wrote.1 w n (W.contents writer.old) (W.contents writer.new)) (IsJsonError whole) }
+    ensures { (whole : DataItem) (w : List ℕ) (n : ℕ)
+        → Coming whole total (reverse frames.old.items) place.entry w n
+        → MatchResult result (λ wrote. Wrote whole total (reverse frames.new.items) wrote.0 wrote.1
+        w n (W.contents writer.old) (W.contents writer.new)) (IsJsonError whole) }
 {
     let Ok((head, rest)) = read_item(place.rest) else {
         return Err(unchecked_error());
@@ -178,7 +190,8 @@ fn write_value<'a, W: Write>(
 
 // What stands between two values of a list or a map.
 fn write_comma<W: Write>(writer: &mut W, others: bool) -> Result<(), ShowError>
-    ensures { MatchResult result (λ _. Appends (W.contents writer.old) (W.contents writer.new) (comma others)) IsOutputError }
+    ensures { MatchResult result (λ _. Appends (W.contents writer.old) (W.contents writer.new)
+        (comma others)) IsOutputError }
 {
     if others {
         writer.write_all(b",")?;
@@ -188,7 +201,8 @@ fn write_comma<W: Write>(writer: &mut W, others: bool) -> Result<(), ShowError>
 
 // The key of a value in a map.
 fn write_key<W: Write>(writer: &mut W, key: &str) -> Result<(), ShowError>
-    ensures { MatchResult result (λ _. Appends (W.contents writer.old) (W.contents writer.new) (key_json key.now)) IsOutputError }
+    ensures { MatchResult result (λ _. Appends (W.contents writer.old) (W.contents writer.new)
+        (key_json key.now)) IsOutputError }
 {
     write_string(writer, key, false)?;
     writer.write_all(b":")?;
@@ -204,8 +218,11 @@ fn write_next_item<'a, W: Write>(
     writer: &mut W,
 ) -> Result<Step<'a>, ShowError>
     ensures kept { IfOk result (λ step. LeavesIt step (vec_len frames.old) (vec_len frames.new)) }
-    ensures goes_on { (whole : DataItem) (total : ℕ) (w : List ℕ) (n : ℕ) → Behind whole total (Frame.List items ∷ reverse frames.old.items) place.entry.rest.now place.entry.containers.now others w n
-        → MatchResult result (λ step. Steps whole total (reverse frames.new.items) step w n (W.contents writer.old) (W.contents writer.new)) IsOutputError }
+    ensures goes_on { (whole : DataItem) (total : ℕ) (w : List ℕ) (n : ℕ)
+        → Behind whole total (Frame.List items ∷ reverse frames.old.items) place.entry.rest.now
+        place.entry.containers.now others w n
+        → MatchResult result (λ step. Steps whole total (reverse frames.new.items) step w n
+        (W.contents writer.old) (W.contents writer.new)) IsOutputError }
 {
     if items > 0 {
         write_comma(writer, others)?;
@@ -225,9 +242,12 @@ fn write_next_member<'a, W: Write>(
     writer: &mut W,
 ) -> Result<Step<'a>, ShowError>
     ensures kept { IfOk result (λ step. LeavesIt step (vec_len frames.old) (vec_len frames.new)) }
-    ensures goes_on { (whole : DataItem) (total : ℕ) (w : List ℕ) (n : ℕ) (rest : List ℕ) (listed : List Extent)
-        → Behind whole total (Frame.Map entries.entry after.entry ∷ reverse frames.old.items) rest listed others w n
-        → MatchResult result (λ step. Steps whole total (reverse frames.new.items) step w n (W.contents writer.old) (W.contents writer.new)) IsOutputError }
+    ensures goes_on { (whole : DataItem) (total : ℕ) (w : List ℕ) (n : ℕ) (rest : List ℕ)
+        (listed : List Extent)
+        → Behind whole total (Frame.Map entries.entry after.entry ∷ reverse frames.old.items) rest
+        listed others w n
+        → MatchResult result (λ step. Steps whole total (reverse frames.new.items) step w n
+        (W.contents writer.old) (W.contents writer.new)) IsOutputError }
 {
     match entries.pop() {
         Some(entry) => {
@@ -252,8 +272,11 @@ fn write_next<'a, W: Write>(
     writer: &mut W,
 ) -> Result<Step<'a>, ShowError>
     ensures kept { IfOk result (λ step. LeavesIt step (vec_len frames.old) (vec_len frames.new)) }
-    ensures goes_on { (whole : DataItem) (total : ℕ) (w : List ℕ) (n : ℕ) → Behind whole total (frame.entry ∷ reverse frames.old.items) place.entry.rest.now place.entry.containers.now others w n
-        → MatchResult result (λ step. Steps whole total (reverse frames.new.items) step w n (W.contents writer.old) (W.contents writer.new)) IsOutputError }
+    ensures goes_on { (whole : DataItem) (total : ℕ) (w : List ℕ) (n : ℕ)
+        → Behind whole total (frame.entry ∷ reverse frames.old.items) place.entry.rest.now
+        place.entry.containers.now others w n
+        → MatchResult result (λ step. Steps whole total (reverse frames.new.items) step w n
+        (W.contents writer.old) (W.contents writer.new)) IsOutputError }
 {
     match frame {
         Frame::List(items) => write_next_item(items, place, others, frames, writer),
@@ -268,8 +291,11 @@ fn next_value_place<'a, W: Write>(
     others: bool,
     writer: &mut W,
 ) -> Result<Option<Place<'a>>, ShowError>
-    ensures { (whole : DataItem) (total : ℕ) (w : List ℕ) (n : ℕ) → Behind whole total (reverse frames.old.items) ended.entry.rest.now ended.entry.containers.now others w n
-        → MatchResult result (λ next. Leads whole total (reverse frames.new.items) next w n (W.contents writer.old) (W.contents writer.new)) IsOutputError }
+    ensures { (whole : DataItem) (total : ℕ) (w : List ℕ) (n : ℕ)
+        → Behind whole total (reverse frames.old.items) ended.entry.rest.now
+        ended.entry.containers.now others w n
+        → MatchResult result (λ next. Leads whole total (reverse frames.new.items) next w n
+        (W.contents writer.old) (W.contents writer.new)) IsOutputError }
 {
     let mut place = ended;
     let mut others = others;
@@ -302,7 +328,8 @@ fn next_value_place<'a, W: Write>(
 /// - `Write` where the writer failed, `Memory` where an allocation did. Of bytes that are no valid block it may be `Invalid` or `Cid`.
 pub fn write_json<W: Write>(alloc: Global, value: &[u8], writer: &mut W) -> Result<(), ShowError>
     ensures { (d : DataItem) (behind : List ℕ) → BeginsWithItem d value.now behind
-        → MatchResult result (λ _. (t : List ℕ) × IsJson d t × Appends (W.contents writer.old) (W.contents writer.new) t) (IsJsonError d) }
+        → MatchResult result (λ _. (t : List ℕ) × IsJson d t × Appends (W.contents writer.old)
+        (W.contents writer.new) t) (IsJsonError d) }
 {
     let containers = match containers_of(alloc, value) {
         Ok(containers) => containers,

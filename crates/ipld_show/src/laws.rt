@@ -13,6 +13,8 @@ ghost use Rattle.ipld_show.specs.DataItem.{DataItem, BeginsWithItem, tree_of};
 /// - Bytes begin with one data item alone.
 pub fn item_law()
     ensures of_block { (block : List ℕ) → error_in true block ≡ None
-        → (d : DataItem) × (t : Tree) × BeginsWithItem d block [] × (tree_of d ≡ Some t) × EncodesTreeIn true t block }
-    ensures once { (d e : DataItem) (bytes rest behind : List ℕ) → BeginsWithItem d bytes rest → BeginsWithItem e bytes behind → d ≡ e }
+        → (d : DataItem) × (t : Tree) × BeginsWithItem d block [] × (tree_of d ≡ Some t)
+        × EncodesTreeIn true t block }
+    ensures once { (d e : DataItem) (bytes rest behind : List ℕ) → BeginsWithItem d bytes rest
+        → BeginsWithItem e bytes behind → d ≡ e }
 {}

@@ -28,7 +28,8 @@ pub(crate) fn items_in(head: &ItemHead<'_>) -> u64
 // How many bytes the item has that the bytes begin with.
 pub(crate) fn item_size(bytes: &[u8]) -> Result<usize, ShowError>
     ensures within { IfOk result (λ size. size ≤ length bytes.now) }
-    ensures exact { (d : DataItem) (behind : List ℕ) → BeginsWithItem d bytes.now behind → MatchResult result (λ size. size ≡ length (encoding d)) (λ _. ⊥) }
+    ensures exact { (d : DataItem) (behind : List ℕ) → BeginsWithItem d bytes.now behind
+        → MatchResult result (λ size. size ≡ length (encoding d)) (λ _. ⊥) }
 {
     let size = bytes.len();
     let mut rest = bytes;
@@ -45,7 +46,8 @@ pub(crate) fn item_size(bytes: &[u8]) -> Result<usize, ShowError>
 
 // The value of the entry with this key, of so many entries.
 fn entry_at<'a>(entries: u64, bytes: &'a [u8], name: &str) -> Result<Option<&'a [u8]>, ShowError>
-    ensures { (es : DataEntries) (behind : List ℕ) → AreDataEntries es → entries ≡ entry_count es → bytes.now ≡ entries_encoding es ++ behind → Finds (value_under name.now es) result }
+    ensures { (es : DataEntries) (behind : List ℕ) → AreDataEntries es → entries ≡ entry_count es
+        → bytes.now ≡ entries_encoding es ++ behind → Finds (value_under name.now es) result }
 {
     let mut rest = bytes;
     let mut left = entries;
@@ -71,7 +73,9 @@ fn parse_index(segment: &str) -> Option<u64>
 
 // The item at the index that a segment means, of so many items.
 fn item_at<'a>(items: u64, bytes: &'a [u8], segment: &str) -> Result<Option<&'a [u8]>, ShowError>
-    ensures { (ds : DataItems) (behind : List ℕ) → AreDataItems ds → items ≡ item_count ds → bytes.now ≡ items_encoding ds ++ behind → Finds (item_numbered (number_of segment.now) ds) result }
+    ensures { (ds : DataItems) (behind : List ℕ) → AreDataItems ds → items ≡ item_count ds
+        → bytes.now ≡ items_encoding ds ++ behind
+        → Finds (item_numbered (number_of segment.now) ds) result }
 {
     let Some(index) = parse_index(segment) else {
         return Ok(None);
@@ -109,7 +113,8 @@ fn value_of_segment<'a>(
     segment: &str,
     number: usize,
 ) -> Result<&'a [u8], ShowError>
-    ensures { (d : DataItem) (behind : List ℕ) → BeginsWithItem d value.now behind → LeadsTo (at_segment number segment.now d) result }
+    ensures { (d : DataItem) (behind : List ℕ) → BeginsWithItem d value.now behind
+        → LeadsTo (at_segment number segment.now d) result }
 {
     let Ok((head, rest)) = read_item(value) else {
         return Err(unchecked_error());
@@ -130,7 +135,8 @@ fn enter_segment<'a>(
     requires { before + length part.now < 2 ^ 64 }
     ensures passed { IfOk result (λ inner. inner.1 ≤ before + length part.now) }
     ensures exact { (d : DataItem) (behind : List ℕ) → BeginsWithItem d value.now behind
-        → LeadsBehind (at_segments before (parts_in (part.now ∷ [])) d) (before + length (parts_in (part.now ∷ []))) result }
+        → LeadsBehind (at_segments before (parts_in (part.now ∷ [])) d)
+        (before + length (parts_in (part.now ∷ []))) result }
 {
     if part.is_empty() {
         return Ok((value, before));
@@ -154,7 +160,8 @@ fn enter_segment<'a>(
 /// `NoSegment` and `NotAContainer` with the number of the first segment that leads to nothing. Of bytes that are no valid block it may be
 /// `Invalid`.
 pub fn value_at<'a>(block: &'a [u8], path: &str) -> Result<&'a [u8], ShowError>
-    ensures { (d : DataItem) (behind : List ℕ) → BeginsWithItem d block.now behind → LeadsTo (at_segments 0 (segments path.now) d) result }
+    ensures { (d : DataItem) (behind : List ℕ) → BeginsWithItem d block.now behind
+        → LeadsTo (at_segments 0 (segments path.now) d) result }
 {
     let mut value = block;
     let mut before = 0usize;
@@ -186,7 +193,8 @@ pub struct LinkOnPath {
 
 // The link that the value at the front is, if it is one.
 fn link_of_value(value: &[u8]) -> Result<Option<Cid>, ShowError>
-    ensures { (d : DataItem) (behind : List ℕ) → BeginsWithItem d value.now behind → MatchResult result (λ cid. option_map link_of cid ≡ link_in d) (λ _. ⊥) }
+    ensures { (d : DataItem) (behind : List ℕ) → BeginsWithItem d value.now behind
+        → MatchResult result (λ cid. option_map link_of cid ≡ link_in d) (λ _. ⊥) }
 {
     let Ok((head, _)) = read_item(value) else {
         return Err(unchecked_error());
@@ -202,7 +210,8 @@ fn link_of_value(value: &[u8]) -> Result<Option<Cid>, ShowError>
 
 // The link that a path goes on behind, where it led to the value with so many segments, and to nothing with one more.
 fn link_or(value: &[u8], segments: usize, error: ShowError) -> Result<Option<LinkOnPath>, ShowError>
-    ensures { (d : DataItem) (behind : List ℕ) → BeginsWithItem d value.now behind → IsLinkOr (link_in d) segments error result }
+    ensures { (d : DataItem) (behind : List ℕ) → BeginsWithItem d value.now behind
+        → IsLinkOr (link_in d) segments error result }
 {
     match link_of_value(value) {
         Ok(Some(cid)) => Ok(Some(LinkOnPath { cid, segments })),
@@ -213,7 +222,8 @@ fn link_or(value: &[u8], segments: usize, error: ShowError) -> Result<Option<Lin
 
 // The first link that a path leads through in a block that is known to be valid.
 pub(crate) fn link_before_end(block: &[u8], path: &str) -> Result<Option<LinkOnPath>, ShowError>
-    ensures { (d : DataItem) (behind : List ℕ) → BeginsWithItem d block.now behind → IsLinkOnPath d path.now result }
+    ensures { (d : DataItem) (behind : List ℕ) → BeginsWithItem d block.now behind
+        → IsLinkOnPath d path.now result }
 {
     let mut value = block;
     let mut before = 0usize;

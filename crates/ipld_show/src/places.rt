@@ -29,7 +29,8 @@ pub(crate) struct Entry<'a> {
 #[inline(always)]
 pub(crate) fn first_place<'a>(place: Place<'a>, rest: &'a [u8]) -> Place<'a>
     ensures rest { result.rest.now ≡ rest.now }
-    ensures containers { (x : Extent) (inner : List Extent) → place.entry.containers.now ≡ x ∷ inner → result.containers.now ≡ inner }
+    ensures containers { (x : Extent) (inner : List Extent) → place.entry.containers.now ≡ x ∷ inner
+        → result.containers.now ≡ inner }
 {
     let containers = match place.containers {
         [_, inner @ ..] => inner,
@@ -40,7 +41,8 @@ pub(crate) fn first_place<'a>(place: Place<'a>, rest: &'a [u8]) -> Place<'a>
 
 // What follows the list or the map at a place.
 pub(crate) fn after_container(place: Place<'_>) -> Option<Place<'_>>
-    ensures { (d : DataItem) (mid : List ℕ) (post : List Extent) → HoldsItem d place.entry mid post → IsContainer d → IsBehind result mid post }
+    ensures { (d : DataItem) (mid : List ℕ) (post : List Extent) → HoldsItem d place.entry mid post
+        → IsContainer d → IsBehind result mid post }
 {
     let [extent, ..] = place.containers else {
         return None;
@@ -56,7 +58,8 @@ pub(crate) fn after_container(place: Place<'_>) -> Option<Place<'_>>
 
 // What follows the value at a place.
 fn after_item(place: Place<'_>) -> Option<Place<'_>>
-    ensures { (d : DataItem) (mid : List ℕ) (post : List Extent) → HoldsItem d place.entry mid post → IsBehind result mid post }
+    ensures { (d : DataItem) (mid : List ℕ) (post : List Extent) → HoldsItem d place.entry mid post
+        → IsBehind result mid post }
 {
     let Ok((head, rest)) = read_item(place.rest) else {
         return None;
@@ -77,7 +80,8 @@ pub(crate) fn entries_at<'a>(
     count: u64,
     first: Place<'a>,
 ) -> Result<Vec<Entry<'a>>, ShowError>
-    ensures { (whole : DataItem) (total : ℕ) (es : DataEntries) → HoldsEntries whole total es first.entry → count ≡ entry_count es
+    ensures { (whole : DataItem) (total : ℕ) (es : DataEntries)
+        → HoldsEntries whole total es first.entry → count ≡ entry_count es
         → MatchResult result (λ entries. AreEntriesOf whole total es entries.items) IsOutputError }
 {
     let mut entries = Vec::new(alloc);
@@ -101,7 +105,8 @@ pub(crate) fn entries_at<'a>(
 }
 
 fn is_text(value: &[u8]) -> bool
-    ensures { (d : DataItem) (behind : List ℕ) → BeginsWithItem d value.now behind → result ≡ is_text d }
+    ensures { (d : DataItem) (behind : List ℕ) → BeginsWithItem d value.now behind
+        → result ≡ is_text d }
 {
     let Ok((head, _)) = read_item(value) else {
         return false;
@@ -114,7 +119,9 @@ fn is_text(value: &[u8]) -> bool
 
 // Whether the first of these entries, in the order of their keys, has the key `bytes` and a string behind it.
 fn begin_with_bytes(entries: &[Entry<'_>]) -> bool
-    ensures { (whole : DataItem) (total : ℕ) (known : List (KnownEntry whole total)) → entries.now ≡ map (λ k. k.entry) known → result ≡ begin_with_bytes (map (λ k. k.member) known) }
+    ensures { (whole : DataItem) (total : ℕ) (known : List (KnownEntry whole total))
+        → entries.now ≡ map (λ k. k.entry) known
+        → result ≡ begin_with_bytes (map (λ k. k.member) known) }
 {
     match entries {
         [first, ..] => first.key == "bytes" && is_text(first.value.rest),
@@ -124,7 +131,8 @@ fn begin_with_bytes(entries: &[Entry<'_>]) -> bool
 
 // Whether the value at a place would be read as the content of a link or of bytes behind the key `/`.
 fn reads_as_content(alloc: Global, place: Place<'_>) -> Result<bool, ShowError>
-    ensures { (whole : DataItem) (total : ℕ) (d : DataItem) → HoldsPart whole total d place.entry → MatchResult result (ReadsAsContent d) IsOutputError }
+    ensures { (whole : DataItem) (total : ℕ) (d : DataItem) → HoldsPart whole total d place.entry
+        → MatchResult result (ReadsAsContent d) IsOutputError }
 {
     let Ok((head, rest)) = read_item(place.rest) else {
         return Err(unchecked_error());
@@ -141,7 +149,8 @@ fn reads_as_content(alloc: Global, place: Place<'_>) -> Result<bool, ShowError>
 
 // Whether a map of these entries, in the order of their keys, would be read as a link or as bytes.
 pub(crate) fn are_reserved(alloc: Global, entries: &[Entry<'_>]) -> Result<bool, ShowError>
-    ensures { (whole : DataItem) (total : ℕ) (known : List (KnownEntry whole total)) → entries.now ≡ map (λ k. k.entry) known
+    ensures { (whole : DataItem) (total : ℕ) (known : List (KnownEntry whole total))
+        → entries.now ≡ map (λ k. k.entry) known
         → MatchResult result (AreReserved (map (λ k. k.member) known)) IsOutputError }
 {
     match entries {

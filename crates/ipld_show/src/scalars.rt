@@ -24,7 +24,8 @@ const EXPONENT: u64 = 0x7ff << 52;
 
 // The finite float of these bits.
 fn float_of(bits: u64) -> Option<f64>
-    ensures { MatchOption result (nan_bits binary64 bits ≡ true) (λ float. float ≡ from_bits binary64 bits) }
+    ensures { MatchOption result (nan_bits binary64 bits ≡ true) (λ float.
+        float ≡ from_bits binary64 bits) }
 {
     if bits % SIGN > EXPONENT {
         None
@@ -35,7 +36,8 @@ fn float_of(bits: u64) -> Option<f64>
 
 // A finite float as a number with a point or an exponent, which no integer has.
 pub(crate) fn write_float<W: Write>(writer: &mut W, bits: u64) -> Result<(), ShowError>
-    ensures { MatchResult result (λ _. (t : List ℕ) × IsFloatText bits t × Appends (W.contents writer.old) (W.contents writer.new) t) IsOutputError }
+    ensures { MatchResult result (λ _. (t : List ℕ) × IsFloatText bits t
+        × Appends (W.contents writer.old) (W.contents writer.new) t) IsOutputError }
 {
     let Some(float) = float_of(bits) else {
         writer.write_all(b"null")?;
@@ -64,7 +66,8 @@ fn hex_digit(digit: u8) -> u8
 
 // Two hexadecimal digits.
 fn write_hex_pair<W: Write>(writer: &mut W, byte: u8) -> Result<(), ShowError>
-    ensures { MatchResult result (λ _. Appends (W.contents writer.old) (W.contents writer.new) (hex_pair byte)) IsOutputError }
+    ensures { MatchResult result (λ _. Appends (W.contents writer.old) (W.contents writer.new)
+        (hex_pair byte)) IsOutputError }
 {
     let pair = [hex_digit(byte / 16), hex_digit(byte % 16)];
     writer.write_all(&pair)?;
@@ -73,7 +76,8 @@ fn write_hex_pair<W: Write>(writer: &mut W, byte: u8) -> Result<(), ShowError>
 
 // Bytes as hexadecimal digits in lower case.
 pub(crate) fn write_hex<W: Write>(writer: &mut W, bytes: &[u8]) -> Result<(), ShowError>
-    ensures { MatchResult result (λ _. Appends (W.contents writer.old) (W.contents writer.new) (hex_text bytes.now)) IsOutputError }
+    ensures { MatchResult result (λ _. Appends (W.contents writer.old) (W.contents writer.new)
+        (hex_text bytes.now)) IsOutputError }
 {
     for byte in bytes {
         write_hex_pair(writer, *byte)?;
@@ -83,7 +87,8 @@ pub(crate) fn write_hex<W: Write>(writer: &mut W, bytes: &[u8]) -> Result<(), Sh
 
 // The escape of a character by its code.
 fn write_escape<W: Write>(writer: &mut W, code: u8) -> Result<(), ShowError>
-    ensures { MatchResult result (λ _. Appends (W.contents writer.old) (W.contents writer.new) (by_code code)) IsOutputError }
+    ensures { MatchResult result (λ _. Appends (W.contents writer.old) (W.contents writer.new)
+        (by_code code)) IsOutputError }
 {
     writer.write_all(b"\\u00")?;
     write_hex_pair(writer, code)?;
@@ -93,7 +98,8 @@ fn write_escape<W: Write>(writer: &mut W, code: u8) -> Result<(), ShowError>
 // A character of a string: those that JSON escapes, and if so asked the other control characters too.
 #[tactic(auto, unfolding(crate::specs::Scalars::character))]
 fn write_char<W: Write>(writer: &mut W, c: char, for_terminal: bool) -> Result<(), ShowError>
-    ensures { MatchResult result (λ _. Appends (W.contents writer.old) (W.contents writer.new) (character for_terminal c)) IsOutputError }
+    ensures { MatchResult result (λ _. Appends (W.contents writer.old) (W.contents writer.new)
+        (character for_terminal c)) IsOutputError }
 {
     match c {
         '"' => writer.write_all(b"\\\"")?,
@@ -116,7 +122,8 @@ pub(crate) fn write_string<W: Write>(
     text: &str,
     for_terminal: bool,
 ) -> Result<(), ShowError>
-    ensures { MatchResult result (λ _. Appends (W.contents writer.old) (W.contents writer.new) (quoted for_terminal text.now)) IsOutputError }
+    ensures { MatchResult result (λ _. Appends (W.contents writer.old) (W.contents writer.new)
+        (quoted for_terminal text.now)) IsOutputError }
 {
     writer.write_all(b"\"")?;
     for c in text.chars() {
@@ -132,7 +139,9 @@ pub(crate) fn write_cid_bytes<W: Write>(
     writer: &mut W,
     bytes: &[u8],
 ) -> Result<(), ShowError>
-    ensures { (cid : Link) → IsCid 64 bytes.now cid → MatchResult result (λ _. Appends (W.contents writer.old) (W.contents writer.new) (usual_text cid)) IsOutputError }
+    ensures { (cid : Link) → IsCid 64 bytes.now cid
+        → MatchResult result (λ _. Appends (W.contents writer.old) (W.contents writer.new)
+        (usual_text cid)) IsOutputError }
 {
     match Cid::try_from(bytes) {
         Ok(cid) => {

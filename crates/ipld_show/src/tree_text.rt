@@ -25,7 +25,8 @@ struct Level {
 
 // So many times two spaces.
 fn write_spaces<W: Write>(writer: &mut W, count: usize) -> Result<(), ShowError>
-    ensures { MatchResult result (λ _. Appends (W.contents writer.old) (W.contents writer.new) (spaces count)) IsOutputError }
+    ensures { MatchResult result (λ _. Appends (W.contents writer.old) (W.contents writer.new)
+        (spaces count)) IsOutputError }
 {
     let mut done = 0usize;
     while done < count {
@@ -37,7 +38,8 @@ fn write_spaces<W: Write>(writer: &mut W, count: usize) -> Result<(), ShowError>
 
 // What a line begins with.
 fn write_indent<W: Write>(writer: &mut W, level: usize) -> Result<(), ShowError>
-    ensures { MatchResult result (λ _. Appends (W.contents writer.old) (W.contents writer.new) (indent level)) IsOutputError }
+    ensures { MatchResult result (λ _. Appends (W.contents writer.old) (W.contents writer.new)
+        (indent level)) IsOutputError }
 {
     write_spaces(writer, level.min(INDENTED))?;
     if level > INDENTED {
@@ -48,7 +50,8 @@ fn write_indent<W: Write>(writer: &mut W, level: usize) -> Result<(), ShowError>
 
 // The key of a value, if it has one.
 fn write_key_label<W: Write>(writer: &mut W, key: Option<&str>) -> Result<(), ShowError>
-    ensures { MatchResult result (λ _. Appends (W.contents writer.old) (W.contents writer.new) (key_text (option_map (λ k. k.now) key.entry))) IsOutputError }
+    ensures { MatchResult result (λ _. Appends (W.contents writer.old) (W.contents writer.new)
+        (key_text (option_map (λ k. k.now) key.entry))) IsOutputError }
 {
     match key {
         Some(key) => {
@@ -61,7 +64,8 @@ fn write_key_label<W: Write>(writer: &mut W, key: Option<&str>) -> Result<(), Sh
 }
 
 fn write_bytes_text<W: Write>(writer: &mut W, bytes: &[u8]) -> Result<(), ShowError>
-    ensures { MatchResult result (λ _. Appends (W.contents writer.old) (W.contents writer.new) (codes "h'" ++ (hex_text bytes.now ++ codes "'"))) IsOutputError }
+    ensures { MatchResult result (λ _. Appends (W.contents writer.old) (W.contents writer.new)
+        (codes "h'" ++ (hex_text bytes.now ++ codes "'"))) IsOutputError }
 {
     writer.write_all(b"h'")?;
     write_hex(writer, bytes)?;
@@ -71,7 +75,8 @@ fn write_bytes_text<W: Write>(writer: &mut W, bytes: &[u8]) -> Result<(), ShowEr
 
 // A value that is neither a list nor a map, or the beginning of one.
 fn write_head<W: Write>(alloc: Global, writer: &mut W, head: &ItemHead<'_>) -> Result<(), ShowError>
-    ensures { HasCid head.now → MatchResult result (λ _. (t : List ℕ) × IsHeadText head.now t × Appends (W.contents writer.old) (W.contents writer.new) t) IsOutputError }
+    ensures { HasCid head.now → MatchResult result (λ _. (t : List ℕ) × IsHeadText head.now t
+        × Appends (W.contents writer.old) (W.contents writer.new) t) IsOutputError }
 {
     match head {
         ItemHead::Null => writer.write_all(b"null")?,
@@ -99,7 +104,9 @@ fn write_line<W: Write>(
     head: &ItemHead<'_>,
 ) -> Result<(), ShowError>
     ensures { HasCid head.now → MatchResult result (λ _. (t : List ℕ) × IsHeadText head.now t
-        × Appends (W.contents writer.old) (W.contents writer.new) (indent level ++ (key_text (option_map (λ k. k.now) key.entry) ++ (t ++ codes "\n")))) IsOutputError }
+        × Appends (W.contents writer.old) (W.contents writer.new)
+        (indent level ++ (key_text (option_map (λ k. k.now) key.entry) ++ (t ++ codes "\n"))))
+        IsOutputError }
 {
     write_indent(writer, level)?;
     write_key_label(writer, key)?;
@@ -110,7 +117,8 @@ fn write_line<W: Write>(
 
 // The line on which a map or a list ends.
 fn write_end<W: Write>(writer: &mut W, level: usize, is_map: bool) -> Result<(), ShowError>
-    ensures { MatchResult result (λ _. Appends (W.contents writer.old) (W.contents writer.new) (indent level ++ end_text is_map)) IsOutputError }
+    ensures { MatchResult result (λ _. Appends (W.contents writer.old) (W.contents writer.new)
+        (indent level ++ end_text is_map)) IsOutputError }
 {
     write_indent(writer, level)?;
     if is_map {
@@ -142,7 +150,8 @@ fn opened(head: &ItemHead<'_>) -> Option<Level>
 
 // Goes on in what is in a list or a map, if there is anything.
 fn enter(levels: &mut Vec<Level>, head: &ItemHead<'_>) -> Result<(), ShowError>
-    ensures { MatchResult result (λ _. reverse levels.new.items ≡ with_level (opens head.now) (reverse levels.old.items)) IsOutputError }
+    ensures { MatchResult result (λ _. reverse levels.new.items ≡ with_level (opens head.now)
+        (reverse levels.old.items)) IsOutputError }
 {
     match opened(head) {
         Some(level) => {
@@ -156,7 +165,8 @@ fn enter(levels: &mut Vec<Level>, head: &ItemHead<'_>) -> Result<(), ShowError>
 // Ends the lists and maps of which nothing is to come, and returns what the next value stands in, one less to come.
 fn leave<W: Write>(levels: &mut Vec<Level>, writer: &mut W) -> Result<Option<Level>, ShowError>
     ensures { (bytes : List ℕ) (lines : List Line) → Open (reverse levels.old.items) bytes lines
-        → MatchResult result (λ next. Leaves bytes lines levels.new.items next (W.contents writer.old) (W.contents writer.new)) IsOutputError }
+        → MatchResult result (λ next. Leaves bytes lines levels.new.items next
+        (W.contents writer.old) (W.contents writer.new)) IsOutputError }
 {
     while let Some(level) = levels.pop() {
         if level.left > 0 {
@@ -175,7 +185,8 @@ fn leave<W: Write>(levels: &mut Vec<Level>, writer: &mut W) -> Result<Option<Lev
 // Where the next value begins in a list or a map, and its key if it has one.
 fn next_line_place(level: Level, bytes: &[u8]) -> Result<(Option<&str>, &[u8]), ShowError>
     ensures within { IfOk result (λ place. length place.1.now ≤ length bytes.now) }
-    ensures exact { (n : ℕ) (own : List Line) (mid : List ℕ) → Holds level.is_map n (suc level.left) bytes.now own mid
+    ensures exact { (n : ℕ) (own : List Line) (mid : List ℕ)
+        → Holds level.is_map n (suc level.left) bytes.now own mid
         → MatchResult result (ComesTo n level own mid) (λ _. ⊥) }
 {
     if !level.is_map {
@@ -200,7 +211,8 @@ fn next_line_place(level: Level, bytes: &[u8]) -> Result<(Option<&str>, &[u8]), 
 /// `Write` where the writer failed, `Memory` where an allocation did. Of bytes that are no valid block it may be `Invalid` or `Cid`.
 pub fn write_tree<W: Write>(alloc: Global, value: &[u8], writer: &mut W) -> Result<(), ShowError>
     ensures { (d : DataItem) (behind : List ℕ) → BeginsWithItem d value.now behind
-        → MatchResult result (λ _. (t : List ℕ) × IsTreeText d t × Appends (W.contents writer.old) (W.contents writer.new) t) IsOutputError }
+        → MatchResult result (λ _. (t : List ℕ) × IsTreeText d t × Appends (W.contents writer.old)
+        (W.contents writer.new) t) IsOutputError }
 {
     let mut levels = Vec::new(alloc);
     let mut rest = value;

@@ -83,7 +83,8 @@ pub(crate) trait TokenConsumer: Sized + Drop {
     // Takes one token. Of the state after a rejection nothing is said.
     fn take(&mut self, token: &Token<'_>) -> Result<(), Rejection>
         requires { goes_on (state self.old) }
-        ensures { Takes next_state rejects (state self.old) (erase token.now) (state self.new) result };
+        ensures { Takes next_state rejects (state self.old) (erase token.now)
+            (state self.new) result };
 
     // Whether the item is complete.
     fn has_ended(&self) -> bool
@@ -102,8 +103,10 @@ fn advance<'a, T: TokenSource<'a>, C: TokenConsumer>(
     consumer: &mut C,
 ) -> Result<(), TokenError<T::Fault>>
     requires { C.goes_on (C.state consumer.old) }
-    ensures advances { Advances C.next_state C.rejects (C.state consumer.old) (C.state consumer.new) (T.remaining source.old) (T.remaining source.new) result }
-    ensures shorter { OnOk result (length (T.remaining source.new) < length (T.remaining source.old)) }
+    ensures advances { Advances C.next_state C.rejects (C.state consumer.old) (C.state consumer.new)
+        (T.remaining source.old) (T.remaining source.new) result }
+    ensures shorter { OnOk result (length (T.remaining source.new) < length
+        (T.remaining source.old)) }
     ensures failed { T.failed source.new ≡ is_source result }
     ensures origin { T.origin source.new ≡ T.origin source.old }
     ensures allowed { IfSource result (T.allows_fault (T.origin source.old)) }
@@ -125,7 +128,8 @@ pub(crate) fn consume<'a, T: TokenSource<'a>, C: TokenConsumer>(
     mut consumer: C,
 ) -> Result<C::Output, TokenError<T::Fault>>
     requires { T.failed source.old ≡ false }
-    ensures consumes { Consumes C.next_state C.goes_on C.rejects C.reads (C.state consumer) (T.remaining source.old) (T.remaining source.new) result }
+    ensures consumes { Consumes C.next_state C.goes_on C.rejects C.reads (C.state consumer)
+        (T.remaining source.old) (T.remaining source.new) result }
     ensures failed { T.failed source.new ≡ is_source result }
     ensures origin { T.origin source.new ≡ T.origin source.old }
     ensures allowed { IfSource result (T.allows_fault (T.origin source.old)) }

@@ -108,7 +108,8 @@ pub enum ReadError<F> {
 impl<F> ReadError<F> {
     // What is wrong, in a sentence.
     fn describe<W: fmt::Write>(&self, f: &mut fmt::Formatter<W>) -> fmt::Result
-        ensures { DisplaysStyledOnOk W.write_str_gives f.old result (limit_sentence_of self.now) f.new }
+        ensures { DisplaysStyledOnOk W.write_str_gives f.old result
+            (limit_sentence_of self.now) f.new }
     {
         match self {
             ReadError::TooDeep => f.write_str("lists and maps nest deeper than the limit"),

@@ -69,20 +69,33 @@ impl<const S: usize> ExtractLinks<S> {
         source: &mut T,
     ) -> Result<Self, TokenError<T::Fault>>
         requires { T.failed source.old ≡ false }
-        ensures found { IfOk result (λ x. (i : Item S) × (T.remaining source.old ≡ tokens_of i ++ T.remaining source.new) × (links_at x ≡ links_in i)) }
-        ensures only { (i : Item S) (rest : List TokenModel) → T.remaining source.old ≡ tokens_of i ++ rest
-            → FindsUnless result (λ x. (links_at x ≡ links_in i) × (T.remaining source.new ≡ rest)) }
-        ensures tree { (t : Tree) (rest : List TokenModel) → 64 ≤ S → IsTree t → T.remaining source.old ≡ tokens_of_tree t ++ rest
-            → FindsUnless result (λ x. (links_at x ≡ links_of t) × (T.remaining source.new ≡ rest)) }
-        ensures token { IfToken result (RejectsToken S (T.remaining source.old) (T.remaining source.new)) }
-        ensures cid { IfCid result (λ cid_error. RejectsCid S cid_error (T.remaining source.old) (T.remaining source.new)) }
-        ensures rejected { (front rest : List TokenModel) (t : TokenModel) → T.remaining source.old ≡ front ++ t ∷ rest → IsRejected S front t
+        ensures found { IfOk result (λ x. (i : Item S)
+            × (T.remaining source.old ≡ tokens_of i ++ T.remaining source.new)
+            × (links_at x ≡ links_in i)) }
+        ensures only { (i : Item S) (rest : List TokenModel)
+            → T.remaining source.old ≡ tokens_of i ++ rest
+            → FindsUnless result (λ x. (links_at x ≡ links_in i)
+            × (T.remaining source.new ≡ rest)) }
+        ensures tree { (t : Tree) (rest : List TokenModel) → 64 ≤ S → IsTree t
+            → T.remaining source.old ≡ tokens_of_tree t ++ rest
+            → FindsUnless result (λ x. (links_at x ≡ links_of t)
+            × (T.remaining source.new ≡ rest)) }
+        ensures token { IfToken result (RejectsToken S (T.remaining source.old)
+            (T.remaining source.new)) }
+        ensures cid { IfCid result (λ cid_error. RejectsCid S cid_error (T.remaining source.old)
+            (T.remaining source.new)) }
+        ensures rejected { (front rest : List TokenModel) (t : TokenModel)
+            → T.remaining source.old ≡ front ++ t ∷ rest → IsRejected S front t
             → RejectsUnless result (T.remaining source.new ≡ rest) }
-        ensures end { IfEnd result (IsOpen S (T.remaining source.old) × (T.remaining source.new ≡ [])) }
+        ensures end { IfEnd result (IsOpen S (T.remaining source.old)
+            × (T.remaining source.new ≡ [])) }
         ensures open { IsOpen S (T.remaining source.old) → EndsUnless result }
-        ensures memory { IfMemory result (RunsOut S (T.remaining source.old) (T.remaining source.new)) }
-        ensures source { IfSource result (λ fault. LeavesOpen S (T.remaining source.old) (T.remaining source.new)) }
-        ensures stopped { IfStopped result (Leaves (T.remaining source.old) (T.remaining source.new)) }
+        ensures memory { IfMemory result (RunsOut S (T.remaining source.old)
+            (T.remaining source.new)) }
+        ensures source { IfSource result (λ fault. LeavesOpen S (T.remaining source.old)
+            (T.remaining source.new)) }
+        ensures stopped { IfStopped result (Leaves (T.remaining source.old)
+            (T.remaining source.new)) }
         ensures no_key { IfDuplicateKey result ⊥ }
         ensures origin { T.origin source.new ≡ T.origin source.old }
         ensures failed { T.failed source.new ≡ is_source result }

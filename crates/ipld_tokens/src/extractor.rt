@@ -83,7 +83,8 @@ impl<const S: usize> Extractor<S> {
     // An item is complete.
     #[inline(always)]
     fn close(&mut self)
-        ensures { state_of self.new ≡ closed self.old.keeps self.old.frame (outer_of self.old) (links_found self.old) }
+        ensures { state_of self.new ≡ closed self.old.keeps self.old.frame (outer_of self.old)
+            (links_found self.old) }
     {
         self.phase = Phase::ItemOrEnd;
         match self.frame {
@@ -107,7 +108,8 @@ impl<const S: usize> Extractor<S> {
     // An item has to come.
     #[inline(always)]
     fn expect_item(&mut self)
-        ensures { state_of self.new ≡ open_at true self.old.keeps self.old.frame (outer_of self.old) (links_found self.old) }
+        ensures { state_of self.new ≡ open_at true self.old.keeps self.old.frame (outer_of self.old)
+            (links_found self.old) }
     {
         self.phase = Phase::Item;
     }
@@ -115,7 +117,8 @@ impl<const S: usize> Extractor<S> {
     // The bytes of a link have to come.
     #[inline(always)]
     fn expect_link_bytes(&mut self)
-        ensures { state_of self.new ≡ marked self.old.keeps self.old.frame (outer_of self.old) (links_found self.old) }
+        ensures { state_of self.new ≡ marked self.old.keeps self.old.frame (outer_of self.old)
+            (links_found self.old) }
     {
         self.phase = Phase::LinkBytes;
     }
@@ -133,7 +136,9 @@ impl<const S: usize> Extractor<S> {
 
     // The bytes after a link mark.
     fn take_link_bytes(&mut self, bytes: &[u8]) -> Result<(), Rejection>
-        ensures { Reads S self.old.keeps bytes.now (link_read (read_link S bytes.now) self.old.keeps self.old.frame (outer_of self.old) (links_found self.old)) (state_of self.new) result }
+        ensures { Reads S self.old.keeps bytes.now
+            (link_read (read_link S bytes.now) self.old.keeps self.old.frame (outer_of self.old)
+            (links_found self.old)) (state_of self.new) result }
     {
         if S >= TOO_LARGE {
             return Err(Rejection::Memory);
@@ -152,7 +157,9 @@ impl<const S: usize> Extractor<S> {
 
     #[inline(always)]
     fn open_list(&mut self) -> Result<(), Rejection>
-        ensures { Follows (Unit {0}) (open_at false self.old.keeps Frame.List (self.old.frame ∷ outer_of self.old) (links_found self.old)) (state_of self.new) result }
+        ensures { Follows (Unit {0}) (open_at false self.old.keeps Frame.List
+            (self.old.frame ∷ outer_of self.old) (links_found self.old))
+            (state_of self.new) result }
     {
         self.outer.push(self.frame)?;
         self.frame = Frame::List;
@@ -162,7 +169,9 @@ impl<const S: usize> Extractor<S> {
 
     #[inline(always)]
     fn open_map(&mut self) -> Result<(), Rejection>
-        ensures { Follows (Unit {0}) (open_at false false (key_frame self.old.keeps) (self.old.frame ∷ outer_of self.old) (links_found self.old)) (state_of self.new) result }
+        ensures { Follows (Unit {0}) (open_at false false (key_frame self.old.keeps)
+            (self.old.frame ∷ outer_of self.old) (links_found self.old))
+            (state_of self.new) result }
     {
         self.outer.push(self.frame)?;
         self.frame = frame_of_key(self.keeps);
@@ -174,7 +183,8 @@ impl<const S: usize> Extractor<S> {
     // The list or the map that is open is complete.
     #[inline(always)]
     fn end(&mut self, keeps: bool) -> Result<(), Rejection>
-        ensures { Follows ⊥ (ended keeps (outer_of self.old) (links_found self.old)) (state_of self.new) result }
+        ensures { Follows ⊥ (ended keeps (outer_of self.old) (links_found self.old))
+            (state_of self.new) result }
     {
         match self.outer.pop() {
             None => Err(Rejection::Token),
@@ -189,7 +199,8 @@ impl<const S: usize> Extractor<S> {
 
     #[inline(always)]
     fn end_list(&mut self) -> Result<(), Rejection>
-        ensures { Follows ⊥ (list_ended self.old.keeps self.old.frame (outer_of self.old) (links_found self.old)) (state_of self.new) result }
+        ensures { Follows ⊥ (list_ended self.old.keeps self.old.frame (outer_of self.old)
+            (links_found self.old)) (state_of self.new) result }
     {
         match self.frame {
             Frame::List => self.end(self.keeps),
@@ -199,7 +210,8 @@ impl<const S: usize> Extractor<S> {
 
     #[inline(always)]
     fn end_map(&mut self) -> Result<(), Rejection>
-        ensures { Follows ⊥ (map_ended self.old.keeps self.old.frame (outer_of self.old) (links_found self.old)) (state_of self.new) result }
+        ensures { Follows ⊥ (map_ended self.old.keeps self.old.frame (outer_of self.old)
+            (links_found self.old)) (state_of self.new) result }
     {
         match self.frame {
             Frame::Key => self.end(true),
@@ -211,7 +223,9 @@ impl<const S: usize> Extractor<S> {
     // A token where an item may come, or must.
     #[inline(always)]
     fn take_item(&mut self, token: &Token<'_>, must: bool) -> Result<(), Rejection>
-        ensures { Follows (Opens (erase token.now)) (item_step must self.old.keeps self.old.frame (outer_of self.old) (links_found self.old) (erase token.now)) (state_of self.new) result }
+        ensures { Follows (Opens (erase token.now)) (item_step must self.old.keeps self.old.frame
+            (outer_of self.old) (links_found self.old) (erase token.now))
+            (state_of self.new) result }
     {
         match token {
             Token::Some | Token::Variant(_) => self.expect_item(),
@@ -229,7 +243,8 @@ impl<const S: usize> Extractor<S> {
     // A token where the bytes of a link must come.
     #[inline(always)]
     fn take_link(&mut self, token: &Token<'_>) -> Result<(), Rejection>
-        ensures { Takes S (marked self.old.keeps self.old.frame (outer_of self.old) (links_found self.old)) (erase token.now) (state_of self.new) result }
+        ensures { Takes S (marked self.old.keeps self.old.frame (outer_of self.old)
+            (links_found self.old)) (erase token.now) (state_of self.new) result }
     {
         match token {
             Token::Bytes(bytes) => self.take_link_bytes(bytes.as_slice()),

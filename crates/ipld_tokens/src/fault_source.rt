@@ -53,7 +53,8 @@ impl<'a> TokenSource<'a> for FaultSource<'a> {
     ghost allows_end = { λ _. Unit {0} };
 
     fn next_token(&mut self) -> Result<Option<Token<'a>>, Stopped>
-        ensures next { NextToken (λ _. Unit {0}) (Unit {0}) (tokens_left self.old) (tokens_left self.new) result }
+        ensures next { NextToken (λ _. Unit {0}) (Unit {0}) (tokens_left self.old)
+            (tokens_left self.new) result }
         ensures origin { origin_of self.new ≡ origin_of self.old }
         ensures failed { has_stopped self.new ≡ is_err result }
         ensures stays { has_stopped self.old ≡ true → is_err result ≡ true }

@@ -30,8 +30,10 @@ use std::alloc::{AllocError, Global};
 /// - So tokens that begin with an item begin with one only, and it ends at one place.
 /// - Items with equal tokens have equal links.
 pub fn item_tokens_law<const S: usize>()
-    ensures no_front { (i j : Item S) (next : TokenModel) (rest : List TokenModel) → tokens_of i ≡ tokens_of j ++ next ∷ rest → ⊥ }
-    ensures one_end { (i j : Item S) (rest other : List TokenModel) → tokens_of i ++ rest ≡ tokens_of j ++ other
+    ensures no_front { (i j : Item S) (next : TokenModel) (rest : List TokenModel)
+        → tokens_of i ≡ tokens_of j ++ next ∷ rest → ⊥ }
+    ensures one_end { (i j : Item S) (rest other : List TokenModel)
+        → tokens_of i ++ rest ≡ tokens_of j ++ other
         → (tokens_of i ≡ tokens_of j) × (rest ≡ other) }
     ensures same_links { (i j : Item S) → tokens_of i ≡ tokens_of j → links_in i ≡ links_in j }
 {
@@ -43,8 +45,10 @@ pub fn item_tokens_law<const S: usize>()
 /// - Items with equal tokens read as the same tree, or as none.
 /// - Trees with equal tokens are equal.
 pub fn item_tree_law()
-    ensures same_tree { (i j : Item 64) → tokens_of i ≡ tokens_of j → tree_of_item i ≡ tree_of_item j }
-    ensures one_tree { (t u : Tree) → IsTree t → IsWhole t → IsTree u → IsWhole u → tokens_of_tree t ≡ tokens_of_tree u → t ≡ u }
+    ensures same_tree { (i j : Item 64) → tokens_of i ≡ tokens_of j
+        → tree_of_item i ≡ tree_of_item j }
+    ensures one_tree { (t u : Tree) → IsTree t → IsWhole t → IsTree u → IsWhole u
+        → tokens_of_tree t ≡ tokens_of_tree u → t ≡ u }
 {
     cid_bytes_law::<64>();
 }
@@ -55,7 +59,8 @@ pub fn item_tree_law()
 /// - Where the keys of each map ascend in byte order, the links of the item are those of its tree, in the same order.
 pub fn item_links_law()
     ensures times { (i : Item 64) (t : Tree) → tree_of_item i ≡ Some t → SameLinks i t }
-    ensures order { (i : Item 64) (t : Tree) → tree_of_item i ≡ Some t → KeysAscend i → links_in i ≡ links_of t }
+    ensures order { (i : Item 64) (t : Tree) → tree_of_item i ≡ Some t → KeysAscend i
+        → links_in i ≡ links_of t }
 {}
 
 /// What holds of the tokens of a tree. A call does nothing.
@@ -63,7 +68,8 @@ pub fn item_links_law()
 /// - They are one item. It has this tree, and its links are those of the tree, in the same order.
 pub fn tree_tokens_law()
     ensures { (t : Tree) → IsTree t → IsWhole t
-        → (i : Item 64) × (tokens_of i ≡ tokens_of_tree t) × (tree_of_item i ≡ Some t) × (links_in i ≡ links_of t) }
+        → (i : Item 64) × (tokens_of i ≡ tokens_of_tree t) × (tree_of_item i ≡ Some t)
+        × (links_in i ≡ links_of t) }
 {
     cid_bytes_law::<64>();
 }
@@ -74,8 +80,10 @@ pub fn tree_tokens_law()
 ///   with no value of a key that its map has already. So a source that yields the beginning of a tree, and no more, is never rejected.
 pub fn tree_beginnings_law()
     ensures not_wrong { (taken : List TokenModel) → BeginsTree taken → EndsWrong taken → ⊥ }
-    ensures no_bad_cid { (taken : List TokenModel) (cid_error : CidError) → BeginsTree taken → EndsInBadCid cid_error taken → ⊥ }
-    ensures no_repeated_key { (taken : List TokenModel) → BeginsTree taken → EndsWithRepeatedKey taken → ⊥ }
+    ensures no_bad_cid { (taken : List TokenModel) (cid_error : CidError) → BeginsTree taken
+        → EndsInBadCid cid_error taken → ⊥ }
+    ensures no_repeated_key { (taken : List TokenModel) → BeginsTree taken
+        → EndsWithRepeatedKey taken → ⊥ }
 {
     cid_bytes_law::<64>();
 }

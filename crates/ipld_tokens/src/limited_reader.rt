@@ -63,7 +63,8 @@ impl LimitedReader {
 
     // The limit that another value goes beyond.
     fn excess_of_value(&self) -> Option<Excess>
-        ensures excess { option_map excess_of result ≡ limit.excess_of_value self.now.limits self.now.values }
+        ensures excess { option_map excess_of result ≡ limit.excess_of_value self.now.limits
+            self.now.values }
         ensures fits { MatchOption result (self.now.values < 2 ^ 64 - 1) (λ _. Unit {0}) }
     {
         if self.values < self.limits.values {
@@ -75,7 +76,8 @@ impl LimitedReader {
 
     // The limit that another list or map goes beyond.
     fn excess_of_container(&self) -> Option<Excess>
-        ensures excess { option_map excess_of result ≡ limit.excess_of_container self.now.limits (kinds (levels_of self.now.reader)) self.now.values }
+        ensures excess { option_map excess_of result ≡ limit.excess_of_container self.now.limits
+            (kinds (levels_of self.now.reader)) self.now.values }
         ensures fits { MatchOption result (self.now.values < 2 ^ 64 - 1) (λ _. Unit {0}) }
     {
         if self.reader.depth() < self.limits.levels {
@@ -88,7 +90,8 @@ impl LimitedReader {
     // The limit that a token which begins a value goes beyond.
     fn excess_of(&self, token: &Token<'_>) -> Option<Excess>
         requires { machine.begins_value (erase token.now) ≡ true }
-        ensures excess { option_map excess_of result ≡ limit.value_excess self.now.limits (kinds (levels_of self.now.reader)) self.now.values (erase token.now) }
+        ensures excess { option_map excess_of result ≡ limit.value_excess self.now.limits
+            (kinds (levels_of self.now.reader)) self.now.values (erase token.now) }
         ensures fits { MatchOption result (self.now.values < 2 ^ 64 - 1) (λ _. Unit {0}) }
     {
         if begins_container(token) {
@@ -101,7 +104,9 @@ impl LimitedReader {
     // Counts the value that the token begins, if it begins one.
     fn count(&mut self, token: &Token<'_>) -> Result<(), Excess>
         requires { IsGoing (state_of self.old.reader) }
-        ensures counts { Counts self.old.limits (position (state_of self.old.reader) self.old.values) (erase token.now) self.new.values result }
+        ensures counts { Counts self.old.limits
+            (position (state_of self.old.reader) self.old.values)
+            (erase token.now) self.new.values result }
         ensures reader { self.new.reader ≡ self.old.reader }
         ensures limits { self.new.limits ≡ self.old.limits }
         ensures excess { self.new.excess ≡ self.old.excess }

@@ -185,7 +185,8 @@ impl OpenMap {
     fn end(self) -> Result<BTreeMap<String, Ipld>, BuildError>
         ensures { MatchResult result
             (λ members. level_of self ≡ in_key (members_of members.entries))
-            (λ build_error. (build_error ≡ error.Misplaced) × (is_at_key (level_of self ∷ []) ≡ false)) }
+            (λ build_error. (build_error ≡ error.Misplaced)
+            × (is_at_key (level_of self ∷ []) ≡ false)) }
     {
         match self.key {
             None => Ok(self.members),
@@ -294,7 +295,8 @@ impl OpenTree {
     /// already; `Memory` where the list or the map can't grow. The value is dropped.
     #[inline(always)]
     pub fn put(&mut self, value: Ipld) -> Result<(), BuildError>
-        ensures { Builds (PutsValue (levels_of self.old)) (completed (tree_of value) (levels_of self.old)) (state_of self.new) result }
+        ensures { Builds (PutsValue (levels_of self.old)) (completed (tree_of value)
+            (levels_of self.old)) (state_of self.new) result }
     {
         match &mut self.innermost {
             Container::List(list) => push_value(&mut list.items, value),
@@ -305,7 +307,8 @@ impl OpenTree {
     // Puts a value into whatever is innermost. It is kept out of line, so that a value of a list is moved once.
     #[inline(never)]
     fn put_any(&mut self, value: Ipld) -> Result<(), BuildError>
-        ensures { Builds (PutsValue (levels_of self.old)) (completed (tree_of value) (levels_of self.old)) (state_of self.new) result }
+        ensures { Builds (PutsValue (levels_of self.old)) (completed (tree_of value)
+            (levels_of self.old)) (state_of self.new) result }
     {
         match &mut self.innermost {
             Container::List(list) => push_value(&mut list.items, value),
@@ -351,7 +354,8 @@ impl OpenTree {
     /// Those of [`OpenTree::put`].
     #[inline(always)]
     pub fn put_integer(&mut self, number: i128) -> Result<(), BuildError>
-        ensures { Builds (PutsValue (levels_of self.old)) (completed (integer number) (levels_of self.old)) (state_of self.new) result }
+        ensures { Builds (PutsValue (levels_of self.old)) (completed (integer number)
+            (levels_of self.old)) (state_of self.new) result }
     {
         match &mut self.innermost {
             Container::List(list) if list.items.len() < list.items.capacity() => {
@@ -365,7 +369,8 @@ impl OpenTree {
     // Puts an integer into whatever is innermost, a list that is full too.
     #[inline(never)]
     fn put_any_integer(&mut self, number: i128) -> Result<(), BuildError>
-        ensures { Builds (PutsValue (levels_of self.old)) (completed (integer number) (levels_of self.old)) (state_of self.new) result }
+        ensures { Builds (PutsValue (levels_of self.old)) (completed (integer number)
+            (levels_of self.old)) (state_of self.new) result }
     {
         self.put_any(Ipld::Integer(number))
     }
@@ -378,7 +383,8 @@ impl OpenTree {
     /// `Misplaced` where no map is innermost, and where another key waits for its value.
     #[inline(always)]
     pub fn put_key(&mut self, key: String) -> Result<(), BuildError>
-        ensures { Builds ⊥ (key_at (string_bytes key) (state_of self.old)) (state_of self.new) result }
+        ensures { Builds ⊥ (key_at (string_bytes key) (state_of self.old))
+            (state_of self.new) result }
     {
         if let Container::Map(map) = &mut self.innermost {
             if map.key.is_none() {
@@ -397,7 +403,8 @@ impl OpenTree {
     /// `Memory` where an allocation failed.
     #[inline(always)]
     pub fn begin_list(&mut self, hint: Option<usize>) -> Result<(), BuildError>
-        ensures { Builds (Unit {0}) (open_at (in_list no_items ∷ levels_of self.old)) (state_of self.new) result }
+        ensures { Builds (Unit {0}) (open_at (in_list no_items ∷ levels_of self.old))
+            (state_of self.new) result }
     {
         let list = OpenList::new(self.alloc, hint, self.spare)?;
         self.spare -= list.reserved;
@@ -411,7 +418,8 @@ impl OpenTree {
     /// `Memory` where an allocation failed.
     #[inline(always)]
     pub fn begin_map(&mut self) -> Result<(), BuildError>
-        ensures { Builds (Unit {0}) (open_at (in_key no_members ∷ levels_of self.old)) (state_of self.new) result }
+        ensures { Builds (Unit {0}) (open_at (in_key no_members ∷ levels_of self.old))
+            (state_of self.new) result }
     {
         self.enter(Container::Map(OpenMap {
             members: BTreeMap::new(self.alloc),
@@ -422,8 +430,10 @@ impl OpenTree {
     // Goes on inside a container, for which is reserved what is not spare.
     fn enter(&mut self, container: Container) -> Result<(), BuildError>
         requires opens { IsOpen container }
-        requires within { reserved_for container + reserved_for self.old.innermost + sum_by reserved_for self.old.outer.items + self.old.spare ≤ 8192 }
-        ensures { Builds (Unit {0}) (open_at (around container (levels_of self.old))) (state_of self.new) result }
+        requires within { reserved_for container + reserved_for self.old.innermost
+            + sum_by reserved_for self.old.outer.items + self.old.spare ≤ 8192 }
+        ensures { Builds (Unit {0}) (open_at (around container (levels_of self.old)))
+            (state_of self.new) result }
     {
         let around = mem::replace(&mut self.innermost, container);
         match around {
@@ -444,7 +454,8 @@ impl OpenTree {
     fn leave(&mut self) -> Container
         ensures taken { result ≡ self.old.innermost }
         ensures around { levels_of self.new ≡ inside self.old.outer.items [] }
-        ensures reserved { reserved_for result + reserved_for self.new.innermost + sum_by reserved_for self.new.outer.items + self.new.spare ≤ 8192 }
+        ensures reserved { reserved_for result + reserved_for self.new.innermost
+            + sum_by reserved_for self.new.outer.items + self.new.spare ≤ 8192 }
     {
         match self.outer.pop() {
             Some(around) => mem::replace(&mut self.innermost, around),
@@ -461,8 +472,10 @@ impl OpenTree {
     #[inline(always)]
     pub fn end_list(&mut self) -> Result<Vec<Ipld>, BuildError>
         ensures { MatchResult result
-            (λ items. state_of self.old ≡ open_at (in_list (items_of items.items) ∷ levels_of self.new))
-            (λ build_error. (build_error ≡ error.Misplaced) × (in_a_list (state_of self.old) ≡ false)) }
+            (λ items. state_of self.old ≡ open_at
+            (in_list (items_of items.items) ∷ levels_of self.new))
+            (λ build_error. (build_error ≡ error.Misplaced)
+            × (in_a_list (state_of self.old) ≡ false)) }
     {
         match self.leave() {
             Container::List(list) => {
@@ -484,8 +497,10 @@ impl OpenTree {
     #[inline(always)]
     pub fn end_map(&mut self) -> Result<BTreeMap<String, Ipld>, BuildError>
         ensures { MatchResult result
-            (λ members. state_of self.old ≡ open_at (in_key (members_of members.entries) ∷ levels_of self.new))
-            (λ build_error. (build_error ≡ error.Misplaced) × (at_key (state_of self.old) ≡ false)) }
+            (λ members. state_of self.old ≡ open_at
+            (in_key (members_of members.entries) ∷ levels_of self.new))
+            (λ build_error. (build_error ≡ error.Misplaced)
+            × (at_key (state_of self.old) ≡ false)) }
     {
         match self.leave() {
             Container::Map(map) => map.end(),

@@ -60,23 +60,36 @@ pub fn read_ipld<'a, T: TokenSource<'a>>(
     source: &mut T,
 ) -> Result<Ipld, TokenError<T::Fault>>
     requires { T.failed source.old ≡ false }
-    ensures found { IfOk result (λ v. ReadsItem (T.remaining source.old) (T.remaining source.new) (tree_of v)) }
-    ensures only { (i : Item 64) (t : Tree) (rest : List TokenModel) → T.remaining source.old ≡ tokens_of i ++ rest → tree_of_item i ≡ Some t
+    ensures found { IfOk result (λ v. ReadsItem (T.remaining source.old) (T.remaining source.new)
+        (tree_of v)) }
+    ensures only { (i : Item 64) (t : Tree) (rest : List TokenModel)
+        → T.remaining source.old ≡ tokens_of i ++ rest → tree_of_item i ≡ Some t
         → FindsUnless result (λ v. (tree_of v ≡ t) × (T.remaining source.new ≡ rest)) }
-    ensures tree { (t : Tree) (rest : List TokenModel) → IsTree t → IsWhole t → T.remaining source.old ≡ tokens_of_tree t ++ rest
+    ensures tree { (t : Tree) (rest : List TokenModel) → IsTree t → IsWhole t
+        → T.remaining source.old ≡ tokens_of_tree t ++ rest
         → FindsUnless result (λ v. (tree_of v ≡ t) × (T.remaining source.new ≡ rest)) }
-    ensures token { IfToken result (Taken EndsWrong (T.remaining source.old) (T.remaining source.new)) }
-    ensures cid { IfCid result (λ cid_error. Taken (EndsInBadCid cid_error) (T.remaining source.old) (T.remaining source.new)) }
-    ensures duplicate_key { IfDuplicateKey result (Taken EndsWithRepeatedKey (T.remaining source.old) (T.remaining source.new)) }
-    ensures end { IfEnd result (IsUnfinished (T.remaining source.old) × (T.remaining source.new ≡ [])) }
-    ensures wrong { (taken rest : List TokenModel) → EndsWrong taken → T.remaining source.old ≡ taken ++ rest → TokenUnless result (T.remaining source.new ≡ rest) }
-    ensures bad_cid { (cid_error : CidError) (taken rest : List TokenModel) → EndsInBadCid cid_error taken → T.remaining source.old ≡ taken ++ rest
+    ensures token { IfToken result (Taken EndsWrong (T.remaining source.old)
+        (T.remaining source.new)) }
+    ensures cid { IfCid result (λ cid_error. Taken (EndsInBadCid cid_error) (T.remaining source.old)
+        (T.remaining source.new)) }
+    ensures duplicate_key { IfDuplicateKey result (Taken EndsWithRepeatedKey
+        (T.remaining source.old) (T.remaining source.new)) }
+    ensures end { IfEnd result (IsUnfinished (T.remaining source.old)
+        × (T.remaining source.new ≡ [])) }
+    ensures wrong { (taken rest : List TokenModel) → EndsWrong taken
+        → T.remaining source.old ≡ taken ++ rest
+        → TokenUnless result (T.remaining source.new ≡ rest) }
+    ensures bad_cid { (cid_error : CidError) (taken rest : List TokenModel)
+        → EndsInBadCid cid_error taken → T.remaining source.old ≡ taken ++ rest
         → CidUnless cid_error result (T.remaining source.new ≡ rest) }
-    ensures repeated_key { (taken rest : List TokenModel) → EndsWithRepeatedKey taken → T.remaining source.old ≡ taken ++ rest
+    ensures repeated_key { (taken rest : List TokenModel) → EndsWithRepeatedKey taken
+        → T.remaining source.old ≡ taken ++ rest
         → KeyUnless result (T.remaining source.new ≡ rest) }
     ensures unfinished { IsUnfinished (T.remaining source.old) → EndsUnless result }
-    ensures memory { IfMemory result (Taken EndsAllocating (T.remaining source.old) (T.remaining source.new)) }
-    ensures source { IfSource result (λ fault. Taken IsUnfinished (T.remaining source.old) (T.remaining source.new)) }
+    ensures memory { IfMemory result (Taken EndsAllocating (T.remaining source.old)
+        (T.remaining source.new)) }
+    ensures source { IfSource result (λ fault. Taken IsUnfinished (T.remaining source.old)
+        (T.remaining source.new)) }
     ensures left { Leaves (T.remaining source.old) (T.remaining source.new) }
     ensures failed { T.failed source.new ≡ is_source result }
     ensures origin { T.origin source.new ≡ T.origin source.old }
@@ -110,31 +123,54 @@ pub fn read_ipld_within<'a, T: TokenSource<'a>>(
     limits: &Limits,
 ) -> Result<Ipld, ReadError<T::Fault>>
     requires { T.failed source.old ≡ false }
-    ensures found { IfOk result (λ v. ReadsItem (T.remaining source.old) (T.remaining source.new) (tree_of v) × Within limits.now (tree_of v)) }
-    ensures only { (i : Item 64) (t : Tree) (rest : List TokenModel) → T.remaining source.old ≡ tokens_of i ++ rest → tree_of_item i ≡ Some t → Within limits.now t
-        → IsWithinAnd result (λ r. FindsUnless r (λ v. (tree_of v ≡ t) × (T.remaining source.new ≡ rest))) }
-    ensures tree { (t : Tree) (rest : List TokenModel) → IsTree t → IsWhole t → T.remaining source.old ≡ tokens_of_tree t ++ rest → Within limits.now t
-        → IsWithinAnd result (λ r. FindsUnless r (λ v. (tree_of v ≡ t) × (T.remaining source.new ≡ rest))) }
-    ensures larger { (i : Item 64) (t : Tree) (rest : List TokenModel) → T.remaining source.old ≡ tokens_of i ++ rest → tree_of_item i ≡ Some t → (Within limits.now t → ⊥)
+    ensures found { IfOk result (λ v. ReadsItem (T.remaining source.old) (T.remaining source.new)
+        (tree_of v) × Within limits.now (tree_of v)) }
+    ensures only { (i : Item 64) (t : Tree) (rest : List TokenModel)
+        → T.remaining source.old ≡ tokens_of i ++ rest → tree_of_item i ≡ Some t
+        → Within limits.now t
+        → IsWithinAnd result (λ r. FindsUnless r (λ v. (tree_of v ≡ t)
+        × (T.remaining source.new ≡ rest))) }
+    ensures tree { (t : Tree) (rest : List TokenModel) → IsTree t → IsWhole t
+        → T.remaining source.old ≡ tokens_of_tree t ++ rest → Within limits.now t
+        → IsWithinAnd result (λ r. FindsUnless r (λ v. (tree_of v ≡ t)
+        × (T.remaining source.new ≡ rest))) }
+    ensures larger { (i : Item 64) (t : Tree) (rest : List TokenModel)
+        → T.remaining source.old ≡ tokens_of i ++ rest → tree_of_item i ≡ Some t
+        → (Within limits.now t → ⊥)
         → ExceedsUnless result }
-    ensures too_deep { IfTooDeep result (Taken (EndsBeyond limits.now too_deep) (T.remaining source.old) (T.remaining source.new)) }
-    ensures too_many { IfTooMany result (Taken (EndsBeyond limits.now too_many) (T.remaining source.old) (T.remaining source.new)) }
-    ensures beyond { (excess : limit.Excess) (taken rest : List TokenModel) → EndsBeyond limits.now excess taken → T.remaining source.old ≡ taken ++ rest
+    ensures too_deep { IfTooDeep result (Taken (EndsBeyond limits.now too_deep)
+        (T.remaining source.old) (T.remaining source.new)) }
+    ensures too_many { IfTooMany result (Taken (EndsBeyond limits.now too_many)
+        (T.remaining source.old) (T.remaining source.new)) }
+    ensures beyond { (excess : limit.Excess) (taken rest : List TokenModel)
+        → EndsBeyond limits.now excess taken → T.remaining source.old ≡ taken ++ rest
         → BeyondUnless excess result (T.remaining source.new ≡ rest) }
-    ensures kept { UnlessBeyond result (λ _. Taken (KeepsWithin limits.now) (T.remaining source.old) (T.remaining source.new)) }
-    ensures token { UnlessBeyond result (λ r. IfToken r (Taken EndsWrong (T.remaining source.old) (T.remaining source.new))) }
-    ensures cid { UnlessBeyond result (λ r. IfCid r (λ cid_error. Taken (EndsInBadCid cid_error) (T.remaining source.old) (T.remaining source.new))) }
-    ensures duplicate_key { UnlessBeyond result (λ r. IfDuplicateKey r (Taken EndsWithRepeatedKey (T.remaining source.old) (T.remaining source.new))) }
-    ensures end { UnlessBeyond result (λ r. IfEnd r (IsUnfinished (T.remaining source.old) × (T.remaining source.new ≡ []))) }
-    ensures wrong { (taken rest : List TokenModel) → EndsWrong taken → KeepsWithin limits.now taken → T.remaining source.old ≡ taken ++ rest
+    ensures kept { UnlessBeyond result (λ _. Taken (KeepsWithin limits.now) (T.remaining source.old)
+        (T.remaining source.new)) }
+    ensures token { UnlessBeyond result (λ r. IfToken r (Taken EndsWrong (T.remaining source.old)
+        (T.remaining source.new))) }
+    ensures cid { UnlessBeyond result (λ r. IfCid r (λ cid_error. Taken (EndsInBadCid cid_error)
+        (T.remaining source.old) (T.remaining source.new))) }
+    ensures duplicate_key { UnlessBeyond result (λ r. IfDuplicateKey r (Taken EndsWithRepeatedKey
+        (T.remaining source.old) (T.remaining source.new))) }
+    ensures end { UnlessBeyond result (λ r. IfEnd r (IsUnfinished (T.remaining source.old)
+        × (T.remaining source.new ≡ []))) }
+    ensures wrong { (taken rest : List TokenModel) → EndsWrong taken → KeepsWithin limits.now taken
+        → T.remaining source.old ≡ taken ++ rest
         → IsWithinAnd result (λ r. TokenUnless r (T.remaining source.new ≡ rest)) }
-    ensures bad_cid { (cid_error : CidError) (taken rest : List TokenModel) → EndsInBadCid cid_error taken → KeepsWithin limits.now taken
-        → T.remaining source.old ≡ taken ++ rest → IsWithinAnd result (λ r. CidUnless cid_error r (T.remaining source.new ≡ rest)) }
-    ensures repeated_key { (taken rest : List TokenModel) → EndsWithRepeatedKey taken → KeepsWithin limits.now taken → T.remaining source.old ≡ taken ++ rest
+    ensures bad_cid { (cid_error : CidError) (taken rest : List TokenModel)
+        → EndsInBadCid cid_error taken → KeepsWithin limits.now taken
+        → T.remaining source.old ≡ taken ++ rest
+        → IsWithinAnd result (λ r. CidUnless cid_error r (T.remaining source.new ≡ rest)) }
+    ensures repeated_key { (taken rest : List TokenModel) → EndsWithRepeatedKey taken
+        → KeepsWithin limits.now taken → T.remaining source.old ≡ taken ++ rest
         → IsWithinAnd result (λ r. KeyUnless r (T.remaining source.new ≡ rest)) }
-    ensures unfinished { IsUnfinished (T.remaining source.old) → KeepsWithin limits.now (T.remaining source.old) → IsWithinAnd result (λ r. EndsUnless r) }
-    ensures memory { UnlessBeyond result (λ r. IfMemory r (Taken EndsAllocating (T.remaining source.old) (T.remaining source.new))) }
-    ensures source { UnlessBeyond result (λ r. IfSource r (λ fault. Taken IsUnfinished (T.remaining source.old) (T.remaining source.new))) }
+    ensures unfinished { IsUnfinished (T.remaining source.old)
+        → KeepsWithin limits.now (T.remaining source.old) → IsWithinAnd result (λ r. EndsUnless r) }
+    ensures memory { UnlessBeyond result (λ r.
+        IfMemory r (Taken EndsAllocating (T.remaining source.old) (T.remaining source.new))) }
+    ensures source { UnlessBeyond result (λ r. IfSource r (λ fault. Taken IsUnfinished
+        (T.remaining source.old) (T.remaining source.new))) }
     ensures left { Leaves (T.remaining source.old) (T.remaining source.new) }
     ensures failed { T.failed source.new ≡ is_source_error result }
     ensures origin { T.origin source.new ≡ T.origin source.old }

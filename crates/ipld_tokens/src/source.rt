@@ -32,7 +32,8 @@ pub trait TokenSource<'a> {
     ///
     /// An error leaves what remains as it was, and a source that has failed for good.
     fn next_token(&mut self) -> Result<Option<Token<'a>>, Self::Fault>
-        ensures next { NextToken (allows_fault (origin self.old)) (allows_end (origin self.old)) (remaining self.old) (remaining self.new) result }
+        ensures next { NextToken (allows_fault (origin self.old)) (allows_end (origin self.old))
+            (remaining self.old) (remaining self.new) result }
         ensures origin { origin self.new ≡ origin self.old }
         ensures failed { failed self.new ≡ is_err result }
         ensures stays { failed self.old ≡ true → is_err result ≡ true };

@@ -103,7 +103,8 @@ impl TreeReader {
 
     // A list begins.
     fn open_list(&mut self, hint: Option<usize>) -> Result<(), Rejection>
-        ensures { Follows (Unit {0}) (open_at (in_list no_items ∷ levels_of self.old)) (state_of self.new) result }
+        ensures { Follows (Unit {0}) (open_at (in_list no_items ∷ levels_of self.old))
+            (state_of self.new) result }
     {
         self.expected = Expected::Any;
         self.tree.begin_list(hint)?;
@@ -112,7 +113,8 @@ impl TreeReader {
 
     // A map begins.
     fn open_map(&mut self) -> Result<(), Rejection>
-        ensures { Follows (Unit {0}) (open_at (in_key no_members ∷ levels_of self.old)) (state_of self.new) result }
+        ensures { Follows (Unit {0}) (open_at (in_key no_members ∷ levels_of self.old))
+            (state_of self.new) result }
     {
         self.expected = Expected::Any;
         self.tree.begin_map()?;
@@ -121,7 +123,8 @@ impl TreeReader {
 
     // A value is complete.
     fn complete(&mut self, value: Ipld) -> Result<(), Rejection>
-        ensures { Follows (PutsValue (levels_of self.old)) (completed (tree_of value) (levels_of self.old)) (state_of self.new) result }
+        ensures { Follows (PutsValue (levels_of self.old)) (completed (tree_of value)
+            (levels_of self.old)) (state_of self.new) result }
     {
         self.expected = Expected::Any;
         self.tree.put(value)?;
@@ -130,7 +133,8 @@ impl TreeReader {
 
     // The end of a list comes.
     fn end_list(&mut self) -> Result<(), Rejection>
-        ensures { Follows (AllocatesOpen (levels_of self.old) seq_end) (open_step (levels_of self.old) seq_end) (state_of self.new) result }
+        ensures { Follows (AllocatesOpen (levels_of self.old) seq_end)
+            (open_step (levels_of self.old) seq_end) (state_of self.new) result }
     {
         let items = self.tree.end_list()?;
         self.complete(Ipld::List(items))
@@ -139,32 +143,39 @@ impl TreeReader {
     // The innermost map ends.
     fn end_map(&mut self) -> Result<(), Rejection>
         requires { building.at_key (building.state_of self.old.tree) ≡ true }
-        ensures { Follows (PutsClosed (levels_of self.old)) (closed (levels_of self.old)) (state_of self.new) result }
+        ensures { Follows (PutsClosed (levels_of self.old)) (closed (levels_of self.old))
+            (state_of self.new) result }
     {
         let members = self.tree.end_map()?;
         self.complete(Ipld::Map(members))
     }
 
     fn take_null(&mut self) -> Result<(), Rejection>
-        ensures { Follows (PutsValue (levels_of self.old)) (completed tree.null (levels_of self.old)) (state_of self.new) result }
+        ensures { Follows (PutsValue (levels_of self.old))
+            (completed tree.null (levels_of self.old)) (state_of self.new) result }
     {
         self.complete(Ipld::Null)
     }
 
     fn take_bool(&mut self, value: bool) -> Result<(), Rejection>
-        ensures { Follows (PutsValue (levels_of self.old)) (completed (tree.boolean value) (levels_of self.old)) (state_of self.new) result }
+        ensures { Follows (PutsValue (levels_of self.old)) (completed (tree.boolean value)
+            (levels_of self.old)) (state_of self.new) result }
     {
         self.complete(Ipld::Bool(value))
     }
 
     fn take_integer(&mut self, number: i128) -> Result<(), Rejection>
-        ensures { Follows (PutsValue (levels_of self.old)) (completed (tree.integer number) (levels_of self.old)) (state_of self.new) result }
+        ensures { Follows (PutsValue (levels_of self.old)) (completed (tree.integer number)
+            (levels_of self.old)) (state_of self.new) result }
     {
         self.complete(Ipld::Integer(number))
     }
 
     fn take_unsigned(&mut self, number: u128) -> Result<(), Rejection>
-        ensures { Follows (PutsReceived (if nat_lt number (2 ^ 127) then Some (tree.integer (pos number)) else None) (levels_of self.old)) (completed_if (if nat_lt number (2 ^ 127) then Some (tree.integer (pos number)) else None) (levels_of self.old)) (state_of self.new) result }
+        ensures { Follows (PutsReceived (if nat_lt number (2 ^ 127)
+            then Some (tree.integer (pos number)) else None) (levels_of self.old))
+            (completed_if (if nat_lt number (2 ^ 127) then Some (tree.integer (pos number))
+            else None) (levels_of self.old)) (state_of self.new) result }
     {
         match integer_of(number) {
             Some(number) => self.take_integer(number),
@@ -173,21 +184,24 @@ impl TreeReader {
     }
 
     fn take_text(&mut self, text: &str) -> Result<(), Rejection>
-        ensures { Follows (Unit {0}) (completed (tree.text text.now) (levels_of self.old)) (state_of self.new) result }
+        ensures { Follows (Unit {0}) (completed (tree.text text.now) (levels_of self.old))
+            (state_of self.new) result }
     {
         let text = String::from_str(self.alloc, text)?;
         self.complete(Ipld::String(text))
     }
 
     fn take_character(&mut self, character: char) -> Result<(), Rejection>
-        ensures { Follows (Unit {0}) (completed (tree.text (encode_utf8 character)) (levels_of self.old)) (state_of self.new) result }
+        ensures { Follows (Unit {0}) (completed (tree.text (encode_utf8 character))
+            (levels_of self.old)) (state_of self.new) result }
     {
         let text = text_of(self.alloc, character)?;
         self.complete(Ipld::String(text))
     }
 
     fn take_bytes(&mut self, bytes: &TokenBytes<'_>) -> Result<(), Rejection>
-        ensures { Follows (Unit {0}) (completed (tree.bytes (bytes_in bytes.now)) (levels_of self.old)) (state_of self.new) result }
+        ensures { Follows (Unit {0}) (completed (tree.bytes (bytes_in bytes.now))
+            (levels_of self.old)) (state_of self.new) result }
     {
         let bytes = Vec::from_slice(self.alloc, bytes.as_slice())?;
         self.complete(Ipld::Bytes(bytes))
@@ -195,7 +209,8 @@ impl TreeReader {
 
     #[inline(always)]
     fn expect(&mut self, expected: Expected) -> Result<(), Rejection>
-        ensures { Follows ⊥ (state_of (record self.old { expected = expected })) (state_of self.new) result }
+        ensures { Follows ⊥ (state_of (record self.old { expected = expected }))
+            (state_of self.new) result }
     {
         self.expected = expected;
         Ok(())
@@ -203,7 +218,8 @@ impl TreeReader {
 
     // A token where a value has to come.
     fn take_value(&mut self, token: &Token<'_>) -> Result<(), Rejection>
-        ensures { Follows (AllocatesValue (levels_of self.old) (erase token.now)) (value_step (levels_of self.old) (erase token.now)) (state_of self.new) result }
+        ensures { Follows (AllocatesValue (levels_of self.old) (erase token.now))
+            (value_step (levels_of self.old) (erase token.now)) (state_of self.new) result }
     {
         match token {
             Token::None | Token::Unit | Token::UnitStruct => self.take_null(),
@@ -244,7 +260,8 @@ impl TreeReader {
     // A key is complete.
     fn keep_key(&mut self, key: String) -> Result<(), Rejection>
         requires { building.at_key (building.state_of self.old.tree) ≡ true }
-        ensures { Follows ⊥ (key_kept (string_bytes key) (levels_of self.old)) (state_of self.new) result }
+        ensures { Follows ⊥ (key_kept (string_bytes key) (levels_of self.old))
+            (state_of self.new) result }
     {
         self.expected = Expected::Any;
         self.tree.put_key(key)?;
@@ -254,7 +271,8 @@ impl TreeReader {
     // A token where a key has to come, or the end of the map.
     fn take_key(&mut self, token: &Token<'_>) -> Result<(), Rejection>
         requires { building.at_key (building.state_of self.old.tree) ≡ true }
-        ensures { Follows (AllocatesKeyToken (levels_of self.old) (erase token.now)) (key_taken (levels_of self.old) (erase token.now)) (state_of self.new) result }
+        ensures { Follows (AllocatesKeyToken (levels_of self.old) (erase token.now))
+            (key_taken (levels_of self.old) (erase token.now)) (state_of self.new) result }
     {
         match token {
             Token::MapEnd => self.end_map(),
@@ -273,7 +291,8 @@ impl TreeReader {
     // A token where a value may come, or a key, or an end.
     fn take_open(&mut self, token: &Token<'_>) -> Result<(), Rejection>
         requires { building.is_open (building.state_of self.old.tree) ≡ true }
-        ensures { Follows (AllocatesOpen (levels_of self.old) (erase token.now)) (open_step (levels_of self.old) (erase token.now)) (state_of self.new) result }
+        ensures { Follows (AllocatesOpen (levels_of self.old) (erase token.now))
+            (open_step (levels_of self.old) (erase token.now)) (state_of self.new) result }
     {
         if self.tree.is_at_key() {
             self.take_key(token)
@@ -286,7 +305,8 @@ impl TreeReader {
 
     // A token where the bytes of a link have to come.
     fn take_link(&mut self, token: &Token<'_>) -> Result<(), Rejection>
-        ensures { Follows (AllocatesLink (levels_of self.old) (erase token.now)) (link_step (levels_of self.old) (erase token.now)) (state_of self.new) result }
+        ensures { Follows (AllocatesLink (levels_of self.old) (erase token.now))
+            (link_step (levels_of self.old) (erase token.now)) (state_of self.new) result }
     {
         match token {
             Token::Bytes(bytes) => {

@@ -62,7 +62,8 @@ impl<'a> IpldTokens<'a> {
     ///
     /// `AllocError` if an allocation fails, or if the tree nests deeper than a `usize` counts, as no tree that fits in memory does.
     pub fn new(alloc: Global, tree: &'a Ipld) -> Result<Self, AllocError>
-        ensures tokens { IfOk result (λ source. tokens_left source ≡ tokens_of_tree (tree_of tree.now)) }
+        ensures tokens { IfOk result (λ source. tokens_left source ≡ tokens_of_tree
+            (tree_of tree.now)) }
         ensures not_failed { IfOk result (λ source. has_stopped source ≡ false) }
         ensures whole { OnOk result (IsWhole (tree_of tree.now)) }
     {
@@ -95,7 +96,8 @@ impl<'a> TokenSource<'a> for IpldTokens<'a> {
     ghost allows_end = { λ _. Unit {0} };
 
     fn next_token(&mut self) -> Result<Option<Token<'a>>, AllocError>
-        ensures next { NextToken (λ _. Unit {0}) (Unit {0}) (tokens_left self.old) (tokens_left self.new) result }
+        ensures next { NextToken (λ _. Unit {0}) (Unit {0}) (tokens_left self.old)
+            (tokens_left self.new) result }
         ensures origin { origin_of self.new ≡ origin_of self.old }
         ensures failed { has_stopped self.new ≡ is_err result }
         ensures stays { has_stopped self.old ≡ true → is_err result ≡ true }
@@ -127,7 +129,8 @@ impl<'a> TokenSource<'a> for IpldTokens<'a> {
 }
 
 fn slots_needed(alloc: Global, tree: &Ipld) -> Result<Option<usize>, AllocError>
-    ensures needed { IfOk result (λ slots. MatchOption slots (2 ^ 64 ≤ suc (nest (tree_of tree.now))) (λ n. n ≡ suc (nest (tree_of tree.now)))) }
+    ensures needed { IfOk result (λ slots. MatchOption slots
+        (2 ^ 64 ≤ suc (nest (tree_of tree.now))) (λ n. n ≡ suc (nest (tree_of tree.now)))) }
     ensures whole { OnOk result (IsWhole (tree_of tree.now)) }
 {
     Ok(tree.try_nesting(alloc)?.checked_add(1))
@@ -139,8 +142,10 @@ fn push_cursors<'a>(
     rest: Option<TokenCursor<'a>>,
     inner: Option<TokenCursor<'a>>,
 )
-    requires { length stack.old.items + length (cursors_in rest ++ cursors_in inner) ≤ vec_capacity stack.old }
-    ensures items { stack.new.items ≡ stack.old.items ++ (cursors_in rest.entry ++ cursors_in inner.entry) }
+    requires { length stack.old.items + length (cursors_in rest ++ cursors_in inner)
+        ≤ vec_capacity stack.old }
+    ensures items { stack.new.items ≡ stack.old.items ++ (cursors_in rest.entry
+        ++ cursors_in inner.entry) }
     ensures capacity { vec_capacity stack.old ≤ vec_capacity stack.new }
 {
     if let Some(rest) = rest {
@@ -153,7 +158,8 @@ fn push_cursors<'a>(
 
 // The token that a value begins with, and what opens in it.
 fn begin_value<'a>(value: &'a Ipld) -> (Token<'a>, Option<TokenCursor<'a>>)
-    ensures tokens { tokens_of_tree (tree_of value.now) ≡ erase result.0 ∷ all_left (cursors_in result.1) }
+    ensures tokens { tokens_of_tree (tree_of value.now) ≡ erase result.0 ∷ all_left
+        (cursors_in result.1) }
     ensures slots { slots (cursors_in result.1) ≤ suc (nest (tree_of value.now)) }
     ensures counts { Counts result.0 (tree_of value.now) }
 {
@@ -178,7 +184,8 @@ fn begin_value<'a>(value: &'a Ipld) -> (Token<'a>, Option<TokenCursor<'a>>)
 // A value, and what comes after it.
 fn step_into<'a>(value: &'a Ipld, rest: Option<TokenCursor<'a>>) -> Step<'a>
     ensures rest { result.rest ≡ rest.entry }
-    ensures tokens { tokens_of_tree (tree_of value.now) ≡ erase result.token ∷ all_left (cursors_in result.inner) }
+    ensures tokens { tokens_of_tree (tree_of value.now) ≡ erase result.token ∷ all_left
+        (cursors_in result.inner) }
     ensures slots { slots (cursors_in result.inner) ≤ suc (nest (tree_of value.now)) }
     ensures counts { Counts result.token (tree_of value.now) }
 {

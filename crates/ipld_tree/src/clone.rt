@@ -118,7 +118,8 @@ fn add_copy(
     levels: usize,
 ) -> Result<(), AllocError>
     requires { vec_len copies.old < vec_capacity copies.old }
-    ensures copy { OnOk result (map tree_of copies.new.items ≡ map tree_of copies.old.items ++ tree_of value.now ∷ []) }
+    ensures copy { OnOk result (map tree_of copies.new.items ≡ map tree_of copies.old.items
+        ++ tree_of value.now ∷ []) }
     ensures len { OnOk result (vec_len copies.new ≡ vec_len copies.old + 1) }
     ensures capacity { vec_capacity copies.new ≡ vec_capacity copies.old }
 {
@@ -154,7 +155,8 @@ fn add_new_copy(
     levels: usize,
 ) -> Result<(), AllocError>
     requires { vec_len copies.old < vec_capacity copies.old }
-    ensures copy { OnOk result (map tree_of copies.new.items ≡ map tree_of copies.old.items ++ tree_of value.now ∷ []) }
+    ensures copy { OnOk result (map tree_of copies.new.items ≡ map tree_of copies.old.items
+        ++ tree_of value.now ∷ []) }
     ensures len { OnOk result (vec_len copies.new ≡ vec_len copies.old + 1) }
     ensures capacity { vec_capacity copies.new ≡ vec_capacity copies.old }
 {
@@ -252,7 +254,8 @@ fn copy_scalar(alloc: Global, value: &Ipld) -> Result<Ipld, AllocError>
 #[inline(never)]
 fn add_flat_copy(copies: &mut Vec<Ipld>, members: &BTreeMap<String, Ipld>) -> Result<(), AllocError>
     requires { vec_len copies.old < vec_capacity copies.old }
-    ensures copy { OnOk result (map tree_of copies.new.items ≡ map tree_of copies.old.items ++ entries (members_of members.now.entries) ∷ []) }
+    ensures copy { OnOk result (map tree_of copies.new.items ≡ map tree_of copies.old.items
+        ++ entries (members_of members.now.entries) ∷ []) }
     ensures len { OnOk result (vec_len copies.new ≡ vec_len copies.old + 1) }
     ensures capacity { vec_capacity copies.new ≡ vec_capacity copies.old }
 {

@@ -115,8 +115,10 @@ fn ascend(mut container: Ipld) -> Option<(Ipld, Ipld)>
 
 // Puts a value in place of the first item, and returns that one; the value itself where there is none.
 fn exchange_first_item(items: &mut Vec<Ipld>, value: Ipld) -> Result<Ipld, Ipld>
-    ensures kept { MatchResult result (λ x. total items.new.items + size x ≡ total items.old.items + size value) (λ x. x ≡ value) }
-    ensures found { MatchResult result (λ x. size x ≤ total items.old.items) (λ _. items.new.items ≡ []) }
+    ensures kept { MatchResult result (λ x. total items.new.items + size x ≡ total items.old.items
+        + size value) (λ x. x ≡ value) }
+    ensures found { MatchResult result (λ x. size x ≤ total items.old.items) (λ _.
+        items.new.items ≡ []) }
 {
     match items.first_mut() {
         Some(first) => Ok(mem::replace(first, value)),
@@ -126,8 +128,10 @@ fn exchange_first_item(items: &mut Vec<Ipld>, value: Ipld) -> Result<Ipld, Ipld>
 
 // Puts a value in place of the one at the first key, and returns that one; the value itself where there is none.
 fn exchange_first_member(members: &mut BTreeMap<String, Ipld>, value: Ipld) -> Result<Ipld, Ipld>
-    ensures kept { MatchResult result (λ x. total (values_of members.new.entries) + size x ≡ total (values_of members.old.entries) + size value) (λ x. x ≡ value) }
-    ensures found { MatchResult result (λ x. size x ≤ total (values_of members.old.entries)) (λ _. members.new.entries ≡ []) }
+    ensures kept { MatchResult result (λ x. total (values_of members.new.entries) + size x ≡ total
+        (values_of members.old.entries) + size value) (λ x. x ≡ value) }
+    ensures found { MatchResult result (λ x. size x ≤ total (values_of members.old.entries)) (λ _.
+        members.new.entries ≡ []) }
 {
     match members.first_entry() {
         Some(mut first) => Ok(first.insert(value)),

@@ -58,7 +58,8 @@ impl<'a> GrowingWalk<'a> {
     // Goes into what has opened, if anything.
     #[inline(always)]
     fn enter(&mut self, opened: Option<Cursor<'a>>) -> Result<(), AllocError>
-        ensures { OnOk result (levels_in self.new ≡ levels_in self.old ++ levels_of (cursors_in opened.entry)) }
+        ensures { OnOk result (levels_in self.new ≡ levels_in self.old ++ levels_of
+            (cursors_in opened.entry)) }
     {
         if let Some(inner) = opened {
             self.outer.reserve(1)?;

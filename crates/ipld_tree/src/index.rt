@@ -175,7 +175,8 @@ fn value_at_segment<'t, 'a>(
     value: &'t Ipld,
     segment: &'a str,
 ) -> Result<Option<&'t Ipld>, IndexError<'a>>
-    ensures { outcome_of_get result ≡ found_along (filter (λ part. nat_lt 0 (length part)) (segment.now ∷ [])) (tree_of value.now) }
+    ensures { outcome_of_get result ≡ found_along (filter (λ part. nat_lt 0 (length part))
+        (segment.now ∷ [])) (tree_of value.now) }
 {
     if segment.is_empty() {
         Ok(Some(value))
@@ -204,7 +205,8 @@ fn item_at<'t, 'a>(
     items: &'t Vec<Ipld>,
     index: IpldIndex<'a>,
 ) -> Result<Option<&'t Ipld>, IndexError<'a>>
-    ensures { outcome_of_get result ≡ numbered (number_meant (index_of index.entry)) (index_of index.entry) (items_of items.now.items) }
+    ensures { outcome_of_get result ≡ numbered (number_meant (index_of index.entry))
+        (index_of index.entry) (items_of items.now.items) }
 {
     match list_position(&index) {
         Some(number) => Ok(item_at_position(items, number)),
@@ -223,7 +225,8 @@ fn item_at_position(items: &Vec<Ipld>, number: usize) -> Option<&Ipld>
 }
 
 fn member_at<'t>(members: &'t BTreeMap<String, Ipld>, index: &IpldIndex) -> Option<&'t Ipld>
-    ensures { option_map (λ v. tree_of v.now) result ≡ value_at (key_meant (index_of index.now)) (members_of members.now.entries) }
+    ensures { option_map (λ v. tree_of v.now) result ≡ value_at (key_meant (index_of index.now))
+        (members_of members.now.entries) }
 {
     match index {
         IpldIndex::List(number) => member_of_key(members, Buffer::new().format(*number)),
@@ -233,13 +236,15 @@ fn member_at<'t>(members: &'t BTreeMap<String, Ipld>, index: &IpldIndex) -> Opti
 }
 
 fn member_of_key<'t>(members: &'t BTreeMap<String, Ipld>, key: &str) -> Option<&'t Ipld>
-    ensures { option_map (λ v. tree_of v.now) result ≡ value_at key.now (members_of members.now.entries) }
+    ensures { option_map (λ v. tree_of v.now) result ≡ value_at key.now
+        (members_of members.now.entries) }
 {
     members.get(key)
 }
 
 fn take_item_at<'a>(items: Vec<Ipld>, index: IpldIndex<'a>) -> Result<Option<Ipld>, IndexError<'a>>
-    ensures { outcome_of_take result ≡ numbered (number_meant (index_of index.entry)) (index_of index.entry) (items_of items.items) }
+    ensures { outcome_of_take result ≡ numbered (number_meant (index_of index.entry))
+        (index_of index.entry) (items_of items.items) }
 {
     match list_position(&index) {
         Some(number) => Ok(take_item_at_position(items, number)),
@@ -263,7 +268,8 @@ fn take_item_at_position(mut items: Vec<Ipld>, number: usize) -> Option<Ipld>
 }
 
 fn take_member_at(members: BTreeMap<String, Ipld>, index: &IpldIndex) -> Option<Ipld>
-    ensures { option_map tree_of result ≡ value_at (key_meant (index_of index.now)) (members_of members.entries) }
+    ensures { option_map tree_of result ≡ value_at (key_meant (index_of index.now))
+        (members_of members.entries) }
 {
     match index {
         IpldIndex::List(number) => take_member_of_key(members, Buffer::new().format(*number)),

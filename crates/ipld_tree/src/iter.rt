@@ -120,7 +120,8 @@ impl Ipld {
     /// It recurses once for each level, so that a tree that nests too deep for the call stack ends the process:
     /// [`Ipld::try_nesting`] measures by a loop, which allocates.
     pub fn nesting(&self) -> Option<usize>
-        ensures nested { MatchOption result (2 ^ 64 ≤ nest (tree_of self.now)) (λ n. n ≡ nest (tree_of self.now)) }
+        ensures nested { MatchOption result (2 ^ 64 ≤ nest (tree_of self.now)) (λ n.
+            n ≡ nest (tree_of self.now)) }
         ensures whole { OnSome result (IsWhole (tree_of self.now)) }
     {
         nesting_within(self, usize::MAX)
@@ -132,7 +133,8 @@ impl Ipld {
     /// It allocates as [`Ipld::iter`] does, and returns `AllocError` where that does.
     pub fn whole_walk(&self, alloc: Global) -> Result<IpldIter<'_>, AllocError>
         ensures ended { IfOk result (λ w. w.levels ≡ []) }
-        ensures iterations { IfOk result (λ w. w.iterations ≡ length (preorder (tree_of self.now)) + containers (preorder (tree_of self.now)) + 2) }
+        ensures iterations { IfOk result (λ w. w.iterations ≡ length (preorder (tree_of self.now))
+            + containers (preorder (tree_of self.now)) + 2) }
         ensures capacity { IfOk result (λ w. w.capacity ≡ 1 + nest (tree_of self.now)) }
     {
         let mut walk = self.iter(alloc)?;
@@ -203,7 +205,8 @@ fn take_next<'a>(stack: &mut Vec<Cursor<'a>>) -> Iteration<'a>
 #[inline(always)]
 fn push_cursor_into<'a>(stack: &mut Vec<Cursor<'a>>, value: &'a Ipld)
     requires { length stack.old.items + container (tree_of value.now) ≤ vec_capacity stack.old }
-    ensures holds { Holds (levels_of stack.old.items) (tree_of value.now) (levels_of stack.new.items) }
+    ensures holds { Holds (levels_of stack.old.items) (tree_of value.now)
+        (levels_of stack.new.items) }
     ensures capacity { vec_capacity stack.new ≡ vec_capacity stack.old }
 {
     match value {
@@ -217,7 +220,8 @@ fn push_cursor_into<'a>(stack: &mut Vec<Cursor<'a>>, value: &'a Ipld)
 #[inline(never)]
 fn push_container_cursor<'a>(stack: &mut Vec<Cursor<'a>>, value: &'a Ipld)
     requires { length stack.old.items + container (tree_of value.now) ≤ vec_capacity stack.old }
-    ensures holds { Holds (levels_of stack.old.items) (tree_of value.now) (levels_of stack.new.items) }
+    ensures holds { Holds (levels_of stack.old.items) (tree_of value.now)
+        (levels_of stack.new.items) }
     ensures capacity { vec_capacity stack.new ≡ vec_capacity stack.old }
 {
     if let Some(inner) = cursor_into(value) {

@@ -33,9 +33,11 @@ pub fn push(list: &mut Vec<Ipld>, item: Ipld) -> Result<(), AllocError>
 /// Puts a value at a key of a map, in place of what stood there, for `ipld!`. If an allocation fails for another entry, the map is
 /// as before, and the key and the value are dropped. What is dropped is dropped as [`Ipld::discard`] does.
 pub fn put(map: &mut BTreeMap<String, Ipld>, key: String, value: Ipld) -> Result<(), AllocError>
-    ensures ok { OnOk result (members_of map.new.entries ≡ with_member (string_bytes key) (tree_of value) (members_of map.old.entries)) }
+    ensures ok { OnOk result (members_of map.new.entries ≡ with_member (string_bytes key)
+        (tree_of value) (members_of map.old.entries)) }
     ensures err { OnErr result (members_of map.new.entries ≡ members_of map.old.entries) }
-    ensures absent { OnErr result (value_at (string_bytes key) (members_of map.old.entries) ≡ None) }
+    ensures absent { OnErr result (value_at (string_bytes key) (members_of map.old.entries)
+        ≡ None) }
 {
     match map.insert(key, value) {
         Ok(None) => Ok(()),
@@ -113,9 +115,11 @@ impl MapBuilder {
     /// Puts a value at a key, in place of what stood there, as [`put`] does.
     #[inline(always)]
     pub fn put(&mut self, key: String, value: Ipld) -> Result<(), AllocError>
-        ensures ok { OnOk result (members_so_far self.new ≡ with_member (string_bytes key) (tree_of value) (members_so_far self.old)) }
+        ensures ok { OnOk result (members_so_far self.new ≡ with_member (string_bytes key)
+            (tree_of value) (members_so_far self.old)) }
         ensures err { OnErr result (members_so_far self.new ≡ members_so_far self.old) }
-        ensures absent { OnErr result (value_at (string_bytes key) (members_so_far self.old) ≡ None) }
+        ensures absent { OnErr result (value_at (string_bytes key) (members_so_far self.old)
+            ≡ None) }
     {
         put(&mut self.members, key, value)
     }

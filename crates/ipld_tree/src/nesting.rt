@@ -20,7 +20,8 @@ use std::slice;
 #[cycle(nesting_within)]
 #[inline(always)]
 pub(crate) fn nesting_within(value: &Ipld, levels: usize) -> Option<usize>
-    ensures nested { MatchOption result (levels < nest (tree_of value.now)) (λ n. n ≡ nest (tree_of value.now)) }
+    ensures nested { MatchOption result (levels < nest (tree_of value.now)) (λ n.
+        n ≡ nest (tree_of value.now)) }
     ensures within { IfSome result (λ n. n ≤ levels) }
     ensures whole { OnSome result (IsWhole (tree_of value.now)) }
 {
@@ -43,7 +44,8 @@ pub(crate) fn nesting_within(value: &Ipld, levels: usize) -> Option<usize>
 // How deep a list of the items nests.
 #[cycle(nesting_within)]
 fn list_nesting_within(items: slice::Iter<'_, Ipld>, levels: usize) -> Option<usize>
-    ensures nested { MatchOption result (levels < suc (deepest (iter_rest items.entry))) (λ n. n ≡ suc (deepest (iter_rest items.entry))) }
+    ensures nested { MatchOption result (levels < suc (deepest (iter_rest items.entry))) (λ n.
+        n ≡ suc (deepest (iter_rest items.entry))) }
     ensures within { IfSome result (λ n. n ≤ levels) }
     ensures whole { OnSome result (AllWhole (iter_rest items.entry)) }
 {
@@ -58,7 +60,8 @@ fn list_nesting_within(items: slice::Iter<'_, Ipld>, levels: usize) -> Option<us
 // How deep a map of the members nests.
 #[cycle(nesting_within)]
 fn map_nesting_within(members: &BTreeMap<String, Ipld>, levels: usize) -> Option<usize>
-    ensures nested { MatchOption result (levels < suc (deepest (values_of members.now.entries))) (λ n. n ≡ suc (deepest (values_of members.now.entries))) }
+    ensures nested { MatchOption result (levels < suc (deepest (values_of members.now.entries)))
+        (λ n. n ≡ suc (deepest (values_of members.now.entries))) }
     ensures within { IfSome result (λ n. n ≤ levels) }
     ensures ordered { OnSome result (IsStrictlySortedBy string_cmp (keys_of members.now.entries)) }
     ensures whole { OnSome result (AllWhole (values_of members.now.entries)) }

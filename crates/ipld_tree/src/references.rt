@@ -94,7 +94,8 @@ fn add_links_of_items(
     items: slice::Iter<'_, Ipld>,
     levels: usize,
 ) -> Result<(), AllocError>
-    ensures { Appends set.old.items set.new.items (links_among (walks (iter_rest items.entry))) (is_ok result) }
+    ensures { Appends set.old.items set.new.items (links_among (walks (iter_rest items.entry)))
+        (is_ok result) }
 {
     for item in items {
         add_links(alloc, set, item, levels)?;
@@ -110,7 +111,8 @@ fn add_links_of_members(
     members: &BTreeMap<String, Ipld>,
     levels: usize,
 ) -> Result<(), AllocError>
-    ensures { Appends set.old.items set.new.items (links_among (walks (values_of members.now.entries))) (is_ok result) }
+    ensures { Appends set.old.items set.new.items
+        (links_among (walks (values_of members.now.entries))) (is_ok result) }
 {
     for member in members.values() {
         add_links(alloc, set, member, levels)?;

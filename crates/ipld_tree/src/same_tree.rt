@@ -19,7 +19,8 @@ impl Ipld {
     /// that fails. It stops at the first value that differs.
     pub fn same_tree(&self, alloc: Global, other: &Ipld) -> Result<bool, AllocError>
         ensures same { IfOk result (λ same. same ≡ tree_eq (tree_of self.now) (tree_of other.now)) }
-        ensures nested { OnErr result ((0 < nest (tree_of self.now)) × (0 < nest (tree_of other.now))) }
+        ensures nested { OnErr result ((0 < nest (tree_of self.now))
+            × (0 < nest (tree_of other.now))) }
     {
         if holds_none(self) || holds_none(other) {
             return Ok(same_head(self, other));

@@ -40,7 +40,8 @@ fn number_of(version: CarVersion) -> u64
 
 // Writes the CIDs to the buffer's beginning, where it holds them, and how many they are in either case.
 fn fill_roots(cids: &[Cid], buffer: &mut [CidBytes], needed: &mut usize) -> u32
-    ensures { Fills (map (λ cid. record_of (link_of cid)) cids.now) result buffer.old buffer.new needed.new }
+    ensures { Fills (map (λ cid. record_of (link_of cid)) cids.now) result buffer.old buffer.new
+        needed.new }
 {
     *needed = cids.len();
     if buffer.len() < cids.len() {
@@ -64,8 +65,10 @@ pub extern "C" fn kombilad_car_open(
     offset: &mut usize,
 ) -> u32
     ensures exact { OpensCar limit car.now result
-        (record { before = opened.old; after = opened.new }) (record { before = roots.old; after = roots.new })
-        (record { before = needed.old; after = needed.new }) (record { before = offset.old; after = offset.new }) }
+        (record { before = opened.old; after = opened.new }) (record { before = roots.old; after =
+        roots.new })
+        (record { before = needed.old; after = needed.new }) (record { before = offset.old; after =
+        offset.new }) }
     ensures only { (version : versions.CarVersion) (front rest : List ℕ) (links : List Link)
         (start end : ℕ) → car.now ≡ front ++ rest
         → IsFront limit version front links start end → length front ≤ end → end < 2 ^ 64

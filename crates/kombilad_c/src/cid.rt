@@ -71,7 +71,8 @@ fn write_base32(cid: &Cid, bytes: &[u8], text: &mut [u8], needed: &mut usize) ->
     ensures { MatchOption result
         (IsUntouched text.old text.new needed.old needed.new)
         (λ status. WritesText Base.Base32Lower (link_of cid.now) status
-        (record { before = text.old; after = text.new }) (record { before = needed.old; after = needed.new })) }
+        (record { before = text.old; after = text.new }) (record { before = needed.old; after =
+        needed.new })) }
 {
     fill_base32(bytes, text, needed)
 }
@@ -79,7 +80,8 @@ fn write_base32(cid: &Cid, bytes: &[u8], text: &mut [u8], needed: &mut usize) ->
 // Writes the text of the CID in the base.
 fn write_in_base(alloc: Global, cid: &Cid, base: Base, text: &mut [u8], needed: &mut usize) -> u32
     ensures { WritesText base (link_of cid.now) result
-        (record { before = text.old; after = text.new }) (record { before = needed.old; after = needed.new }) }
+        (record { before = text.old; after = text.new }) (record { before = needed.old; after =
+        needed.new }) }
 {
     match to_string_of_base(alloc, cid, base) {
         Ok(content) => fill(content.as_bytes(), text, needed),
@@ -100,7 +102,8 @@ fn write_quickly(
 ) -> u32
     requires { read_cid 64 bytes.now ≡ Ok (link_of cid.now) }
     ensures { WritesText base (link_of cid.now) result
-        (record { before = text.old; after = text.new }) (record { before = needed.old; after = needed.new }) }
+        (record { before = text.old; after = text.new }) (record { before = needed.old; after =
+        needed.new }) }
 {
     let written = match (base, cid.version()) {
         (Base::Base32Lower, Version::V1) => write_base32(cid, bytes, text, needed),
@@ -125,8 +128,10 @@ pub extern "C" fn kombilad_cid_to_text(
         (λ link. MatchOption (asked_base link.version base)
         ((result ≡ 4) × IsUntouched text.old text.new needed.old needed.new)
         (λ chosen. WritesText chosen link result
-        (record { before = text.old; after = text.new }) (record { before = needed.old; after = needed.new })))
-        (λ error. (result ≡ numbers.cid_status error) × IsUntouched text.old text.new needed.old needed.new) }
+        (record { before = text.old; after = text.new }) (record { before = needed.old; after =
+        needed.new })))
+        (λ error. (result ≡ numbers.cid_status error)
+        × IsUntouched text.old text.new needed.old needed.new) }
 {
     match Cid::try_from(bytes) {
         Ok(cid) => match base_of(cid.version(), base) {
@@ -139,8 +144,10 @@ pub extern "C" fn kombilad_cid_to_text(
 
 // The CID of a text, or the place of the letter that is none.
 fn parse_text(text: &str, cid: &mut CidBytes, place: &mut usize) -> u32
-    ensures read { IsParsed text.now result cid.new place.old place.new ⊎ IsRejected text.now result cid.old cid.new place.old place.new }
-    ensures only { (link : Link) → IsText link text.now → (result ≡ 0) × (cid.new ≡ record_of link) }
+    ensures read { IsParsed text.now result cid.new place.old place.new
+        ⊎ IsRejected text.now result cid.old cid.new place.old place.new }
+    ensures only { (link : Link) → IsText link text.now → (result ≡ 0)
+        × (cid.new ≡ record_of link) }
 {
     match parse_any(text) {
         Ok(parsed) => {
@@ -162,7 +169,8 @@ pub extern "C" fn kombilad_cid_from_text(text: &[u8], cid: &mut CidBytes, place:
     ensures read { IsParsed text.now result cid.new place.old place.new
         ⊎ IsRejected text.now result cid.old cid.new place.old place.new
         ⊎ IsNoText text.now result cid.old cid.new place.old place.new }
-    ensures only { (link : Link) → IsText link text.now → (result ≡ 0) × (cid.new ≡ record_of link) }
+    ensures only { (link : Link) → IsText link text.now → (result ≡ 0)
+        × (cid.new ≡ record_of link) }
 {
     match str::from_utf8(text) {
         Ok(text) => parse_text(text, cid, place),

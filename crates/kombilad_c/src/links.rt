@@ -31,7 +31,8 @@ fn fill_links(
     needed: &mut usize,
 ) -> u32
     requires { All (λ position. length (cut (position_of position) block.now) ≤ 87) positions.now }
-    ensures { Fills (map (λ position. record_with (cut (position_of position) block.now)) positions.now) result buffer.old buffer.new needed.new }
+    ensures { Fills (map (λ position. record_with (cut (position_of position) block.now))
+        positions.now) result buffer.old buffer.new needed.new }
 {
     *needed = positions.len();
     if buffer.len() < positions.len() {
@@ -55,7 +56,8 @@ pub extern "C" fn kombilad_links(
     offset: &mut usize,
 ) -> u32
     ensures { ListsLinks (record { levels = levels; values = values }) block.now result
-        (record { before = links.old; after = links.new }) (record { before = needed.old; after = needed.new })
+        (record { before = links.old; after = links.new }) (record { before = needed.old; after =
+        needed.new })
         (record { before = offset.old; after = offset.new }) }
 {
     let options = ReadOptions {

@@ -30,7 +30,8 @@ impl NodeTape {
 
     // Content at a span.
     fn push_content(&mut self, kind: u32, span: PbSpan) -> Result<(), AllocError>
-        ensures { OnOk result (entries_of self.new ≡ joined (entries_of self.old) (content_at kind span)) }
+        ensures { OnOk result (entries_of self.new ≡ joined (entries_of self.old)
+            (content_at kind span)) }
     {
         match u32::try_from(span.len) {
             Ok(len) => {
@@ -47,7 +48,8 @@ impl NodeTape {
 
     // The same, where there is any.
     fn push_content_if_any(&mut self, kind: u32, span: Option<PbSpan>) -> Result<(), AllocError>
-        ensures { OnOk result (entries_of self.new ≡ joined (entries_of self.old) (content_where kind span)) }
+        ensures { OnOk result (entries_of self.new ≡ joined (entries_of self.old)
+            (content_where kind span)) }
     {
         match span {
             Some(span) => self.push_content(kind, span),
@@ -57,7 +59,8 @@ impl NodeTape {
 
     // A size, where there is one.
     fn push_tsize(&mut self, tsize: Option<u64>) -> Result<(), AllocError>
-        ensures { OnOk result (entries_of self.new ≡ joined (entries_of self.old) (Some (tsize_entry tsize))) }
+        ensures { OnOk result (entries_of self.new ≡ joined (entries_of self.old)
+            (Some (tsize_entry tsize))) }
     {
         match tsize {
             Some(value) => {
@@ -74,7 +77,8 @@ impl NodeTape {
 
     // A link.
     fn push_link(&mut self, spans: &PbLinkSpans) -> Result<(), AllocError>
-        ensures { OnOk result (entries_of self.new ≡ joined (entries_of self.old) (link_at spans.now)) }
+        ensures { OnOk result (entries_of self.new ≡ joined (entries_of self.old)
+            (link_at spans.now)) }
     {
         self.push_content(LINK, spans.hash)?;
         self.push_content_if_any(STRING, spans.name)?;
@@ -106,7 +110,8 @@ pub extern "C" fn kombilad_pb_tape(
     offset: &mut usize,
 ) -> u32
     ensures exact { ListsPbTape block.now result
-        (record { before = entries.old; after = entries.new }) (record { before = needed.old; after = needed.new })
+        (record { before = entries.old; after = entries.new }) (record { before = needed.old;
+        after = needed.new })
         (record { before = offset.old; after = offset.new }) }
     ensures only { (n : NodeParts) → IsNode n block.now → IsOfNode result }
 {

@@ -34,7 +34,8 @@ impl Span {
 
 // Writes the places to the buffer's beginning, where it holds them, and how many they are in either case.
 fn fill_positions(positions: &[LinkPosition], buffer: &mut [Span], needed: &mut usize) -> u32
-    ensures { Fills (map (λ position. span_of (position_of position)) positions.now) result buffer.old buffer.new needed.new }
+    ensures { Fills (map (λ position. span_of (position_of position)) positions.now) result
+        buffer.old buffer.new needed.new }
 {
     *needed = positions.len();
     if buffer.len() < positions.len() {
@@ -58,7 +59,8 @@ pub extern "C" fn kombilad_link_positions(
     offset: &mut usize,
 ) -> u32
     ensures { ListsPositions (record { levels = levels; values = values }) block.now result
-        (record { before = positions.old; after = positions.new }) (record { before = needed.old; after = needed.new })
+        (record { before = positions.old; after = positions.new }) (record { before = needed.old;
+        after = needed.new })
         (record { before = offset.old; after = offset.new }) }
 {
     let options = ReadOptions {

@@ -41,10 +41,14 @@ pub extern "C" fn kombilad_tape(
     offset: &mut usize,
 ) -> u32
     ensures exact { ListsTape (record { levels = levels; values = values }) block.now result
-        (record { before = entries.old; after = entries.new }) (record { before = needed.old; after = needed.new })
+        (record { before = entries.old; after = entries.new }) (record { before = needed.old;
+        after = needed.new })
         (record { before = offset.old; after = offset.new }) }
-    ensures once { (es : List TapeEntry) → IsTapeOf es block.now → IsListed result → Fills es result entries.old entries.new needed.new }
-    ensures only { (t : Tree) → EncodesTreeIn true t block.now → Within (record { levels = levels; values = values }) t → IsListed result ⊎ ((result ≡ 1) ⊎ (result ≡ 8)) }
+    ensures once { (es : List TapeEntry) → IsTapeOf es block.now → IsListed result
+        → Fills es result entries.old entries.new needed.new }
+    ensures only { (t : Tree) → EncodesTreeIn true t block.now
+        → Within (record { levels = levels; values = values }) t → IsListed result
+        ⊎ ((result ≡ 1) ⊎ (result ≡ 8)) }
 {
     match read_tape(alloc, block, &Limits { levels, values }) {
         Ok(found) => fill_entries(&found, entries, needed),

@@ -20,9 +20,11 @@ pub extern "C" fn kombilad_block_check(
     values: usize,
     offset: &mut usize,
 ) -> u32
-    ensures exact { Checks (record { levels = levels; values = values }) block.now result offset.old offset.new }
+    ensures exact { Checks (record { levels = levels; values = values }) block.now result offset.old
+        offset.new }
     ensures found { result ≡ 0 → (t : Tree) × EncodesTreeIn true t block.now }
-    ensures only { (t : Tree) → EncodesTreeIn true t block.now → Within (record { levels = levels; values = values }) t → (result ≡ 0) ⊎ (result ≡ 1) }
+    ensures only { (t : Tree) → EncodesTreeIn true t block.now
+        → Within (record { levels = levels; values = values }) t → (result ≡ 0) ⊎ (result ≡ 1) }
 {
     let options = ReadOptions {
         limits: Limits { levels, values },
@@ -43,7 +45,8 @@ pub extern "C" fn kombilad_block_check_canonical(
     values: usize,
     offset: &mut usize,
 ) -> u32
-    ensures { ChecksOrder (record { levels = levels; values = values }) block.now result offset.old offset.new }
+    ensures { ChecksOrder (record { levels = levels; values = values }) block.now result offset.old
+        offset.new }
 {
     let options = ReadOptions {
         limits: Limits { levels, values },
@@ -67,7 +70,8 @@ pub extern "C" fn kombilad_links_count(
     offset: &mut usize,
 ) -> u32
     ensures { CountsLinks (record { levels = levels; values = values }) block.now result
-        (record { before = count.old; after = count.new }) (record { before = offset.old; after = offset.new }) }
+        (record { before = count.old; after = count.new }) (record { before = offset.old; after =
+        offset.new }) }
 {
     let options = ReadOptions {
         limits: Limits { levels, values },

@@ -13,8 +13,10 @@ ghost use Rattle.test_calls.specs.Counts.{Counts, around};
 pub fn worked_walks()
     ensures null { Counts null 1 0 1 3 }
     ensures empty_list { Counts (list no_items) 1 1 2 4 }
-    ensures two_empty { Counts (list (item (list no_items) (item (entries no_members) no_items))) 3 3 3 8 }
-    ensures map_of_a_list { Counts (entries (member (97 ∷ []) (list (item (integer (pos 1)) (item null no_items))) no_members)) 4 2 3 8 }
+    ensures two_empty { Counts (list (item (list no_items) (item (entries no_members) no_items))) 3
+        3 3 8 }
+    ensures map_of_a_list { Counts (entries (member (97 ∷ [])
+        (list (item (integer (pos 1)) (item null no_items))) no_members)) 4 2 3 8 }
     ensures thousand { Counts (around 999) 1000 1000 1001 2002 }
     ensures any { (n : ℕ) → Counts (around n) (n + 1) (n + 1) (n + 2) (n + n + 4) }
 {}

@@ -17,7 +17,8 @@ impl Rest {
     // Takes the last value out, and its key.
     pub(crate) fn take_last(&mut self) -> Option<(Option<String>, Ipld)>
         ensures same { kind_of self.new ≡ kind_of self.old }
-        ensures taken { MatchOption result ((left_of self.old ≡ []) × (left_of self.new ≡ [])) (λ p. left_of self.old ≡ left_of self.new ++ (option_map string_bytes p.0, p.1) ∷ []) }
+        ensures taken { MatchOption result ((left_of self.old ≡ []) × (left_of self.new ≡ [])) (λ p.
+            left_of self.old ≡ left_of self.new ++ (option_map string_bytes p.0, p.1) ∷ []) }
     {
         match self {
             Rest::Items(items) => match items.pop() {

@@ -25,8 +25,10 @@ use std::alloc::{AllocError, Global};
 ///
 /// Those of [`dag_json::floats::from_slice`]. `Memory` also where a string or bytes have 2^32 bytes or more, or a list or a map spans as many entries.
 pub fn tape_from_slice(alloc: Global, bytes: &[u8], limits: &Limits) -> Result<Tape, ReadError>
-    ensures found { IfOk result (λ tape. (t : Tree) × EncodesWithinIn true limits.now t bytes.now × IsTapeOf t tape) }
-    ensures only { (t : Tree) → EncodesWithinIn true limits.now t bytes.now → UnlessMemory result (IsTapeOf t) }
+    ensures found { IfOk result (λ tape. (t : Tree) × EncodesWithinIn true limits.now t bytes.now
+        × IsTapeOf t tape) }
+    ensures only { (t : Tree) → EncodesWithinIn true limits.now t bytes.now
+        → UnlessMemory result (IsTapeOf t) }
     ensures exact { ReadsTape limits.now bytes.now result }
     ensures stopped { IfErr result (SaysWhere true limits.now bytes.now) }
 {

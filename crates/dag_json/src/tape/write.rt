@@ -68,7 +68,8 @@ impl TapeWriter {
 
     // Puts the key before its value, if there is one.
     fn push_key(&mut self, key: Option<String>) -> Result<(), AllocError>
-        ensures { OnOk result (view self.new ≡ keyed (option_map string_bytes key) (view self.old)) }
+        ensures { OnOk result (view self.new ≡ keyed (option_map string_bytes key)
+            (view self.old)) }
     {
         match key {
             Some(key) => self.push_content(tape::KEY, key.as_bytes()),
@@ -96,7 +97,8 @@ impl TapeWriter {
         count: usize,
         containers: &mut Vec<OpenContainer>,
     ) -> Result<(), AllocError>
-        ensures { OnOk result (Enters (option_map string_bytes key) rest count (view self.old) (view self.new) containers.old.items containers.new.items) }
+        ensures { OnOk result (Enters (option_map string_bytes key) rest count (view self.old)
+            (view self.new) containers.old.items containers.new.items) }
     {
         let container = OpenContainer {
             key,
@@ -121,8 +123,10 @@ impl TapeWriter {
         containers: &mut Vec<OpenContainer>,
     ) -> Result<(), AllocError>
         ensures same { OnOk result (finish containers.new.items (view self.new)
-            ≡ finish containers.old.items (keyed (option_map string_bytes key) (written (tree_of value) (view self.old)))) }
-        ensures load { OnOk result (load containers.new.items < load containers.old.items + 2 * size value) }
+            ≡ finish containers.old.items (keyed (option_map string_bytes key)
+            (written (tree_of value) (view self.old)))) }
+        ensures load { OnOk result (load containers.new.items < load containers.old.items
+            + 2 * size value) }
     {
         match value {
             Ipld::List(items) => {
@@ -163,7 +167,8 @@ impl TapeWriter {
 
     // Writes the last value that is left of what is innermost, or closes that; false where nothing is open.
     fn step(&mut self, containers: &mut Vec<OpenContainer>) -> Result<bool, AllocError>
-        ensures { IfOk result (λ more. Steps more containers.old.items (view self.old) containers.new.items (view self.new)) }
+        ensures { IfOk result (λ more. Steps more containers.old.items
+            (view self.old) containers.new.items (view self.new)) }
     {
         let Some(mut container) = containers.pop() else {
             return Ok(false);

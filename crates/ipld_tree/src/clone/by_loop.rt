@@ -147,7 +147,8 @@ fn add_member(
     key: &str,
     value: Ipld,
 ) -> Result<(), AllocError>
-    ensures { OnOk result (members_of members.new.entries ≡ with_member key.now (tree_of value) (members_of members.old.entries)) }
+    ensures { OnOk result (members_of members.new.entries ≡ with_member key.now (tree_of value)
+        (members_of members.old.entries)) }
 {
     match String::from_str(alloc, key) {
         Ok(key) => put(members, key, value),
@@ -161,7 +162,8 @@ fn add_member(
 impl<'a> Copying<'a> {
     // Copies all that is left, until the innermost container is the outermost one, and complete.
     fn complete(&mut self) -> Result<(), AllocError>
-        ensures copy { OnOk result (whole self.new.innermost ≡ around_all self.old.outer.items (whole self.old.innermost)) }
+        ensures copy { OnOk result (whole self.new.innermost ≡ around_all self.old.outer.items
+            (whole self.old.innermost)) }
         ensures done { OnOk result (IsDone self.new.innermost) }
     {
         loop {
@@ -181,7 +183,8 @@ impl<'a> Copying<'a> {
     // Goes on inside a container, in which nothing is copied yet.
     fn enter(&mut self, container: OpenCopy<'a>) -> Result<(), AllocError>
         ensures innermost { OnOk result (self.new.innermost ≡ container.entry) }
-        ensures outer { OnOk result (self.new.outer.items ≡ self.old.outer.items ++ self.old.innermost ∷ []) }
+        ensures outer { OnOk result (self.new.outer.items ≡ self.old.outer.items
+            ++ self.old.innermost ∷ []) }
     {
         self.outer.reserve(1)?;
         let around = mem::replace(&mut self.innermost, container);
@@ -191,7 +194,8 @@ impl<'a> Copying<'a> {
 
     // Goes on in the container around the innermost, which is complete.
     fn leave(&mut self, around: OpenCopy<'a>) -> Result<(), AllocError>
-        ensures copy { OnOk result (IsDone self.old.innermost → whole self.new.innermost ≡ put_around around.entry (whole self.old.innermost)) }
+        ensures copy { OnOk result (IsDone self.old.innermost
+            → whole self.new.innermost ≡ put_around around.entry (whole self.old.innermost)) }
         ensures work { OnOk result (work self.new.innermost ≡ work around.entry) }
         ensures outer { self.new.outer.items ≡ self.old.outer.items }
     {
