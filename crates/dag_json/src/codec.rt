@@ -139,11 +139,7 @@ impl Codec<Ipld> for DagJsonCodec {
     /// - `Reserved` where a map would be read as a link or as bytes, or `Memory`. The writer is then as it was.
     /// - Of any other tree `Memory`, also where the writer says that it found none, or `Write` where the writer failed. How much was written is
     ///   then not said.
-    fn encode<W: Write>(
-        alloc: Global,
-        writer: &mut W,
-        value: &Ipld,
-    ) -> Result<(), DagJsonError>
+    fn encode<W: Write>(alloc: Global, writer: &mut W, value: &Ipld) -> Result<(), DagJsonError>
         ensures ok { OnOk result (Writes (codec_text (tree_of value.now)) (W.contents writer.old)
             (W.contents writer.new)) }
         ensures err { IfErr result (λ error. MatchOption (codec_failure error)

@@ -20,8 +20,12 @@ const SHA2_512: u64 = 0x13;
 /// is one of that codec is not checked. In Rust this is `Cid::new_v1(codec, Code::Sha2_256.digest(block))`, with
 /// `multihash-codetable`.
 pub fn cid_of(codec: u64, block: &[u8]) -> Cid
-    ensures { link_of result ≡ record { version = Version.V1; codec = codec; code = SHA2_256;
-        digest = sha256 block.now } }
+    ensures { link_of result ≡ record {
+      version = Version.V1;
+      codec = codec;
+      code = SHA2_256;
+      digest = sha256 block.now;
+    } }
 {
     let digest = Sha256::digest(block);
     let Ok(hash) = Multihash::wrap(SHA2_256, &digest) else {

@@ -34,8 +34,7 @@ trait Parts: Sized + Drop {
     // Reads the items that are left.
     fn read(alloc: Global, items: SeqDeserializer) -> Result<Self, SerdeError>
         ensures ok { IfOk result (λ v. reads (left items) ≡ Some (contents v)) }
-        ensures err { IfErr result (λ e. RejectsAs (reads (left items)) (read_error (left items)) e)
-            };
+        ensures err { IfErr result (λ e. RejectsAs (reads (left items)) (read_error (left items)) e) };
 
     // Reads as many items part by part.
     fn read_each<R: ImageReader>(

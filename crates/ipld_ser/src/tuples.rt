@@ -96,8 +96,7 @@ trait FrontParts: Parts {
         writer: &mut W,
     ) -> Result<(), Unwritten>
         ensures { OnOk result (Appends (one_after_another (map (written_image W.written)
-            (Self.images self ++ Q.images others))) (W.contents writer.old) (W.contents writer.new))
-            };
+            (Self.images self ++ Q.images others))) (W.contents writer.old) (W.contents writer.new)) };
 }
 
 impl FrontParts for () {
