@@ -25,10 +25,8 @@ fn read_unsigned<'a, const FLOATS: bool, V: BorrowingVisitor<'a>>(
     visitor: &mut V,
     number: u64,
 ) -> Result<PartKind, CborError>
-    ensures { ReadsContent FLOATS V.answer (Major.Unsigned, number) (record {
-      visitor = visitor.old;
-      position = position.old;
-    })
+    ensures { ReadsContent FLOATS V.answer (Major.Unsigned, number)
+        (record { visitor = visitor.old; position = position.old })
         result (record { visitor = visitor.new; position = position.new }) }
 {
     visitor.visit(&Event::Integer(i128::from(number)), position.rest.len())?;
@@ -60,10 +58,8 @@ fn read_byte_string<'a, const FLOATS: bool, V: BorrowingVisitor<'a>>(
     visitor: &mut V,
     length: u64,
 ) -> Result<PartKind, CborError>
-    ensures { ReadsContent FLOATS V.answer (Major.Bytes, length) (record {
-      visitor = visitor.old;
-      position = position.old;
-    })
+    ensures { ReadsContent FLOATS V.answer (Major.Bytes, length)
+        (record { visitor = visitor.old; position = position.old })
         result (record { visitor = visitor.new; position = position.new }) }
 {
     let (content, rest) = read_bytes(length, position.rest)?;
@@ -79,10 +75,8 @@ fn read_text_string<'a, const FLOATS: bool, V: BorrowingVisitor<'a>>(
     visitor: &mut V,
     length: u64,
 ) -> Result<PartKind, CborError>
-    ensures { ReadsContent FLOATS V.answer (Major.Text, length) (record {
-      visitor = visitor.old;
-      position = position.old;
-    })
+    ensures { ReadsContent FLOATS V.answer (Major.Text, length)
+        (record { visitor = visitor.old; position = position.old })
         result (record { visitor = visitor.new; position = position.new }) }
 {
     let (string, rest) = read_text(length, position.rest)?;
@@ -98,10 +92,8 @@ fn begin_list<'a, const FLOATS: bool, V: BorrowingVisitor<'a>>(
     visitor: &mut V,
     items: u64,
 ) -> Result<PartKind, CborError>
-    ensures { ReadsContent FLOATS V.answer (Major.List, items) (record {
-      visitor = visitor.old;
-      position = position.old;
-    })
+    ensures { ReadsContent FLOATS V.answer (Major.List, items)
+        (record { visitor = visitor.old; position = position.old })
         result (record { visitor = visitor.new; position = position.new }) }
 {
     let hint = position.capacity_hint(items);
@@ -117,10 +109,8 @@ fn begin_map<'a, const FLOATS: bool, V: BorrowingVisitor<'a>>(
     visitor: &mut V,
     pairs: u64,
 ) -> Result<PartKind, CborError>
-    ensures { ReadsContent FLOATS V.answer (Major.Map, pairs) (record {
-      visitor = visitor.old;
-      position = position.old;
-    })
+    ensures { ReadsContent FLOATS V.answer (Major.Map, pairs)
+        (record { visitor = visitor.old; position = position.old })
         result (record { visitor = visitor.new; position = position.new }) }
 {
     visitor.visit(&Event::Map, position.rest.len())?;
@@ -134,10 +124,8 @@ fn read_link<'a, const FLOATS: bool, V: BorrowingVisitor<'a>>(
     visitor: &mut V,
     tag: u64,
 ) -> Result<PartKind, CborError>
-    ensures { ReadsContent FLOATS V.answer (Major.Tag, tag) (record {
-      visitor = visitor.old;
-      position = position.old;
-    })
+    ensures { ReadsContent FLOATS V.answer (Major.Tag, tag)
+        (record { visitor = visitor.old; position = position.old })
         result (record { visitor = visitor.new; position = position.new }) }
 {
     if tag != LINK_TAG {
@@ -168,10 +156,8 @@ fn read_simple<'a, const FLOATS: bool, V: BorrowingVisitor<'a>>(
     visitor: &mut V,
     value: u64,
 ) -> Result<PartKind, CborError>
-    ensures { ReadsContent FLOATS V.answer (Major.Simple, value) (record {
-      visitor = visitor.old;
-      position = position.old;
-    })
+    ensures { ReadsContent FLOATS V.answer (Major.Simple, value)
+        (record { visitor = visitor.old; position = position.old })
         result (record { visitor = visitor.new; position = position.new }) }
 {
     match value {
@@ -191,10 +177,8 @@ fn read_content<'a, const FLOATS: bool, V: BorrowingVisitor<'a>>(
     major: Major,
     argument: u64,
 ) -> Result<PartKind, CborError>
-    ensures { ReadsContent FLOATS V.answer (major, argument) (record {
-      visitor = visitor.old;
-      position = position.old;
-    })
+    ensures { ReadsContent FLOATS V.answer (major, argument)
+        (record { visitor = visitor.old; position = position.old })
         result (record { visitor = visitor.new; position = position.new }) }
 {
     match major {
@@ -232,11 +216,8 @@ fn read_item_without_floats<'a, const FLOATS: bool, V: BorrowingVisitor<'a>>(
     position: &mut Position<'a>,
     visitor: &mut V,
 ) -> Result<PartKind, CborError>
-    ensures { ReadsHeaded FLOATS V.answer (record {
-      visitor = visitor.old;
-      position =
-          position.old;
-    })
+    ensures { ReadsHeaded FLOATS V.answer
+        (record { visitor = visitor.old; position = position.old })
         result (record { visitor = visitor.new; position = position.new }) }
 {
     position.begun = position.rest.len();

@@ -8,7 +8,7 @@ ghost use Rattle.dag_pb.specs.Errors.{error_in};
 
 use ipld_cid::CidError;
 use itoa::Buffer;
-use std::alloc::{AllocError, AllocFailed};
+use std::alloc::AllocError;
 use std::{error, fmt};
 
 /// What is wrong with a field of a block of DAG-PB.
@@ -133,19 +133,6 @@ impl From<AllocError> for PbError {
     ghost from_gives = { λ _ error. error ≡ record { kind = Memory; offset = 0 } };
 
     fn from(_error: AllocError) -> Self {
-        PbError {
-            kind: PbErrorKind::Memory,
-            offset: 0,
-        }
-    }
-}
-
-impl<T: Drop> From<AllocFailed<T>> for PbError {
-    ghost use Rattle.std.specs.Prelude.{◌≡◌};
-
-    ghost from_gives = { λ _ error. error ≡ record { kind = Memory; offset = 0 } };
-
-    fn from(_error: AllocFailed<T>) -> Self {
         PbError {
             kind: PbErrorKind::Memory,
             offset: 0,

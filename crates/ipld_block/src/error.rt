@@ -3,7 +3,7 @@
 use dag_cbor_blocks::BlockError;
 use dag_json::{ReadError, ReadErrorKind, floats};
 use dag_pb::{PbError, PbErrorKind};
-use std::alloc::{AllocError, AllocFailed};
+use std::alloc::AllocError;
 use std::{error, fmt};
 
 /// What is wrong with bytes that are no block of their codec, and at which byte.
@@ -79,17 +79,6 @@ impl From<AllocError> for CheckError {
     ghost from_gives = { λ _ error. error ≡ Memory };
 
     fn from(_error: AllocError) -> Self {
-        CheckError::Memory
-    }
-}
-
-impl<T: Drop> From<AllocFailed<T>> for CheckError {
-    ghost use Rattle.std.specs.Prelude.{◌≡◌};
-    ghost use Rattle.ipld_block.specs.declared.error.CheckError.TheVariants.{Memory};
-
-    ghost from_gives = { λ _ error. error ≡ Memory };
-
-    fn from(_error: AllocFailed<T>) -> Self {
         CheckError::Memory
     }
 }

@@ -38,11 +38,8 @@ impl<const S: usize> Multihash<S> {
     /// Returns `DigestTooLong` where the digest has more than `S` bytes, and nothing else.
     #[inline(always)]
     pub fn wrap(code: u64, digest: &[u8]) -> Result<Self, CidError>
-        ensures made { length digest.now ≤ S → result ≡ Ok (record {
-          code = code;
-          digest =
-              digest.now;
-        }) }
+        ensures made { length digest.now ≤ S → result ≡ Ok
+            (record { code = code; digest = digest.now }) }
         ensures rejected { S < length digest.now → result ≡ Err CidError.DigestTooLong }
     {
         if digest.len() > S {

@@ -43,12 +43,9 @@ fn begins_qm(text: &[u8]) -> bool
 #[inline(always)]
 fn form_of(text: &[u8]) -> Option<(Base, Version, usize)>
     ensures { MatchOption result (texts.form_of text.now ≡ None)
-        (λ form. (texts.form_of text.now ≡ Some (record {
-          base = form.0;
-          version = form.1;
-          skip =
-              form.2;
-        })) × (form.2 ≤ length text.now) × (form.2 ≤ 1)) }
+        (λ form. (texts.form_of text.now ≡ Some
+        (record { base = form.0; version = form.1; skip = form.2 })) × (form.2 ≤ length text.now)
+        × (form.2 ≤ 1)) }
 {
     if text.len() == 46 && begins_qm(text) {
         return Some((Base::Base58Btc, Version::V0, 0));

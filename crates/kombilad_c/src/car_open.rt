@@ -65,16 +65,10 @@ pub extern "C" fn kombilad_car_open(
     offset: &mut usize,
 ) -> u32
     ensures exact { OpensCar limit car.now result
-        (record { before = opened.old; after = opened.new }) (record {
-          before = roots.old;
-          after =
-              roots.new;
-        })
-        (record { before = needed.old; after = needed.new }) (record {
-          before = offset.old;
-          after =
-              offset.new;
-        }) }
+        (record { before = opened.old; after = opened.new })
+        (record { before = roots.old; after = roots.new })
+        (record { before = needed.old; after = needed.new })
+        (record { before = offset.old; after = offset.new }) }
     ensures only { (version : versions.CarVersion) (front rest : List ℕ) (links : List Link)
         (start end : ℕ) → car.now ≡ front ++ rest
         → IsFront limit version front links start end → length front ≤ end → end < 2 ^ 64

@@ -71,11 +71,8 @@ fn write_base32(cid: &Cid, bytes: &[u8], text: &mut [u8], needed: &mut usize) ->
     ensures { MatchOption result
         (IsUntouched text.old text.new needed.old needed.new)
         (λ status. WritesText Base.Base32Lower (link_of cid.now) status
-        (record { before = text.old; after = text.new }) (record {
-          before = needed.old;
-          after =
-              needed.new;
-        })) }
+        (record { before = text.old; after = text.new })
+        (record { before = needed.old; after = needed.new })) }
 {
     fill_base32(bytes, text, needed)
 }
@@ -83,11 +80,8 @@ fn write_base32(cid: &Cid, bytes: &[u8], text: &mut [u8], needed: &mut usize) ->
 // Writes the text of the CID in the base.
 fn write_in_base(alloc: Global, cid: &Cid, base: Base, text: &mut [u8], needed: &mut usize) -> u32
     ensures { WritesText base (link_of cid.now) result
-        (record { before = text.old; after = text.new }) (record {
-          before = needed.old;
-          after =
-              needed.new;
-        }) }
+        (record { before = text.old; after = text.new })
+        (record { before = needed.old; after = needed.new }) }
 {
     match to_string_of_base(alloc, cid, base) {
         Ok(content) => fill(content.as_bytes(), text, needed),
@@ -108,11 +102,8 @@ fn write_quickly(
 ) -> u32
     requires { read_cid 64 bytes.now ≡ Ok (link_of cid.now) }
     ensures { WritesText base (link_of cid.now) result
-        (record { before = text.old; after = text.new }) (record {
-          before = needed.old;
-          after =
-              needed.new;
-        }) }
+        (record { before = text.old; after = text.new })
+        (record { before = needed.old; after = needed.new }) }
 {
     let written = match (base, cid.version()) {
         (Base::Base32Lower, Version::V1) => write_base32(cid, bytes, text, needed),
@@ -137,11 +128,8 @@ pub extern "C" fn kombilad_cid_to_text(
         (λ link. MatchOption (asked_base link.version base)
         ((result ≡ 4) × IsUntouched text.old text.new needed.old needed.new)
         (λ chosen. WritesText chosen link result
-        (record { before = text.old; after = text.new }) (record {
-          before = needed.old;
-          after =
-              needed.new;
-        })))
+        (record { before = text.old; after = text.new })
+        (record { before = needed.old; after = needed.new })))
         (λ error. (result ≡ numbers.cid_status error)
         × IsUntouched text.old text.new needed.old needed.new) }
 {

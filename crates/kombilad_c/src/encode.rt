@@ -22,11 +22,8 @@ pub extern "C" fn kombilad_encode(
     at: &mut usize,
 ) -> u32
     ensures exact { WritesTape contents.now entries.now result
-        (record { before = buffer.old; after = buffer.new }) (record {
-          before = needed.old;
-          after =
-              needed.new;
-        })
+        (record { before = buffer.old; after = buffer.new })
+        (record { before = needed.old; after = needed.new })
         (record { before = at.old; after = at.new }) }
     ensures only { (item : Item 64) (written : List ℕ)
         → Describes contents.now item entries.now written

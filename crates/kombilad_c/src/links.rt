@@ -56,11 +56,8 @@ pub extern "C" fn kombilad_links(
     offset: &mut usize,
 ) -> u32
     ensures { ListsLinks (record { levels = levels; values = values }) block.now result
-        (record { before = links.old; after = links.new }) (record {
-          before = needed.old;
-          after =
-              needed.new;
-        })
+        (record { before = links.old; after = links.new })
+        (record { before = needed.old; after = needed.new })
         (record { before = offset.old; after = offset.new }) }
 {
     let options = ReadOptions {

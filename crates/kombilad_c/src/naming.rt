@@ -12,11 +12,8 @@ use sha2::{Digest, Sha256};
 /// Makes the CID of a block: version 1, with the codec that the block is of, and with the block's SHA2-256 digest.
 #[unsafe(no_mangle)]
 pub extern "C" fn kombilad_cid_of_block(codec: u64, block: &[u8], cid: &mut CidBytes)
-    ensures { cid.new ≡ record_of (link_from_parts Version.V1 codec (record {
-      code = 0x12;
-      digest =
-          sha256 block.now;
-    })) }
+    ensures { cid.new ≡ record_of (link_from_parts Version.V1 codec
+        (record { code = 0x12; digest = sha256 block.now })) }
 {
     let digest = Sha256::digest(block);
     match Multihash::wrap(SHA2_256, &digest) {

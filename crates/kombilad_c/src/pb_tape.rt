@@ -110,10 +110,8 @@ pub extern "C" fn kombilad_pb_tape(
     offset: &mut usize,
 ) -> u32
     ensures exact { ListsPbTape block.now result
-        (record { before = entries.old; after = entries.new }) (record {
-          before = needed.old;
-          after = needed.new;
-        })
+        (record { before = entries.old; after = entries.new })
+        (record { before = needed.old; after = needed.new })
         (record { before = offset.old; after = offset.new }) }
     ensures only { (n : NodeParts) → IsNode n block.now → IsOfNode result }
 {

@@ -59,10 +59,8 @@ pub extern "C" fn kombilad_link_positions(
     offset: &mut usize,
 ) -> u32
     ensures { ListsPositions (record { levels = levels; values = values }) block.now result
-        (record { before = positions.old; after = positions.new }) (record {
-          before = needed.old;
-          after = needed.new;
-        })
+        (record { before = positions.old; after = positions.new })
+        (record { before = needed.old; after = needed.new })
         (record { before = offset.old; after = offset.new }) }
 {
     let options = ReadOptions {

@@ -21,11 +21,8 @@ pub extern "C" fn kombilad_block_canonicalize(
     offset: &mut usize,
 ) -> u32
     ensures { Rewrites (record { levels = levels; values = values }) block.now result
-        (record { before = buffer.old; after = buffer.new }) (record {
-          before = needed.old;
-          after =
-              needed.new;
-        })
+        (record { before = buffer.old; after = buffer.new })
+        (record { before = needed.old; after = needed.new })
         (record { before = offset.old; after = offset.new }) }
 {
     match canonicalize(alloc, block, &Limits { levels, values }) {

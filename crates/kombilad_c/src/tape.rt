@@ -41,10 +41,8 @@ pub extern "C" fn kombilad_tape(
     offset: &mut usize,
 ) -> u32
     ensures exact { ListsTape (record { levels = levels; values = values }) block.now result
-        (record { before = entries.old; after = entries.new }) (record {
-          before = needed.old;
-          after = needed.new;
-        })
+        (record { before = entries.old; after = entries.new })
+        (record { before = needed.old; after = needed.new })
         (record { before = offset.old; after = offset.new }) }
     ensures once { (es : List TapeEntry) → IsTapeOf es block.now → IsListed result
         → Fills es result entries.old entries.new needed.new }

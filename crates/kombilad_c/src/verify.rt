@@ -70,11 +70,8 @@ pub extern "C" fn kombilad_links_count(
     offset: &mut usize,
 ) -> u32
     ensures { CountsLinks (record { levels = levels; values = values }) block.now result
-        (record { before = count.old; after = count.new }) (record {
-          before = offset.old;
-          after =
-              offset.new;
-        }) }
+        (record { before = count.old; after = count.new })
+        (record { before = offset.old; after = offset.new }) }
 {
     let options = ReadOptions {
         limits: Limits { levels, values },
