@@ -44,7 +44,7 @@ import time
 
 sys.dont_write_bytecode = True
 import needs  # noqa: E402
-from built import CRATES, NotBuilt, libraries, stands_on  # noqa: E402
+from built import CRATES, NotBuilt, built, libraries, stands_on  # noqa: E402
 from quick import ONCE, build  # noqa: E402
 
 TOP = CRATES.parent
@@ -69,6 +69,8 @@ LINES_SHOWN = 300
 SHOWS_NOTHING = re.compile(r": BAD EDIT: |: refused, .* \(only because a proof file names ")
 # What a build or a crate's proof may need, in bytes.
 MEMORY_OF_A_BUILD, MEMORY_OF_A_PROOF = 2_500_000_000, 5_000_000_000
+# What a stored run may reserve: a row whose input announces more than it has must not reserve that.
+MEMORY_OF_A_RUN = 2_000_000_000
 
 
 @dataclasses.dataclass
@@ -155,7 +157,9 @@ def crates_with_tests():
 
 
 def run_of(crate, program):
-    """Runs a program on its stored input. Of the program of rows each row is a case."""
+    """
+    Runs a program on its stored input, in little memory. Of the program of rows each row is a case.
+    """
     words = [program, *stored(crate, "args").decode().splitlines()]
     try:
         with tempfile.TemporaryDirectory() as folder:
@@ -166,6 +170,9 @@ def run_of(crate, program):
                 stdout=subprocess.PIPE,
                 stderr=subprocess.PIPE,
                 timeout=SECONDS_FOR_A_PROGRAM,
+                preexec_fn=lambda: resource.setrlimit(
+                    resource.RLIMIT_AS, (MEMORY_OF_A_RUN, MEMORY_OF_A_RUN)
+                ),
             )
     except subprocess.TimeoutExpired:
         return Result(failed=[f"{crate}: had not ended after {SECONDS_FOR_A_PROGRAM} seconds"])
@@ -301,14 +308,28 @@ def mutants():
     return commands([".ci/mutants", "--self-test", "dag_pb"], [".ci/mutants"])
 
 
+def rows_in_little_memory():
+    """Runs the rows once more: `rt ci` doesn't limit what a program may reserve."""
+    say(f"-- {ROWS} in {MEMORY_OF_A_RUN // 10**6} MB")
+    try:
+        result = run_of(ROWS, built(ROWS, ROWS))
+    except NotBuilt as wrong:
+        return Result(failed=[str(wrong)])
+    return Result(failed=result.failed) if result.failed else Result(1)
+
+
 def the_programs():
-    return commands(
-        [".ci/program-runs"],
-        [".ci/ipld-runs"],
-        [".ci/failed-allocations"],
-        [".ci/no-compile"],
-        [".ci/use-in"],
+    result = rows_in_little_memory()
+    result.add(
+        commands(
+            [".ci/program-runs"],
+            [".ci/ipld-runs"],
+            [".ci/failed-allocations"],
+            [".ci/no-compile"],
+            [".ci/use-in"],
+        )
     )
+    return result
 
 
 PARTS = {
