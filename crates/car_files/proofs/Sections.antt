@@ -87,7 +87,7 @@ moves_more old mid new a b m n = record {
   roots = n.roots ∙ m.roots;
 }
 
-sections_more : (a b : List ℕ) (xs ys : List Block) → AreSections a xs → AreSections b ys → AreSections (a ++ b) (xs ++ ys)
+pub sections_more : (a b : List ℕ) (xs ys : List Block) → AreSections a xs → AreSections b ys → AreSections (a ++ b) (xs ++ ys)
 sections_more a b [] ys s t = rw s t
 sections_more a b (x ∷ xs) ys s t =
     (s.0, s.1 ++ b, ap (λ l. l ++ b) s.2 ∙ append_assoc s.0 s.1 b, s.3, sections_more s.1 b xs ys s.4 t)

@@ -1,5 +1,6 @@
 //! The blocks of files and of CARs, gathered for a CAR.
 
+use crate::checked_block::CheckedBlock;
 use crate::complaints::{
     report_car_error, report_invalid_block, report_out_of_memory, report_unreadable,
 };
@@ -9,7 +10,7 @@ use crate::messages::{DigestExplanation, NamedCid, Outcome};
 use crate::new_car::NewBlock;
 use car_files::CarFileError;
 use indexmap::{IndexMap, IndexSet};
-use ipld_block::{BlockCodec, CheckError, InvalidBlock, VerifyError, cid_of, links_of, verify};
+use ipld_block::{BlockCodec, CheckError, InvalidBlock, VerifyError, cid_of, links_of};
 use ipld_car::Section;
 use ipld_cid::{Cid, IDENTITY};
 use std::alloc::{AllocError, Global};
@@ -223,13 +224,12 @@ impl CollectedBlocks {
         if self.has(cid) {
             return Ok(());
         }
-        if !self.is_unchecked {
-            if let Err(error) = verify(cid, section.data()) {
-                return Err(RejectedBlock::Digest(error));
-            }
-        }
-        self.add_links(alloc, cid, section.data(), self.is_unchecked)?;
-        let Ok(bytes) = Vec::from_slice(alloc, section.data()) else {
+        let block = match CheckedBlock::new(cid, section.data(), self.is_unchecked) {
+            Ok(block) => block,
+            Err(error) => return Err(RejectedBlock::Digest(error)),
+        };
+        self.add_links(alloc, cid, block.bytes(), self.is_unchecked)?;
+        let Ok(bytes) = Vec::from_slice(alloc, block.bytes()) else {
             return Err(RejectedBlock::Memory);
         };
         match self.put(*cid, bytes) {

@@ -16,6 +16,7 @@
 
 mod blocks;
 mod bytes;
+mod checked_block;
 mod collected_blocks;
 mod complaints;
 mod files;
@@ -31,6 +32,7 @@ mod progress;
 mod writer;
 
 pub use blocks::{Blocks, Opened, open_blocks, open_indexed};
+pub use checked_block::CheckedBlock;
 pub use collected_blocks::{CollectedBlocks, Source};
 pub use complaints::{
     Complaints, parse_cid_argument, report, report_car_error, report_invalid_block,

@@ -1,6 +1,8 @@
 //! A CAR that is to be written.
 
-ghost use Rattle.std.specs.Prelude.{◌≡◌, ◌+◌, ◌<◌, ◌^◌, length};
+ghost use Rattle.std.specs.Prelude.{◌≡◌, ◌+◌, ◌<◌, ◌^◌, length, map, IfOk};
+ghost use Rattle.ipld_cid.specs.LinkOf.{link_of};
+ghost use Rattle.ipld_cli.specs.NewCar.{block_of, WritesCar};
 ghost use Rattle.ipld_cid.specs.Varint.{varint_of};
 
 use crate::output::{Content, OutputError};
@@ -64,12 +66,15 @@ pub struct NewCar<'a> {
 
 impl<'a> NewCar<'a> {
     // Writes the CAR of version 1.
-    fn write_payload<W: Write + Drop>(&self, writer: W) -> Result<W, OutputError> {
-        let mut writer = CarWriter::new(self.alloc, writer, self.roots)?;
+    fn write_payload<W: Write + Drop>(&self, writer: W) -> Result<W, OutputError>
+        ensures { IfOk result (λ to. WritesCar (W.contents writer) (W.contents to)
+            (map link_of self.now.roots.now) (map block_of self.now.blocks.now)) }
+    {
+        let mut car = CarWriter::new(self.alloc, writer, self.roots)?;
         for block in self.blocks {
-            writer.write_section(&block.cid, block.bytes)?;
+            car.write_section(&block.cid, block.bytes)?;
         }
-        let writer = writer.finish()?;
+        let writer = car.finish()?;
         Ok(writer)
     }
 

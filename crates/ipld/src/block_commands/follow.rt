@@ -2,10 +2,12 @@
 
 use crate::block_commands::show::ShowRequest;
 use indexmap::IndexSet;
-use ipld_block::{BlockCodec, codec_name, verify};
+use ipld_block::{BlockCodec, codec_name};
 use ipld_cid::{Cid, IDENTITY};
 use ipld_cid_text::parse_any;
-use ipld_cli::{Blocks, DigestExplanation, Explanation, NamedCid, Outcome, hasher_of, report};
+use ipld_cli::{
+    Blocks, CheckedBlock, DigestExplanation, Explanation, NamedCid, Outcome, hasher_of, report,
+};
 use ipld_show::{LinkOnPath, ShowError, link_on_path, show};
 use std::io::Write;
 
@@ -125,13 +127,14 @@ fn take_step<W: Write>(
     writer: &mut W,
 ) -> Result<Step, ShowError> {
     let cid = &place.cid;
-    if !request.is_unchecked {
-        if let Err(error) = verify(cid, bytes) {
+    let bytes = match CheckedBlock::new(cid, bytes, request.is_unchecked) {
+        Ok(block) => block.bytes(),
+        Err(error) => {
             let (cid, why) = (NamedCid::new(rt.alloc(), cid), DigestExplanation(error));
             let _ = eprintln!(rt; "ipld: {file}: {cid}: {why}");
             return Ok(Step::Ended(Outcome::NotSo));
         }
-    }
+    };
     let Some(codec) = BlockCodec::from_code(cid.codec()) else {
         return Ok(Step::Ended(report_unknown_codec(rt, file, cid)));
     };

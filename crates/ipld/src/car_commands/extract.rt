@@ -4,13 +4,12 @@ use crate::arguments::limit_of;
 use car_files::CarFileError;
 use clap::ArgMatches;
 use indexmap::IndexMap;
-use ipld_block::verify;
 use ipld_car::Section;
 use ipld_cid::Cid;
 use ipld_cli::{
-    Content, DigestExplanation, NamedCid, OpenCar, Outcome, OutputError, hasher_of, open_car,
-    open_indexed, output_of, parse_cid_argument, report_car_error, report_out_of_memory,
-    report_show_error, report_unwritable, report_wrong_arguments, write,
+    CheckedBlock, DigestExplanation, NamedCid, OpenCar, Outcome, hasher_of, open_car, open_indexed,
+    output_of, parse_cid_argument, report_car_error, report_out_of_memory, report_show_error,
+    report_unwritable, report_wrong_arguments, write,
 };
 use ipld_show::ShowError;
 use std::hash::RandomState;
@@ -228,33 +227,19 @@ fn report_lacking_blocks(
     outcome
 }
 
-// The bytes of a block.
-#[derive(Clone, Copy)]
-struct Bytes<'a> {
-    bytes: &'a [u8],
-}
-
-impl<'a> Content for Bytes<'a> {
-    fn write_to<W: Write + Drop>(&self, writer: W) -> Result<W, OutputError> {
-        let mut writer = writer;
-        writer.write_all(self.bytes)?;
-        writer.flush()?;
-        Ok(writer)
-    }
-}
-
 // Writes a block, if it is the one that the CID names or that isn't to be looked at.
 fn write_extracted(rt: &HostRuntime, target: Target<'_>, text: &str, section: &Section) -> Outcome {
-    if !target.is_unchecked {
-        if let Err(error) = verify(section.cid(), section.data()) {
+    let block = match CheckedBlock::new(section.cid(), section.data(), target.is_unchecked) {
+        Ok(block) => block,
+        Err(error) => {
             let (file, why) = (target.file, DigestExplanation(error));
             let _ = eprintln!(rt; "ipld: {file}: {text}: {why}");
             return Outcome::NotSo;
         }
-    }
+    };
     match target.folder {
-        Some(folder) => write_in(rt, target, folder, section),
-        None => match io::writer(rt).write_all(section.data()) {
+        Some(folder) => write_in(rt, target, folder, &block),
+        None => match io::writer(rt).write_all(block.bytes()) {
             Ok(()) => Outcome::Done,
             Err(error) => report_show_error(rt, "standard output", &ShowError::from(error)),
         },
@@ -274,23 +259,28 @@ fn path_in(rt: &HostRuntime, folder: &str, cid: &Cid) -> Result<PathBuf, Outcome
 }
 
 // Writes a block as a file of this folder whose name is its CID.
-fn write_in(rt: &HostRuntime, target: Target<'_>, folder: &str, section: &Section) -> Outcome {
-    match path_in(rt, folder, section.cid()) {
+fn write_in(
+    rt: &HostRuntime,
+    target: Target<'_>,
+    folder: &str,
+    block: &CheckedBlock<'_>,
+) -> Outcome {
+    match path_in(rt, folder, block.cid()) {
         Ok(path) => match path.as_path().to_str() {
-            Some(path) => write_as(rt, target, path, section.data()),
+            Some(path) => write_as(rt, target, path, block),
             None => Outcome::Failed,
         },
         Err(outcome) => outcome,
     }
 }
 
-// Writes the bytes of a block as a file of this name.
-fn write_as(rt: &HostRuntime, target: Target<'_>, name: &str, bytes: &[u8]) -> Outcome {
+// Writes a block as a file of this name.
+fn write_as(rt: &HostRuntime, target: Target<'_>, name: &str, block: &CheckedBlock<'_>) -> Outcome {
     let output = match output_of(rt, name, target.force, &[target.file]) {
         Ok(output) => output,
         Err(error) => return report_unwritable(rt, name, &error),
     };
-    match write(rt, name, output, &Bytes { bytes }) {
+    match write(rt, name, output, block) {
         Ok(()) => Outcome::Done,
         Err(error) => report_unwritable(rt, name, &error),
     }
