@@ -1,5 +1,5 @@
 -- What is written of a header.
-use Rattle.std.proofs.Common.{◌≡◌, ℕ, ◌^◌, ◌<◌, List, ◌++◌, length, Option, Some, subst}
+use Rattle.std.proofs.Common.{◌≡◌, ℕ, ◌^◌, ◌<◌, List, ◌++◌, length, Option, Some, option_map, sym, ap, subst, ◌∙◌}
 use Rattle.std.specs.Io.KnownBytes.{Appends}
 use Rattle.ipld_cid.specs.Cid.{Link}
 use Rattle.ipld_cid.specs.Varint.{varint_of}
@@ -7,7 +7,7 @@ use Rattle.ipld_cid.proofs.Varints.{varint_encodes}
 use Rattle.ipld_tree.specs.Tree.{Tree}
 use Rattle.dag_cbor_format.specs.Canonical.{canonical}
 use Rattle.dag_cbor.specs.Lemmas.BlockLaws.{block_writes_encoded}
-use Rattle.ipld_car.specs.Header.{IsHeader, header_tree}
+use Rattle.ipld_car.specs.Header.{IsHeader, header_tree, canonical_header}
 use Rattle.ipld_car.specs.Writing.{WritesHeader}
 
 -- a varint and a block are a header
@@ -21,5 +21,12 @@ header_written t roots block bytes is written fits e = record {
   encoded = e;
 }
 
-pub writes_header : (old new : Option (List ℕ)) (roots : List Link) (header : List ℕ) → IsHeader header roots → Appends old new header → WritesHeader old new roots
-writes_header old new roots header h a = record { header = header; is_header = h; appends = a }
+-- whose block is the canonical one
+pub header_exact : (t : Tree) (roots : List Link) (block bytes : List ℕ) → t ≡ header_tree roots → canonical t ≡ Some block → bytes ≡ varint_of (length block) ++ block
+    → canonical_header roots ≡ Some bytes
+header_exact t roots block bytes is written e =
+    ap (option_map (λ (b : List ℕ). varint_of (length b) ++ b)) (subst (λ u. canonical u ≡ Some block) is written) ∙ ap Some (sym e)
+
+pub writes_header : (old new : Option (List ℕ)) (roots : List Link) (header : List ℕ) → IsHeader header roots → canonical_header roots ≡ Some header → Appends old new header
+    → WritesHeader old new roots
+writes_header old new roots header h exact a = record { header = header; is_header = h; is_canonical = exact; appends = a }

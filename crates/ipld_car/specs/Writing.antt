@@ -1,16 +1,17 @@
 -- What writing a CAR puts behind what the writer held.
-use Rattle.std.specs.Prelude.{ℕ, List, Option}
+use Rattle.std.specs.Prelude.{◌≡◌, ℕ, List, Option, Some}
 use Rattle.std.specs.Io.KnownBytes.{Appends}
 use Rattle.ipld_cid.specs.Cid.{Link}
-use Rattle.ipld_car.specs.Header.{IsHeader}
+use Rattle.ipld_car.specs.Header.{IsHeader, canonical_header}
 use Rattle.ipld_codec.specs.WriteOut.{WritesPart}
 use Rattle.ipld_car.specs.Section.{Block, IsSection}
 
 -- True if the header with these roots was written after what the writer held, and nothing else
--- (CARv1, "Header").
+-- (CARv1, "Header"). Its block is the canonical one (DAG-CBOR, "Strictness").
 pub record WritesHeader (old new : Option (List ℕ)) (roots : List Link) : Type 0 where
   pub header : List ℕ
   pub is_header : IsHeader header roots
+  pub is_canonical : canonical_header roots ≡ Some header
   pub appends : Appends old new header
 
 -- True if the section of the block was written after what the writer held, and nothing else (CARv1,

@@ -1,10 +1,10 @@
 //! Writing a CAR.
 
-ghost use Rattle.std.specs.Prelude.{◌≡◌, ◌≤◌, ◌<◌, ◌+◌, ◌^◌, ◌++◌, length, map, IfOk, IfErr, OnOk, OnErr};
+ghost use Rattle.std.specs.Prelude.{◌≡◌, ◌≤◌, ◌<◌, ◌+◌, ◌^◌, ◌++◌, length, map, Some, IfOk, IfErr, OnOk, OnErr};
 ghost use Rattle.ipld_cid.specs.Bytes.{bytes_of};
 ghost use Rattle.ipld_cid.specs.LinkOf.{link_of};
 ghost use Rattle.ipld_cid.specs.Varint.{varint_of};
-ghost use Rattle.ipld_car.specs.Header.{IsHeader};
+ghost use Rattle.ipld_car.specs.Header.{IsHeader, canonical_header};
 ghost use Rattle.ipld_car.specs.WriteErrors.{IsWriteError};
 ghost use Rattle.ipld_car.specs.Writing.{WritesHeader, WritesSection, WritesSectionPart};
 
@@ -34,9 +34,11 @@ fn push_varint(bytes: &mut Vec<u8>, number: u64) -> Result<(), AllocError>
 }
 
 // The bytes of the header with these roots.
-#[tactic(auto, using(crate::proofs::Written::header_written))]
+#[tactic(auto, using(crate::proofs::Written::header_written, crate::proofs::Written::header_exact))]
 fn header_bytes(alloc: Global, roots: &[Cid]) -> Result<Vec<u8>, AllocError>
-    ensures { IfOk result (λ bytes. IsHeader bytes.items (map link_of roots.now)) }
+    ensures made { IfOk result (λ bytes. IsHeader bytes.items (map link_of roots.now)) }
+    ensures exact { IfOk result (λ bytes.
+        canonical_header (map link_of roots.now) ≡ Some bytes.items) }
 {
     let tree = header_of(alloc, roots)?;
     let block = match DagCborCodec::encode_to_vec(alloc, &tree) {

@@ -1,10 +1,19 @@
 -- What is written of a CAR that is made.
-use Rattle.std.specs.Prelude.{ℕ, List, ◌++◌, Option}
+use Rattle.std.specs.Prelude.{◌≡◌, ℕ, ◌+◌, Bool, List, [], ◌∷◌, ◌++◌, length, Option, Some}
+use Rattle.std.specs.List.Sorted.{IsPermutation}
 use Rattle.std.specs.Io.KnownBytes.{Appends}
-use Rattle.ipld_cid.specs.Cid.{Link}
+use Rattle.ipld_cid.specs.Cid.{Link, hash_of}
 use Rattle.ipld_cid.specs.LinkOf.{link_of}
-use Rattle.ipld_car.specs.Header.{IsHeader}
+use Rattle.ipld_car.specs.CarHeader.{header_bytes}
+use Rattle.ipld_car.specs.Header.{IsHeader, canonical_header}
+use Rattle.ipld_car.specs.Index.{index_bytes}
+use Rattle.ipld_car.specs.IndexGrouping.{entries_in, indexed}
+use Rattle.ipld_car.specs.IndexOrder.{AreSorted}
 use Rattle.ipld_car.specs.Section.{Block, AreSections}
+use Rattle.ipld_car.specs.declared.index.CarIndex.{CarIndex}
+use Rattle.ipld_car.specs.declared.index.entry.IndexEntry.{IndexEntry}
+use Rattle.ipld_car.specs.declared.index.header.CarHeader.{CarHeader}
+use Rattle.car_files.specs.Written.{section_len, sections_len}
 use Rattle.ipld_cli.specs.declared.new_car.NewBlock.{NewBlock}
 
 -- a block that is to be written, as one of a section
@@ -17,5 +26,36 @@ pub record WritesCar (old new : Option (List ℕ)) (roots : List Link) (blocks :
   pub header : List ℕ
   pub sections : List ℕ
   pub is_header : IsHeader header roots
+  pub is_canonical : canonical_header roots ≡ Some header
   pub are_sections : AreSections sections blocks
   pub appends : Appends old new (header ++ sections)
+
+-- True if this is how many bytes the header with these roots has whose block is canonical.
+pub record IsHeaderLen (roots : List Link) (len : ℕ) : Type 0 where
+  pub header : List ℕ
+  pub is_canonical : canonical_header roots ≡ Some header
+  pub counted : len ≡ length header
+
+-- the header of version 2 of a payload of so many bytes, before an index
+abbrev pub car_header : Bool → ℕ → CarHeader
+car_header is_full size = record { is_fully_indexed = is_full; payload = 51; size = size; index = size + 51 }
+
+-- the rows of an index of these blocks, of which the first section begins at this byte
+abbrev pub located : ℕ → List Block → List IndexEntry
+located begin [] = []
+located begin (block ∷ blocks) = record { hash = hash_of block.cid; offset = begin } ∷ located (begin + section_len block) blocks
+
+-- True if a CAR of version 2 was written after what the writer held, and nothing else: the pragma
+-- and the header, the header with these roots and the sections of these blocks in their order, and
+-- an index (CARv2). The index has a row for each block whose digest has a byte or more, which leads
+-- to the block's section, and no other row.
+pub record WritesIndexedCar (old new : Option (List ℕ)) (roots : List Link) (blocks : List Block) : Type 0 where
+  pub header : List ℕ
+  pub sections : List ℕ
+  pub is_header : IsHeader header roots
+  pub are_sections : AreSections sections blocks
+  pub index : CarIndex
+  pub indexes : IsPermutation (indexed (located (length header) blocks)) (entries_in index)
+  pub sorted : AreSorted (entries_in index)
+  pub is_full : Bool
+  pub appends : Appends old new (header_bytes (car_header is_full (length (header ++ sections))) ++ ((header ++ sections) ++ index_bytes index))
