@@ -1,4 +1,5 @@
-//! CIDs read from bytes and texts, and written. The bytes are CIDs of 36 bytes one after another, the texts of 59 letters each.
+//! CIDs read from bytes and texts, and written. The bytes are CIDs of 36 bytes one after another,
+//! and the texts have 59 letters each.
 
 use ipld_core::cid::Cid;
 use std::alloc::{AllocError, Global};

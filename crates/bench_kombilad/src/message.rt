@@ -1,4 +1,4 @@
-//! A message of Filecoin, as a struct that is read from the list of its fields.
+//! A message of Filecoin: a struct that is read from the list of its fields.
 
 ghost use Rattle.ipld_de.specs.Described.{around, tuple10, byte_buf, u64, i64};
 
@@ -7,7 +7,7 @@ use ipld_de::{Described, Deserialize, ImageReader, Unread, from_ipld};
 use ipld_ser::{ByteBuf, SerdeError};
 use std::alloc::Global;
 
-/// A message: who asks whom for what, and at which price.
+/// A message: its sender, its receiver, the request and the price.
 #[derive(Drop)]
 pub struct Message {
     pub version: u64,

@@ -1,4 +1,4 @@
-//! A post of atproto (the lexicon `app.bsky.feed.post`), as a struct.
+//! A post of atproto (the lexicon `app.bsky.feed.post`): a struct.
 
 ghost use Rattle.std.specs.Prelude.{[], ◌∷◌, codes};
 ghost use Rattle.ipld_de.specs.Described.{refl, structure, field, optional, string, u64, vec, cid};
@@ -16,34 +16,34 @@ pub struct Reference {
     pub uri: String,
 }
 
-/// What a post replies to.
+/// The posts that a post replies to.
 #[derive(Drop)]
 pub struct Reply {
     pub parent: Reference,
     pub root: Reference,
 }
 
-/// Bytes of the text.
+/// A range of bytes of the text.
 #[derive(Drop)]
 pub struct Slice {
     pub start: u64,
     pub end: u64,
 }
 
-/// What a facet leads to.
+/// The target of a facet.
 #[derive(Drop)]
 pub struct Feature {
     pub uri: String,
 }
 
-/// A part of the text that leads somewhere.
+/// A part of the text that links to a target.
 #[derive(Drop)]
 pub struct Facet {
     pub index: Slice,
     pub features: Vec<Feature>,
 }
 
-/// A file beside the post.
+/// A file that belongs to the post.
 #[derive(Drop)]
 pub struct Blob {
     pub link: Cid,

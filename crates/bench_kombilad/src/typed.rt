@@ -1,4 +1,5 @@
-//! The block of a [`Person`] and its tree, read as that struct, and the struct written; the blocks of a [`Post`] and a [`Message`], read.
+//! The block of a [`Person`] and its tree, read as that struct, and the struct written. The blocks
+//! of a [`Post`] and a [`Message`], read.
 
 use crate::message::Message;
 use crate::post::Post;
@@ -27,7 +28,7 @@ pub extern "C" fn bench_block_to_struct(alloc: Global, block: &[u8], times: u64)
     sum
 }
 
-/// Writes the struct, which is read once, as a block.
+/// Writes the struct as a block. The struct is read once.
 #[unsafe(no_mangle)]
 pub extern "C" fn bench_struct_to_block(alloc: Global, block: &[u8], times: u64) -> u64 {
     let mut sum: u64 = 0;
@@ -41,7 +42,7 @@ pub extern "C" fn bench_struct_to_block(alloc: Global, block: &[u8], times: u64)
     sum
 }
 
-/// Writes the struct, which is read once, as a tree.
+/// Writes the struct as a tree. The struct is read once.
 #[unsafe(no_mangle)]
 pub extern "C" fn bench_to_ipld(alloc: Global, block: &[u8], times: u64) -> u64 {
     let mut sum: u64 = 0;
@@ -54,7 +55,7 @@ pub extern "C" fn bench_to_ipld(alloc: Global, block: &[u8], times: u64) -> u64 
     sum
 }
 
-/// Clones the tree, which is decoded once, and reads the struct from the clone.
+/// Clones the tree and reads the struct from the clone. The tree is decoded once.
 #[unsafe(no_mangle)]
 pub extern "C" fn bench_from_ipld(alloc: Global, block: &[u8], times: u64) -> u64 {
     let mut sum: u64 = 0;

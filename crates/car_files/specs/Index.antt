@@ -1,4 +1,4 @@
--- What a search for missing blocks knows: which blocks came, and which links have none.
+-- The state of a search for missing blocks: the blocks that came, and the links without a block.
 use Rattle.std.specs.Prelude.{◌≡◌, ◌||◌, not, Bool, if◌then◌else◌, filter, List, [], ◌∷◌, ◌++◌}
 use Rattle.ipld_cid.specs.Cid.{Link}
 use Rattle.ipld_cid.specs.LinkOf.{link_of}
@@ -6,18 +6,17 @@ use Rattle.ipld_cid.specs.Order.{link_eq}
 use Rattle.ipld_cid.specs.declared.cid.CidGeneric.{CidGeneric}
 use Rattle.car_files.specs.Has.{has}
 
--- The CIDs of the blocks that came, each once, and the links whose block has not come, each once:
--- those first that were added first.
+-- The state of a search: the CIDs of the blocks that came, and the links whose block has not come.
 pub record Search : Type 0 where
   pub came : List Link
   pub missing : List Link
 
--- of CIDs with whether their block came: those whose block did
+-- the CIDs whose block came, from CIDs with whether their block came
 abbrev pub came_in : List (CidGeneric 64 × Bool) → List Link
 came_in [] = []
 came_in (e ∷ es) = if e.1 then link_of e.0 ∷ came_in es else came_in es
 
--- and those whose block did not
+-- the CIDs whose block did not come
 abbrev pub missing_in : List (CidGeneric 64 × Bool) → List Link
 missing_in [] = []
 missing_in (e ∷ es) = if e.1 then missing_in es else link_of e.0 ∷ missing_in es
@@ -28,12 +27,12 @@ pub record Comes (cid : Link) (old new : Search) : Type 0 where
   pub came : (l : Link) → has l new.came ≡ (link_eq l cid || has l old.came)
   pub missing : new.missing ≡ filter (λ l. not (link_eq cid l)) old.missing
 
--- The missing links after one is added, where these blocks came: a link that is new goes last, and
--- a link whose block came, or that is missing already, changes nothing.
+-- The missing links after `link` is added, if the blocks of `came` came. A new link is appended. A
+-- link whose block came or that is already missing changes nothing.
 abbrev pub with_link : (link : Link) (came missing : List Link) → List Link
 with_link link came missing = if has link came || has link missing then missing else missing ++ link ∷ []
 
--- The same after several are added, one after the other.
+-- The missing links after several links are added, one after the other.
 abbrev pub with_links : (links came missing : List Link) → List Link
 with_links [] came missing = missing
 with_links (link ∷ links) came missing = with_links links came (with_link link came missing)

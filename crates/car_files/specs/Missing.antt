@@ -1,4 +1,4 @@
--- Which blocks CARs name and don't have.
+-- The blocks that CARs link to and don't have.
 use Rattle.std.specs.Prelude.{◌≡◌, ◌≢◌, ◌+◌, ◌&&◌, ◌||◌, ℕ, Bool, false, not, if◌then◌else◌, List, [], ◌∷◌, ◌++◌, length, map}
 use Rattle.std.specs.Bool.{Decides}
 use Rattle.std.specs.List.{IsDistinct}
@@ -25,7 +25,7 @@ use Rattle.car_files.specs.Streams.{Progress, Complaints}
 abbrev pub links_of_block : Block → List Link
 links_of_block block = links_in block.cid.codec block.bytes
 
--- The links of the blocks, those of one block after those of the other.
+-- The links of the blocks, in the order of the blocks.
 abbrev pub links_of_blocks : List Block → List Link
 links_of_blocks [] = []
 links_of_blocks (block ∷ blocks) = links_of_block block ++ links_of_blocks blocks
@@ -34,25 +34,28 @@ links_of_blocks (block ∷ blocks) = links_of_block block ++ links_of_blocks blo
 abbrev pub cids_of : List Block → List Link
 cids_of blocks = map (λ block. block.cid) blocks
 
--- whether the links of the block are known, by the codec of its CID
+-- Returns whether the links of the block are known, by the codec of its CID.
 abbrev pub is_known : Block → Bool
 is_known block = is_some (codec_of_code block.cid.codec)
 
--- how many blocks are of codecs whose links aren't known
+-- the number of blocks of codecs whose links aren't known
 abbrev pub unknown_in : List Block → ℕ
 unknown_in [] = 0
 unknown_in (block ∷ blocks) = (if is_known block then 0 else 1) + unknown_in blocks
 
--- just the links that are reached from these and carry no block are among those
+-- True if `added` has exactly the links that are reached from `from` and don't carry a block.
 abbrev pub Exactly : List Link → List Link → Type 0
 Exactly added from = (l : Link) → Decides (has l added) (Reaches from l × (is_identity l ≡ false))
 
--- True if the link is reached from the roots and the links of the blocks, carries no block, and is
--- not the CID of one of these.
+-- True if the link is reached from the roots and the links of the blocks, doesn't carry a block,
+-- and is not the CID of one of the blocks.
 abbrev pub IsMissing : List Link → List Block → Link → Type 0
 IsMissing roots blocks l = Reaches (roots ++ links_of_blocks blocks) l × (is_identity l ≡ false) × (has l (cids_of blocks) ≡ false)
 
--- a block came, and just its links that carry no block were added, with those of the blocks that they carry
+-- True if the block came, and exactly the links were added that are reached from its links and
+-- don't carry a block. A link is missing afterwards if it was missing before and is not the CID of
+-- the block, or if it was added and its block has not come. `unknown` is whether the links of the
+-- block are unknown.
 pub record AddsBlock (block : Block) (old new : Search) (unknown : Bool) : Type 0 where
   pub added : List Link
   pub exactly : Exactly added (links_of_block block)
@@ -61,9 +64,9 @@ pub record AddsBlock (block : Block) (old new : Search) (unknown : Bool) : Type 
       ≡ ((has l old.missing && not (link_eq l block.cid)) || (has l added && not (has l new.came)))
   pub is_unknown : unknown ≡ not (is_known block)
 
--- True if the blocks came, and just those links were added that are reached from the roots and the
--- links of the blocks and carry no block. A link is missing then if it was and its block is none of
--- these, or if it was added and its block did not come.
+-- True if the blocks came, and exactly the links were added that are reached from the roots and the
+-- links of the blocks and don't carry a block. A link is missing afterwards if it was missing
+-- before and its block is not one of these, or if it was added and its block has not come.
 pub record AddsBlocks (roots : List Link) (blocks : List Block) (old new : Search) : Type 0 where
   pub added : List Link
   pub exactly : Exactly added (roots ++ links_of_blocks blocks)
@@ -71,9 +74,9 @@ pub record AddsBlocks (roots : List Link) (blocks : List Block) (old new : Searc
   pub missing : (l : Link) → has l new.missing
       ≡ ((has l old.missing && not (has l (cids_of blocks))) || (has l added && not (has l new.came)))
 
--- True if all blocks were read, and added with the roots to what was known (`AddsBlocks`), and the
--- lines about the faults were written (`Says`). What was seen counts the blocks, those of codecs
--- that are not known, and the faults.
+-- True if all blocks were read and added with the roots to the search (`AddsBlocks`), and the lines
+-- about the faults were written (`Says`). `seen` counts the blocks, the blocks of codecs whose
+-- links aren't known, and the faults.
 pub record AddsCar {R : Type 0} (read : Progress R) (errors : Complaints) (first last : Search) (seen : Seen) : Type 0 where
   pub blocks : List Block
   pub reads : ReadsAll read blocks
@@ -82,8 +85,9 @@ pub record AddsCar {R : Type 0} (read : Progress R) (errors : Complaints) (first
   pub counted : seen.blocks ≡ length blocks
   pub unread : seen.unknown ≡ unknown_in blocks
 
--- True if the writer or an allocation failed; or the bytes are not a section, the blocks before
--- were added, and the lines about their faults were written.
+-- True if the error reports a failed allocation, a failed writer, or that the next section wasn't
+-- read (`NoSection`). In the last case the blocks before it were added, and the lines about their
+-- faults were written.
 abbrev pub AddingFault : {R : Type 0} → Progress R → Complaints → (first last : Search) → CarFileError → Type 0
 AddingFault read errors first last Memory = Unit {0}
 AddingFault read errors first last (Write kind) = kind ≢ NoMemory
@@ -91,8 +95,8 @@ AddingFault read errors first last (Car error) =
     (stops : NoSection read error) × AddsBlocks (map link_of read.old.roots.items) stops.blocks first last
     × (invalid : ℕ) × Says errors read.old stops.blocks invalid
 
--- True if all blocks were read and the lines about the faults were written, and what was found has
--- just the links that are missing, each once, and counts what was seen as `AddsCar` does.
+-- True if all blocks were read, the lines about the faults were written, and `found` has exactly
+-- the missing links, without repeats. Its counts are those of `AddsCar`.
 pub record Finds {R : Type 0} (read : Progress R) (errors : Complaints) (found : Missing) : Type 0 where
   pub blocks : List Block
   pub reads : ReadsAll read blocks
@@ -102,8 +106,8 @@ pub record Finds {R : Type 0} (read : Progress R) (errors : Complaints) (found :
   pub counted : found.seen.blocks ≡ length blocks
   pub unread : found.seen.unknown ≡ unknown_in blocks
 
--- True if the writer or an allocation failed; or the bytes are not a section, and the lines about
--- the faults before them were written.
+-- True if the error reports a failed allocation, a failed writer, or that the next section wasn't
+-- read (`NoSection`). In the last case the lines about the faults before it were written.
 abbrev pub FindingFault : {R : Type 0} → Progress R → Complaints → CarFileError → Type 0
 FindingFault read errors Memory = Unit {0}
 FindingFault read errors (Write kind) = kind ≢ NoMemory

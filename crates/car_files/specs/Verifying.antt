@@ -1,4 +1,4 @@
--- Whether the blocks of a CAR are those that their CIDs name.
+-- Verification that the blocks of a CAR match their CIDs.
 use Rattle.std.specs.Prelude.{◌≡◌, ◌≢◌, ◌+◌, ℕ, List, [], ◌∷◌, ◌++◌, Some, None}
 use Rattle.std.specs.declared.io.ErrorKind.TheVariants.{OutOfMemory as NoMemory}
 use Rattle.std.specs.Io.KnownBytes.{Appends}
@@ -13,8 +13,8 @@ use Rattle.car_files.specs.Streams.{Progress, Output}
 use Rattle.car_files.specs.Reading.{ReadsAll, NoSection}
 use Rattle.car_files.specs.Written.{Reports}
 
--- True if of so many blocks the digest is that of the CID, of so many it is another, and so many
--- have a hash function that is not known (FIPS 180-4).
+-- True if the numbers count the blocks with the digest of their CID, the blocks with another
+-- digest, and the blocks whose hash function is not known (FIPS 180-4).
 pub data Tallies : List Block → ℕ → ℕ → ℕ → Type 0 where
   nothing : Tallies [] 0 0 0
   right_one : (blocks : List Block) (block : Block) (right wrong unknown : ℕ) → Tallies blocks right wrong unknown
@@ -24,22 +24,22 @@ pub data Tallies : List Block → ℕ → ℕ → ℕ → Type 0 where
   unknown_one : (blocks : List Block) (block : Block) (right wrong unknown : ℕ) → Tallies blocks right wrong unknown
       → digest_by block.cid.code block.bytes ≡ None → Tallies (blocks ++ block ∷ []) right wrong (unknown + 1)
 
--- the lines about these blocks were written in this form, and nothing else
+-- True if exactly the lines about these blocks were written in this form (`Reports`).
 pub record Writes (form : VerdictForm) (begin : ℕ) (blocks : List Block) (output : Output) : Type 0 where
   pub text : List ℕ
   pub reports : Reports form begin blocks text
   pub appends : Appends output.before output.after text
 
--- True if all blocks were read and are counted by their digests (`Tallies`), and the lines about
--- them were written (FIPS 180-4).
+-- True if all blocks were read, `seen` counts them by their digests (`Tallies`), and the lines
+-- about them were written (FIPS 180-4).
 pub record Verifies {R : Type 0} (form : VerdictForm) (read : Progress R) (output : Output) (seen : Verified) : Type 0 where
   pub blocks : List Block
   pub reads : ReadsAll read blocks
   pub tallies : Tallies blocks seen.right seen.wrong seen.unknown
   pub writes : Writes form read.old.offset blocks output
 
--- True if the writer or an allocation failed; or the bytes are not a section, and the lines about
--- the blocks before them were written.
+-- True if the error reports a failed allocation, a failed writer, or that the next section wasn't
+-- read (`NoSection`). In the last case the lines about the blocks before it were written.
 abbrev pub VerifyingFault : {R : Type 0} → VerdictForm → Progress R → Output → CarFileError → Type 0
 VerifyingFault form read output Memory = Unit {0}
 VerifyingFault form read output (Write kind) = kind ≢ NoMemory

@@ -1,4 +1,4 @@
--- What is written of the blocks of a CAR.
+-- The texts that are written about the blocks of a CAR.
 use Rattle.std.specs.Prelude.{◌≡◌, ◌+◌, ℕ, Bool, true, false, List, [], ◌∷◌, ◌++◌, length, map, codes, decimal, Some, None}
 use Rattle.std.specs.Fmt.{digits}
 use Rattle.std.specs.List.{flat_map, join_by}
@@ -27,63 +27,65 @@ use Rattle.car_files.specs.declared.verify.VerdictForm.{VerdictForm}
 use Rattle.car_files.specs.declared.verify.VerdictForm.TheVariants.{Line, Object}
 use Rattle.car_files.specs.Blocks.{BlockHas, BlockFault}
 
--- how many bytes the section of a block has: its length as a varint, the CID, and the block
+-- the number of bytes in the section of a block: its length as a varint, the CID, and the block
 abbrev pub section_len : Block → ℕ
 section_len block = length (varint_of (length (content_of block)) ++ content_of block)
 
--- those of several blocks
+-- the number of bytes in the sections of several blocks
 abbrev pub sections_len : List Block → ℕ
 sections_len [] = 0
 sections_len (block ∷ blocks) = section_len block + sections_len blocks
 
--- whether the digits above nine are capitals, which they aren't
+-- the setting that the digits above nine are lower-case letters
 abbrev pub in_capitals : Bool
 in_capitals = false
 
--- a number in hexadecimal
+-- a number in hexadecimal, after `0x`
 abbrev pub hexadecimal : ℕ → List ℕ
 hexadecimal n = codes "0x" ++ digits 16 in_capitals n
 
--- the name of a codec, or its code where it has none here
+-- the name of a codec, or its code in hexadecimal if it has no name here
 unfoldable pub codec_text : ℕ → List ℕ
 codec_text code = unwrap_or (codec_name_of code) (hexadecimal code)
 
--- the text of a CID, behind this and before that
+-- the text of a CID between `before` and `after`
 abbrev pub text_between : List ℕ → List ℕ → Link → List ℕ
 text_between before after link = before ++ usual_text link ++ after
 
 abbrev pub texts_between : List ℕ → List ℕ → List Link → List ℕ
 texts_between before after links = flat_map (text_between before after) links
 
--- CIDs as an array of JSON
+-- CIDs as a JSON array
 abbrev pub array_text : List Link → List ℕ
 array_text links = codes "[" ++ join_by (text_between (codes "\"") (codes "\"")) (codes ",") links ++ codes "]"
 
--- a CID and one that it links to, with this before, between and behind them
+-- the texts of a CID and of one that it links to, with the given bytes before, between and after
+-- them
 abbrev pub edge_text : List ℕ → List ℕ → List ℕ → Link → Link → List ℕ
 edge_text before between after from to = before ++ usual_text from ++ between ++ usual_text to ++ after
 
 abbrev pub edges_text : List ℕ → List ℕ → List ℕ → Link → List Link → List ℕ
 edges_text before between after from links = flat_map (edge_text before between after from) links
 
--- What is known of the links of a block: they are these; or nothing, since blocks of its codec aren't read; or it is no block of its codec.
+-- The links of a block. They are unknown if blocks of its codec aren't read, and there is an error
+-- instead if the block is invalid for its codec.
 pub data Known : Type 0 where
   known : List Link → Known
   unknown : Known
   invalid : InvalidBlock → Known
 
--- and it is so
+-- True if these are the links of the block, or the reason why they are missing is right.
 abbrev pub IsKnownOf : Block → Known → Type 0
 IsKnownOf block (known links) = BlockHas block.cid.codec block.bytes links
 IsKnownOf block unknown = codec_of_code block.cid.codec ≡ None
 IsKnownOf block (invalid why) = BlockFault block.cid.codec block.bytes why
 
--- the links, of those that are known
+-- the links, or an empty list if they are unknown or the block is invalid
 abbrev pub links_known : Known → List Link
 links_known (known links) = links
 links_known _ = []
 
--- whether it is no block of its codec
+-- whether the block is invalid for its codec
 abbrev pub is_invalid : Known → Bool
 is_invalid (invalid why) = true
 is_invalid _ = false
@@ -94,33 +96,35 @@ abbrev pub version_number : CarVersion → ℕ
 version_number V1 = 1
 version_number V2 = 2
 
--- what stands before the blocks
+-- the text before the blocks
 abbrev pub front_text : Form → ℕ → List Link → List ℕ
 front_text Blocks version roots = codes "version " ++ (decimal version ++ codes "\n") ++ texts_between (codes "root ") (codes "\n") roots
 front_text Links version roots = []
 front_text Dot version roots = codes "digraph car {\n" ++ texts_between (codes "  \"") (codes "\" [shape=box];\n") roots
 front_text Json version roots = codes "{\"version\":" ++ (decimal version ++ codes ",\"roots\":") ++ array_text roots ++ codes "}\n"
 
--- how many links there are, where they are known
+-- the number of links as text, or a phrase if they are unknown or the block is invalid
 abbrev pub count_text : Known → List ℕ
 count_text (known links) = decimal (length links) ++ codes " links\n"
 count_text unknown = codes "links not known\n"
 count_text (invalid why) = codes "no block of its codec\n"
 
--- what is wrong with a block, by its name, and at which byte of the block
+-- the error of an invalid block as members of a JSON object: its name, and the offset in the block
+-- except for `NotCanonical`
 abbrev pub error_text : InvalidBlock → List ℕ
 error_text (Cbor error) = codes ",\"error\":\"" ++ (kind_name error.kind ++ (codes "\",\"at\":" ++ decimal error.offset))
 error_text (Pb error) = codes ",\"error\":\"" ++ (name_of error.kind ++ (codes "\",\"at\":" ++ decimal error.offset))
 error_text (InvalidJson error) = codes ",\"error\":\"" ++ (json.kind_name error.kind ++ (codes "\",\"at\":" ++ decimal error.offset))
 error_text NotCanonical = codes ",\"error\":\"NotCanonical\""
 
--- the links, where they are known, as a member of an object of JSON, or what is wrong
+-- the links as a member of a JSON object, the error of an invalid block, or nothing if the links
+-- are unknown
 abbrev pub member_text : Known → List ℕ
 member_text (known links) = codes ",\"links\":" ++ array_text links
 member_text unknown = []
 member_text (invalid why) = error_text why
 
--- a block of which this is known, and whose section begins at the byte
+-- the text of a block with these links in this form. Its section begins at the byte `begin`.
 abbrev pub linked_text : Form → ℕ → Block → Known → List ℕ
 linked_text Blocks begin block links =
     usual_text block.cid ++ codes " " ++ codec_text block.cid.codec ++ (codes " " ++ (decimal (length block.bytes) ++ codes " bytes, ")) ++ count_text links
@@ -130,18 +134,21 @@ linked_text Json begin block links =
     codes "{\"cid\":\"" ++ usual_text block.cid ++ codes "\",\"codec\":\"" ++ codec_text block.cid.codec
     ++ (codes "\",\"offset\":" ++ (decimal begin ++ (codes ",\"size\":" ++ decimal (length block.bytes)))) ++ member_text links ++ codes "}\n"
 
--- The line about a block that is none of its codec, behind a label: its CID, the byte at which its section begins, and a sentence.
+-- True if `line` has the form of a line about a block: the label, the CID, the byte at which its
+-- section begins, and a sentence.
 abbrev pub IsComplaint : List ℕ → ℕ → Link → List ℕ → Type 0
 IsComplaint label begin cid line = (sentence : List ℕ) × (line ≡ label ++ usual_text cid ++ (codes " at byte " ++ (decimal begin ++ codes ": ")) ++ sentence ++ codes "\n")
 
--- what is said of a block beside the list: a line where it is none of its codec, but for objects of JSON, which say it themselves
+-- True if `line` is the line about an invalid block, or empty for a valid one. It is also empty for
+-- `Json`, because the objects contain the errors.
 abbrev pub IsSaid : Form → List ℕ → ℕ → Link → Known → List ℕ → Type 0
 IsSaid Json label begin cid links line = line ≡ []
 IsSaid form label begin cid (invalid why) line = IsComplaint label begin cid line
 IsSaid form label begin cid links line = line ≡ []
 
--- True if these are the text of the blocks in this form, the lines about those of them that are not
--- one of their codec, and how many these are. The first section begins at the byte `begin`.
+-- True if these are the text of the blocks in this form, the lines about the blocks that are
+-- invalid for their codec (`IsSaid`), and the number of these blocks. The first section begins at
+-- the byte `begin`.
 pub data AreListed (form : Form) (label : List ℕ) (begin : ℕ) : List Block → List ℕ → List ℕ → ℕ → Type 0 where
   no_block : AreListed form label begin [] [] [] 0
   block_more : (blocks : List Block) (block : Block) (text lines : List ℕ) (count : ℕ) (links : Known) (line : List ℕ)
@@ -149,34 +156,34 @@ pub data AreListed (form : Form) (label : List ℕ) (begin : ℕ) : List Block �
       → AreListed form label begin (blocks ++ block ∷ []) (text ++ linked_text form (begin + sections_len blocks) block links) (lines ++ line)
       (count + from_bool (is_invalid links))
 
--- what stands behind the blocks
+-- the text after the blocks
 abbrev pub end_text : Form → List ℕ
 end_text Blocks = []
 end_text Links = []
 end_text Dot = codes "}\n"
 end_text Json = []
 
--- what stands before the blocks of a CAR
+-- the text before the blocks of a CAR
 abbrev pub begun_text : {R : Type 0} → Form → CarReader R → List ℕ
 begun_text form car = front_text form (version_number car.version) (map link_of car.roots.items)
 
--- ---- the blocks that aren't those of their CIDs
+-- ---- the blocks that don't match their CIDs
 
--- what is wrong with a block
+-- the end of a line: the reason why a block is not verified
 abbrev pub complaint : VerifyError → List ℕ
 complaint (UnknownHash code) = codes ": the hash function " ++ (hexadecimal code ++ codes " is not computed here\n")
 complaint WrongDigest = codes ": the block has another digest\n"
 
--- the same as the last members of an object of JSON
+-- the last members of a JSON object, with the same reason
 abbrev pub complaint_members : VerifyError → List ℕ
 complaint_members (UnknownHash code) = codes ",\"error\":\"UnknownHash\",\"hash\":\"" ++ (hexadecimal code ++ codes "\"}\n")
 complaint_members WrongDigest = codes ",\"error\":\"WrongDigest\"}\n"
 
--- the line about a block whose section begins at the byte
+-- the line about a block whose section begins at the byte `begin`
 abbrev pub verdict_line : ℕ → Link → VerifyError → List ℕ
 verdict_line begin cid error = usual_text cid ++ (codes " at byte " ++ decimal begin) ++ complaint error
 
--- the same as an object of JSON
+-- the same as a JSON object
 abbrev pub verdict_object : ℕ → Link → VerifyError → List ℕ
 verdict_object begin cid error = codes "{\"cid\":\"" ++ usual_text cid ++ (codes "\",\"offset\":" ++ decimal begin) ++ complaint_members error
 
@@ -184,7 +191,8 @@ abbrev pub verdict_text : VerdictForm → ℕ → Link → VerifyError → List 
 verdict_text Line begin cid error = verdict_line begin cid error
 verdict_text Object begin cid error = verdict_object begin cid error
 
--- The lines about blocks, the first of whose sections begins at the byte: none about one whose digest is that of its CID, and one about each other.
+-- True if the text has the lines, in order, about the blocks that don't have the digest of their
+-- CID or whose hash function is not known. The first section begins at the byte `begin`.
 pub data Reports (form : VerdictForm) (begin : ℕ) : List Block → List ℕ → Type 0 where
   no_lines : Reports form begin [] []
   no_line : (blocks : List Block) (block : Block) (text : List ℕ) → Reports form begin blocks text

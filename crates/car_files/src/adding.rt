@@ -1,4 +1,4 @@
-//! Links added to what is looked for, with those of the blocks that they carry.
+//! The adding of links to a search, with those of the blocks that they carry.
 
 ghost use Rattle.std.specs.Prelude.{◌≡◌, map, IfOk, OnOk, OnErr};
 ghost use Rattle.ipld_cid.specs.LinkOf.{link_of};
@@ -13,24 +13,24 @@ use ipld_block::{CheckError, InvalidBlock};
 use ipld_cid::{Cid, IDENTITY};
 use std::alloc::{AllocError, Global};
 
-/// A CID with the identity hash that carries bytes which are no block of its codec.
+/// A CID with the identity hash that carries bytes which are invalid for its codec.
 #[derive(Clone, Copy, Debug, PartialEq, Eq)]
 pub struct CarriedFault {
     /// The CID.
     pub cid: Cid,
-    /// What is wrong with the bytes that it carries, and at which of them.
+    /// The error in the bytes that it carries, with its offset in them.
     pub why: InvalidBlock,
 }
 
-// Whether the CID carries its own block.
+// Returns whether the CID carries its own block.
 fn carries_block(link: &Cid) -> bool
     ensures { result ≡ is_identity (link_of link.now) }
 {
     link.hash().code() == IDENTITY
 }
 
-// Adds a link to what is looked for, or puts the links of the block that it carries behind those that are pending, or itself behind those that
-// are at fault.
+// Adds a link to the search. If it carries its block, appends the links of that block to `pending`
+// instead, or the link to `faults` if the block is invalid.
 #[tactic(auto, using(crate::proofs::Taking::takes_links, crate::proofs::Taking::takes_none, crate::proofs::Taking::takes_fault))]
 fn take_link(
     alloc: Global,
@@ -69,17 +69,21 @@ fn take_link(
     }
 }
 
-/// Adds the links of a block, or roots, to what is looked for, and with them the links of the blocks that those carry which have the identity
-/// hash, however they nest. A block that a CID carries of a codec whose blocks aren't read has no links.
+/// Adds the links of a block, or roots, to the search. If such a CID has the identity hash, it adds
+/// the links of the block that the CID carries instead, however these nest. If blocks of the codec
+/// of such a CID aren't read, it has no links.
 ///
-/// It returns the CIDs among all these that carry bytes which are no block of their codec, as often as they are met: where there are none, each
-/// block that was met is one of its codec. The other links are added all the same.
+/// Returns those of all these CIDs that carry bytes which are invalid for their codec, as often as
+/// they occur. If there are none, every block that was met is valid. The other links are added in
+/// any case.
 ///
-/// It allocates for each link that is new, for the links of the blocks that CIDs carry, and for what it returns. It doesn't recurse.
+/// It allocates for every link that is new, for the links of the blocks that CIDs carry, and for
+/// its result. It doesn't recurse.
 ///
 /// # Errors
 ///
-/// `AllocError` where an allocation failed. Some of the links were then added, perhaps none of them, and nothing else was.
+/// `AllocError` if an allocation fails. Some of the links were then added, or none, and nothing
+/// else was.
 #[tactic(auto, using(crate::proofs::Taking::names_none))]
 pub fn add_links(
     alloc: Global,
@@ -92,7 +96,7 @@ pub fn add_links(
 {
     let mut pending = links;
     let mut faults = Vec::new(alloc);
-    // Blocks within digests of 64 bytes nest a few times at most, so that this is more than there are links.
+    // Blocks in digests of 64 bytes nest only a few times, so there are fewer links than this.
     for _ in 0..u64::MAX {
         let Some(link) = pending.pop() else {
             return Ok(faults);

@@ -1,4 +1,4 @@
-//! Lines about what is at fault in a CAR.
+//! The lines about errors in a CAR.
 
 ghost use Rattle.std.specs.Prelude.{IfErr, OnOk, map};
 ghost use Rattle.ipld_cid.specs.LinkOf.{link_of};
@@ -14,7 +14,7 @@ use ipld_cid::Cid;
 use std::alloc::Global;
 use std::io::Write;
 
-// Writes what is wrong with a block that begins at this byte of the file, a line behind a label.
+// Writes a line about an invalid block that begins at this byte of the file, after a label.
 pub(crate) fn write_complaint<E: Write>(
     alloc: Global,
     label: &str,
@@ -40,7 +40,8 @@ pub(crate) fn write_complaint<E: Write>(
     Ok(())
 }
 
-// Writes a line for each of these CIDs, which are reached from what begins at this byte of the file: that its bytes are no block, and why.
+// Writes a line about each of these CIDs, which are reached from the block at this byte of the
+// file: that its bytes are invalid, and why.
 #[tactic(auto, using(crate::proofs::Complaining::none_complained))]
 pub(crate) fn write_carried<E: Write>(
     alloc: Global,

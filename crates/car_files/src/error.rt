@@ -1,17 +1,18 @@
-//! Why a command on a CAR fails.
+//! The errors of commands on a CAR.
 
 use ipld_car::{CarError, CarErrorKind};
 use std::alloc::{AllocError, AllocFailed};
 use std::{error, fmt, io};
 
-/// Why a command on a CAR fails. Its `Display` is a sentence, with the offset in the file where there is one.
+/// An error of a command on a CAR. Its `Display` is a sentence, with the offset in the file if
+/// there is one.
 #[derive(Debug, Drop)]
 pub enum CarFileError {
     /// An allocation failed.
     Memory,
-    /// The writer failed, in this way.
+    /// The writer failed with this kind of error.
     Write(io::ErrorKind),
-    /// The file is no CAR.
+    /// The file is not a CAR, or its reader failed.
     Car(CarError),
 }
 

@@ -1,4 +1,4 @@
-//! A block of a CAR by its CID.
+//! The search for a block of a CAR by its CID.
 
 ghost use Rattle.ipld_cid.specs.LinkOf.{link_of};
 ghost use Rattle.ipld_car.specs.SectionOf.{block_of};
@@ -11,14 +11,18 @@ use ipld_car::{CarReader, Section};
 use ipld_cid::Cid;
 use std::io::BufRead;
 
-/// Reads on to the next block of this CID, into `section`, and returns whether there was one. Where there was none, the file was read to its
-/// end.
+/// Reads up to the next block with this CID, into `section`, and returns whether there was one. If
+/// there was none, the file was read to its end.
 ///
-/// It reads one section at a time. It allocates only where a section is longer than each before it.
+/// It reads one section at a time. It allocates only if a section is longer than every section that
+/// was read into `section` before.
 ///
 /// # Errors
 ///
-/// `Car` where the file is no CAR up to the block, with the offset; `Memory` where an allocation failed. What was read until then stays read.
+/// - `Car` if the file is not a CAR up to the block, or its reader fails, with the offset.
+/// - `Memory` if an allocation fails.
+///
+/// The bytes that were read until then stay read.
 #[tactic(auto, using(crate::proofs::Looking::looked_none, crate::proofs::Looking::looked_more, crate::proofs::Looking::looked_found, crate::proofs::Looking::looked_all, crate::proofs::Looking::looked_until))]
 pub fn find_block<R: BufRead + Drop>(
     car: &mut CarReader<R>,
@@ -38,6 +42,6 @@ pub fn find_block<R: BufRead + Drop>(
             return Ok(true);
         }
     }
-    // No file has so many sections: the bytes of a file are counted in 64 bits.
+    // No file has that many sections: the bytes of a file are counted in 64 bits.
     Err(CarFileError::Memory)
 }

@@ -1,4 +1,4 @@
-//! Which blocks are there, and which links have none.
+//! The blocks that were added, and the links without a block.
 
 use indexmap::IndexMap;
 use ipld_cid::Cid;
@@ -6,13 +6,14 @@ use std::alloc::{AllocError, Global};
 use std::hash::RandomState;
 use std::marker::Model;
 
-/// The blocks that came so far, and the links whose block hasn't.
+/// The blocks that were added so far, and the links whose block was not.
 ///
-/// It holds a CID for each block, and one for each distinct link whose block hasn't come. They are found by a hash with the keys that it is
-/// given: who doesn't know these can't choose CIDs that make it slow.
+/// It holds a CID for every block, and one for every distinct link whose block was not added. They
+/// are found by a hash with the keys of `hasher`. Without these keys nobody can choose CIDs that
+/// make it slow.
 #[derive(Drop)]
 pub struct MissingBlocks {
-    // Whether the block came.
+    // Whether the block was added.
     came: IndexMap<Cid, bool, RandomState>,
 }
 
@@ -34,7 +35,8 @@ impl MissingBlocks {
     ghost use Rattle.ipld_cid.specs.Order.{link_eq};
     ghost use Rattle.car_files.specs.Index.{Comes, AddsEach};
 
-    /// No blocks and no links. `hasher` is of the system's random bytes, as [`RandomState::new`] makes it. Does not allocate.
+    /// Creates a search without blocks and links. The keys of `hasher` should be random bytes of
+    /// the system, as [`RandomState::new`] makes them. Does not allocate.
     pub fn new(alloc: Global, hasher: RandomState) -> MissingBlocks
         ensures { result ≡ record { came = []; missing = [] } }
     {
@@ -43,7 +45,8 @@ impl MissingBlocks {
         }
     }
 
-    /// A block of this CID came. Allocates where the CID is new; `AllocError` where that fails, and nothing then changed.
+    /// Adds a block with this CID. It allocates if the CID is new. Returns `AllocError` if that
+    /// fails, and nothing then changed.
     #[tactic(auto, using(crate::proofs::Indexing::comes))]
     pub fn add_block(&mut self, cid: &Cid) -> Result<(), AllocError>
         ensures added { OnOk result (Comes (link_of cid.now) self.old self.new) }
@@ -55,7 +58,7 @@ impl MissingBlocks {
         }
     }
 
-    // A block has this link, or the link is a root.
+    // Adds a link of a block, or a root.
     #[tactic(auto, using(crate::proofs::Indexing::adds_new, crate::proofs::Indexing::adds_known))]
     pub(crate) fn add_link(&mut self, cid: &Cid) -> Result<(), AllocError>
         ensures added { OnOk result (AddsEach (link_of cid.now ∷ []) self.old self.new) }
@@ -70,9 +73,10 @@ impl MissingBlocks {
         }
     }
 
-    /// The links whose block hasn't come, each once, those first that earlier calls added.
+    /// Returns the links whose block was not added, without repeats. Links that were added by
+    /// earlier calls come first.
     ///
-    /// Allocates for the result; `AllocError` where that fails.
+    /// It allocates for the result. Returns `AllocError` if that fails.
     #[tactic(auto, using(crate::proofs::Indexing::puts_none, crate::proofs::Indexing::puts_link))]
     pub fn missing(&self, alloc: Global) -> Result<Vec<Cid>, AllocError>
         ensures once { IfOk result (λ cids. IsDistinct link_eq (map link_of cids.items)) }

@@ -1,7 +1,7 @@
-//! What CAR files have: the blocks listed, their links, which blocks are missing, and whether the digests are right. A file is read once,
-//! section by section, from any reader.
+//! The contents of CAR files: their blocks, the links of these, the blocks that are missing, and
+//! whether the digests are right. A file is read once, section by section, from any reader.
 //!
-//! Which blocks of a graph are missing is said of blocks from anywhere, too:
+//! The missing blocks of a graph can be found among blocks from any source, too:
 //!
 //! ```rust
 //! use car_files::{MissingBlocks, add_links};
@@ -17,8 +17,9 @@
 //! }
 //! ```
 //!
-//! A link is missing where its block hasn't come. A CID with the identity hash carries its own block: it is never missing, and the links of
-//! its block count. `faults` are the CIDs that carry bytes which are no block.
+//! A link is missing if its block was not added. A CID with the identity hash carries its own
+//! block: it is never missing, and the links of its block count. `faults` are the CIDs that carry
+//! bytes which are invalid for their codec.
 #![tactic(auto)]
 
 mod adding;

@@ -1,4 +1,4 @@
-//! The blocks of a CAR, and their links.
+//! The list of the blocks of a CAR, and of their links.
 
 ghost use Rattle.std.specs.Prelude.{◌≡◌, ◌++◌, codes, decimal, [], map, IfOk, IfErr, OnOk};
 ghost use Rattle.std.specs.Io.KnownBytes.{Appends};
@@ -20,41 +20,44 @@ use ipld_cid::Cid;
 use std::alloc::Global;
 use std::io::{BufRead, Write};
 
-/// How the blocks of a CAR are listed.
+/// The form in which the blocks of a CAR are listed.
 #[derive(Clone, Copy, Debug, PartialEq, Eq)]
 pub enum Form {
-    /// The version and the roots, and a line for each block: its CID, its codec, its size, and the number of its links, or that it is no block
-    /// of its codec.
+    /// The version and the roots, and a line for every block: its CID, its codec, its size, and the
+    /// number of its links. If they are not known, or the block is invalid for its codec, the line
+    /// has a note instead of the number.
     Blocks,
-    /// A line for each link: the CID of the block that has it, and the link.
+    /// A line for every link: the CID of the block that has it, and the link.
     Links,
     /// The graph, for Graphviz.
     Dot,
-    /// An object of JSON on a line for the version and the roots, and one for each block: `cid`, `codec`, `offset` of its section and `size`,
-    /// and `links`, where they are known. One of no block of its codec has `error`, the name of what is wrong, and `at`, the byte of the block.
+    /// JSON, an object on every line. The first has the version and the roots. Every other object
+    /// describes a block: `cid`, `codec`, `offset` of its section, `size`, and `links` if they are
+    /// known. If the block is invalid for its codec, the object has `error`, the name of the error,
+    /// and `at`, its byte in the block.
     Json,
 }
 
-/// What was listed.
+/// The counts of the blocks that were listed.
 #[derive(Clone, Copy, Debug, PartialEq, Eq)]
 pub struct Listed {
-    /// How many blocks the file has.
+    /// The number of blocks in the file.
     pub blocks: u64,
-    /// How many of them are none of their codec.
+    /// The number of blocks that are invalid for their codec.
     pub invalid: u64,
 }
 
-// What is known of the links of a block.
+// The links of a block, as far as they are known.
 #[derive(Drop)]
 enum KnownLinks {
     Links(Vec<Cid>),
     // Blocks of its codec aren't read.
     UnknownCodec,
-    // It is no block of its codec.
+    // The block is invalid for its codec.
     Invalid(InvalidBlock),
 }
 
-// The links of a section's block.
+// Finds the links of a section's block.
 fn find_links(alloc: Global, section: &Section) -> Result<KnownLinks, CarFileError>
     ensures found { IfOk result (λ links. IsKnownOf (block_of section.now) (known_of links)) }
     ensures fault { IfErr result IsWritingError }
@@ -76,7 +79,7 @@ fn version_of(version: CarVersion) -> u8
     }
 }
 
-// A CID, behind some text and before some.
+// Writes a CID between two strings.
 fn write_between<W: Write>(
     alloc: Global,
     before: &[u8],
@@ -95,7 +98,7 @@ fn write_between<W: Write>(
     Ok(())
 }
 
-// Each of the CIDs, behind some text and before some.
+// Writes every CID between two strings.
 fn write_each<W: Write>(
     alloc: Global,
     before: &[u8],
@@ -114,7 +117,7 @@ fn write_each<W: Write>(
     Ok(())
 }
 
-// CIDs as an array of JSON.
+// Writes CIDs as a JSON array.
 fn write_array<W: Write>(alloc: Global, cids: &[Cid], writer: &mut W) -> Result<(), CarFileError>
     ensures written { OnOk result
         (Appends (W.contents writer.old) (W.contents writer.new)
@@ -135,7 +138,7 @@ fn write_array<W: Write>(alloc: Global, cids: &[Cid], writer: &mut W) -> Result<
     }
 }
 
-// What stands before the blocks.
+// Writes the part before the blocks.
 fn write_front<W: Write>(
     alloc: Global,
     form: Form,
@@ -169,7 +172,7 @@ fn write_front<W: Write>(
     }
 }
 
-// The name of a codec, or its code.
+// Writes the name of a codec, or its code.
 #[tactic(auto, using(crate::proofs::Writing::named_written, crate::proofs::Writing::unnamed_written))]
 fn write_codec<W: Write>(code: u64, writer: &mut W) -> Result<(), CarFileError>
     ensures written { OnOk result
@@ -188,7 +191,7 @@ fn write_codec<W: Write>(code: u64, writer: &mut W) -> Result<(), CarFileError>
     }
 }
 
-// How many links there are, where they are known.
+// Writes the number of links, if they are known.
 fn write_count<W: Write>(links: &KnownLinks, writer: &mut W) -> Result<(), CarFileError>
     ensures written { OnOk result
         (Appends (W.contents writer.old) (W.contents writer.new)
@@ -212,7 +215,7 @@ fn write_count<W: Write>(links: &KnownLinks, writer: &mut W) -> Result<(), CarFi
     }
 }
 
-// A block and how many links it has, where that is known.
+// Writes a block and the number of its links, if they are known.
 fn write_block<W: Write>(
     alloc: Global,
     section: &Section,
@@ -232,7 +235,7 @@ fn write_block<W: Write>(
     Ok(())
 }
 
-// What is wrong with a block as members of an object of JSON.
+// Writes the error of a block as members of a JSON object.
 fn write_error<W: Write>(why: &InvalidBlock, writer: &mut W) -> Result<(), CarFileError>
     ensures written { OnOk result
         (Appends (W.contents writer.old) (W.contents writer.new) (error_text why.now)) }
@@ -270,7 +273,8 @@ fn write_error<W: Write>(why: &InvalidBlock, writer: &mut W) -> Result<(), CarFi
     }
 }
 
-// The links of a block as a member of an object of JSON, where they are known, or what is wrong with it.
+// Writes the links of a block as a member of a JSON object if they are known, or the error of the
+// block.
 fn write_member<W: Write>(
     alloc: Global,
     links: &KnownLinks,
@@ -292,7 +296,7 @@ fn write_member<W: Write>(
     }
 }
 
-// A block as an object of JSON.
+// Writes a block as a JSON object.
 fn write_object<W: Write>(
     alloc: Global,
     section: &Section,
@@ -315,7 +319,7 @@ fn write_object<W: Write>(
     Ok(())
 }
 
-// A link from a block, with some text before, between and behind the two CIDs.
+// Writes a link from a block, with strings before, between and after the two CIDs.
 fn write_edge<W: Write>(
     alloc: Global,
     before: &[u8],
@@ -337,7 +341,7 @@ fn write_edge<W: Write>(
     Ok(())
 }
 
-// Each of the links from a block.
+// Writes all links from a block.
 fn write_edges<W: Write>(
     alloc: Global,
     before: &[u8],
@@ -357,7 +361,7 @@ fn write_edges<W: Write>(
     Ok(())
 }
 
-// The links, of those that are known.
+// Returns the links if they are known, and none otherwise.
 fn known_links(links: &KnownLinks) -> &[Cid]
     ensures { map link_of result.now ≡ links_known (known_of links.now) }
 {
@@ -367,7 +371,7 @@ fn known_links(links: &KnownLinks) -> &[Cid]
     }
 }
 
-// A block whose links, where they are known, are these.
+// Writes a block with these links, in this form.
 fn write_linked<W: Write>(
     alloc: Global,
     form: Form,
@@ -404,7 +408,8 @@ fn write_linked<W: Write>(
     }
 }
 
-// Writes a block that begins at this byte of the file, and returns whether it is no block of its codec.
+// Writes a block that begins at this byte of the file, and returns whether it is invalid for its
+// codec.
 #[tactic(auto, using(crate::proofs::Tallying::listed_quietly))]
 fn write_section<W: Write, E: Write>(
     alloc: Global,
@@ -444,7 +449,7 @@ fn write_section<W: Write, E: Write>(
     }
 }
 
-// What stands behind the blocks.
+// Writes the part after the blocks.
 fn write_end<W: Write>(form: Form, writer: &mut W) -> Result<(), CarFileError>
     ensures written { OnOk result
         (Appends (W.contents writer.old) (W.contents writer.new) (end_text form)) }
@@ -459,17 +464,22 @@ fn write_end<W: Write>(form: Form, writer: &mut W) -> Result<(), CarFileError>
     }
 }
 
-/// Writes the blocks of a CAR or their links, in the order of the file, and returns how many blocks there are.
+/// Writes the blocks of a CAR or their links, in the order of the file, and returns the number of
+/// blocks.
 ///
-/// A block that isn't one of its codec has its line too, but no links, and the rest follows. What is wrong with it is a part of the objects of
-/// JSON; of the other forms it is a line to `errors`: `label`, the CID, the byte at which its section begins, and a sentence.
+/// A block that is invalid for its codec is listed too, but without links, and the list continues
+/// after it. In JSON, the error is part of its object. In the other forms a line is written to
+/// `errors`: `label`, the CID, the byte at which its section begins, and a sentence.
 ///
-/// It reads one section at a time, and keeps nothing of those before.
+/// It reads one section at a time, and keeps nothing of earlier ones.
 ///
 /// # Errors
 ///
-/// `Car` where the file is no CAR, with the offset; `Write` where a writer failed, `Memory` where an allocation did. What was written until
-/// then stays written.
+/// - `Car` if the file is not a CAR or its reader fails, with the offset.
+/// - `Write` if `writer` or `errors` fails.
+/// - `Memory` if an allocation fails.
+///
+/// The output that was written until then stays written.
 #[tactic(auto, using(crate::proofs::Tallying::lists_none, crate::proofs::Tallying::lists_more, crate::proofs::Tallying::lists_all, crate::proofs::Tallying::unwritten, crate::proofs::Tallying::unlisted_car))]
 pub fn write_list<R: BufRead + Drop, W: Write, E: Write>(
     alloc: Global,
@@ -511,6 +521,6 @@ pub fn write_list<R: BufRead + Drop, W: Write, E: Write>(
             Err(error) => return Err(error),
         }
     }
-    // No file has so many sections: the bytes of a file are counted in 64 bits.
+    // No file has that many sections: the bytes of a file are counted in 64 bits.
     Err(CarFileError::Memory)
 }

@@ -1,4 +1,4 @@
-//! The blocks that CARs name and don't have.
+//! The blocks that CARs link to and don't have.
 
 ghost use Rattle.std.specs.Prelude.{◌≡◌, map, IfOk, IfErr, OnOk};
 ghost use Rattle.ipld_cid.specs.LinkOf.{link_of};
@@ -21,37 +21,40 @@ use std::alloc::Global;
 use std::hash::RandomState;
 use std::io::{BufRead, Write};
 
-/// What a search for missing blocks found.
+/// The result of a search for missing blocks.
 #[derive(Debug, Drop)]
 pub struct Missing {
-    /// What was seen of the blocks of the file.
+    /// The counts of the blocks of the file.
     pub seen: Seen,
-    /// The CIDs of the blocks that are missing, each once, in the order in which the file has them first. Those in a block that a CID
-    /// carries (by the identity hash) come from the last to the first.
+    /// The CIDs of the missing blocks, without repeats, in the order in which they first occur in
+    /// the file. CIDs in a block that another CID carries (by the identity hash) come from the last
+    /// to the first.
     pub missing: Vec<Cid>,
 }
 
-/// What was seen of the blocks of a CAR.
+/// The counts of the blocks of a CAR.
 #[derive(Clone, Copy, Debug, PartialEq, Eq)]
 pub struct Seen {
-    /// How many blocks the file has.
+    /// The number of blocks in the file.
     pub blocks: u64,
-    /// How many of them are of codecs whose links aren't known.
+    /// The number of blocks with a codec whose links aren't known.
     pub unknown: u64,
-    /// How many of them are at fault: they are none of their codec, or a CID that is reached from their links carries bytes that are none of its
-    /// codec. The roots count as one more where such a CID is reached from them.
+    /// The number of blocks with an error: the block is invalid for its codec, or a CID that is
+    /// reached from its links carries bytes that are invalid for the CID's codec. If such a CID is
+    /// reached from the roots, these count as one more.
     pub invalid: u64,
 }
 
-// What was seen of a block.
+// The findings about a block.
 #[derive(Clone, Copy)]
 struct SeenBlock {
     is_unknown: bool,
     is_invalid: bool,
 }
 
-// Adds the links of what begins at this byte of the file, those first that stand first, and writes a line about each CID that is reached from
-// them and carries no block of its codec. It returns whether there was one.
+// Adds the links of the roots or of the block at this byte of the file, in their order. Writes a
+// line about every CID that is reached from them and carries an invalid block. Returns whether
+// there was one.
 fn add_in_order<E: Write>(
     alloc: Global,
     index: &mut MissingBlocks,
@@ -79,7 +82,8 @@ fn add_in_order<E: Write>(
     }
 }
 
-// Adds a block that begins at this byte of the file, and its links, and writes what is at fault in it.
+// Adds a block that begins at this byte of the file, and its links, and writes a line about every
+// error in it.
 fn add_section<E: Write>(
     alloc: Global,
     index: &mut MissingBlocks,
@@ -124,7 +128,7 @@ fn add_section<E: Write>(
     }
 }
 
-// Adds the roots, and writes what is at fault in them.
+// Adds the roots, and writes a line about every error in them. Returns whether there was one.
 fn add_roots<E: Write>(
     alloc: Global,
     index: &mut MissingBlocks,
@@ -144,19 +148,24 @@ fn add_roots<E: Write>(
     }
 }
 
-/// Reads a CAR to its end, and adds its blocks, their links and its roots to what is known, as [`MissingBlocks::add_block`] and [`add_links`]
-/// do. So what is missing in several CARs at once is found: a link in one whose block isn't in any.
+/// Reads a CAR to its end, and adds its blocks, their links and its roots to `index`, by
+/// [`MissingBlocks::add_block`] and [`add_links`]. If you add several CARs to one index, it finds
+/// the links whose block isn't in any of them.
 ///
-/// A block that isn't one of its codec doesn't end it: its CID came, and its links aren't known. Nor does a CID with the identity hash that
-/// carries bytes which are no block of its codec. About each of these a line is written to `errors`: `label`, the CID, the byte at which the
-/// section begins that it is in (0 for the roots), and a sentence.
+/// A block that is invalid for its codec doesn't stop it. Its CID counts as added, and its links
+/// aren't known. A CID with the identity hash that carries invalid bytes doesn't stop it either.
+/// For every such block or CID it writes a line to `errors`: `label`, the CID, the byte at which
+/// its section begins (0 for the roots), and a sentence.
 ///
-/// It reads one section at a time. The index keeps a CID for each block, and one for each distinct link whose block hasn't come.
+/// It reads one section at a time. The index keeps a CID for every block, and one for every
+/// distinct link whose block was not added.
 ///
 /// # Errors
 ///
-/// `Car` where the file is no CAR, with the offset: what stands before it was then added, and what is at fault in that was written. `Write`
-/// where `errors` failed, `Memory` where an allocation did: only a part was then added.
+/// - `Car` if the file is not a CAR or its reader fails, with the offset. Everything before that
+///   was then added, and the lines about it were written.
+/// - `Write` if `errors` fails. Only a part was then added.
+/// - `Memory` if an allocation fails. Only a part was then added.
 #[tactic(auto, using(crate::proofs::Finding::adds_roots, crate::proofs::Finding::adds_all, crate::proofs::Finding::fault_of_writing, crate::proofs::Finding::fault_of_car))]
 pub fn add_car<R: BufRead + Drop, E: Write>(
     alloc: Global,
@@ -201,23 +210,29 @@ pub fn add_car<R: BufRead + Drop, E: Write>(
             Err(error) => return Err(error),
         }
     }
-    // No file has so many sections: the bytes of a file are counted in 64 bits.
+    // No file has that many sections: the bytes of a file are counted in 64 bits.
     Err(CarFileError::Memory)
 }
 
-/// Reads a CAR to its end, and finds each root and each link of a block whose block isn't in the file. A CID with the identity hash carries
-/// its block: it is never missing, and the links of that block count. Blocks are told apart by their CIDs.
+/// Reads a CAR to its end, and finds every root, and every link of a block, whose block isn't in
+/// the file. A CID with the identity hash carries its block: it is never missing, and the links of
+/// that block count. Blocks are distinguished by their CIDs.
 ///
-/// A block that isn't one of its codec doesn't end the search: its links aren't known. About each such block, and each CID that carries bytes
-/// which are no block of its codec, a line is written to `errors`, as [`add_car`] does.
+/// A block that is invalid for its codec doesn't end the search, and its links aren't known. For
+/// every such block, and every CID that carries bytes which are invalid for its codec, it writes
+/// the line of [`add_car`] to `errors`.
 ///
-/// It reads one section at a time. It keeps a CID for each block, and one for each distinct link whose block hasn't come, in
-/// [`MissingBlocks`] with this hasher.
+/// It reads one section at a time. It keeps a CID for every block, and one for every distinct link
+/// whose block wasn't in the file so far, in [`MissingBlocks`] with this hasher.
 ///
 /// # Errors
 ///
-/// `Car` where the file is no CAR, with the offset, behind the lines about what stands before it; `Write` where `errors` failed, `Memory`
-/// where an allocation did. What was read and written until then stays so.
+/// - `Car` if the file is not a CAR or its reader fails, with the offset. The lines about
+///   everything before that were then written.
+/// - `Write` if `errors` fails.
+/// - `Memory` if an allocation fails.
+///
+/// The bytes that were read until then stay read, and the lines stay written.
 pub fn find_missing<R: BufRead + Drop, E: Write>(
     alloc: Global,
     hasher: RandomState,

@@ -1,4 +1,4 @@
-//! The next block of a CAR, and the links of a block by its codec's code.
+//! The next block of a CAR, and the links of a block by the code of its codec.
 
 ghost use Rattle.std.specs.Prelude.{◌≡◌, None, map, IfOk, IfErr, MatchOption};
 ghost use Rattle.ipld_cid.specs.LinkOf.{link_of};
@@ -31,7 +31,8 @@ pub(crate) fn read_next<R: BufRead>(
     }
 }
 
-// The links of a block of the codec of this code, repeats included; `None` of a codec whose blocks aren't read.
+// Returns the links of a block of the codec with this code, repeats included. Returns `None` if
+// blocks of the codec aren't read.
 pub(crate) fn links_in(
     alloc: Global,
     codec: u64,

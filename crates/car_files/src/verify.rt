@@ -1,4 +1,4 @@
-//! Whether the blocks of a CAR are those that their CIDs name.
+//! The check that the blocks of a CAR are those that their CIDs name.
 
 ghost use Rattle.std.specs.Prelude.{IfOk, IfErr, OnOk};
 ghost use Rattle.std.specs.Io.KnownBytes.{Appends};
@@ -16,28 +16,29 @@ use ipld_cid::Cid;
 use std::alloc::Global;
 use std::io::{BufRead, Write};
 
-/// What was seen of the digests.
+/// The counts of the blocks of a CAR by their digests.
 #[derive(Clone, Copy, Debug, PartialEq, Eq)]
 pub struct Verified {
-    /// How many blocks have the digest of their CID.
+    /// The number of blocks with the digest of their CID.
     pub right: u64,
-    /// How many don't.
+    /// The number of blocks with another digest.
     pub wrong: u64,
-    /// How many have a CID of a hash function that isn't computed here.
+    /// The number of blocks whose CID has a hash function that isn't computed here.
     pub unknown: u64,
 }
 
-/// How is written what is wrong with a block.
+/// The form in which an error of a block is written.
 #[derive(Clone, Copy, Debug, PartialEq, Eq)]
 pub enum VerdictForm {
     /// A line: the CID, the byte at which the section begins, and a sentence.
     Line,
-    /// An object of JSON on a line: `cid`, `offset` of the section, and `error`, which is `WrongDigest`, or `UnknownHash` with `hash`, the code
-    /// of the hash function in hexadecimal.
+    /// A JSON object on a line: `cid`, the `offset` of the section, and `error`, which is
+    /// `WrongDigest` or `UnknownHash`. With `UnknownHash` it has `hash`, the code of the hash
+    /// function in hexadecimal.
     Object,
 }
 
-// What is wrong with a block, as the last members of an object of JSON.
+// Writes the error of a block as the last members of a JSON object.
 fn write_reason_members<W: Write>(error: VerifyError, writer: &mut W) -> Result<(), CarFileError>
     ensures written { OnOk result
         (Appends (W.contents writer.old) (W.contents writer.new) (complaint_members error)) }
@@ -58,7 +59,7 @@ fn write_reason_members<W: Write>(error: VerifyError, writer: &mut W) -> Result<
     }
 }
 
-// What is wrong with a block.
+// Writes the error of a block.
 fn write_reason<W: Write>(error: VerifyError, writer: &mut W) -> Result<(), CarFileError>
     ensures written { OnOk result
         (Appends (W.contents writer.old) (W.contents writer.new) (complaint error)) }
@@ -98,7 +99,7 @@ fn write_verdict_line<W: Write>(
     Ok(())
 }
 
-// The same as an object of JSON.
+// Writes the same as a JSON object.
 fn write_verdict_object<W: Write>(
     alloc: Global,
     cid: &Cid,
@@ -118,7 +119,7 @@ fn write_verdict_object<W: Write>(
     Ok(())
 }
 
-// The same in this form.
+// Writes the same in this form.
 fn write_verdict<W: Write>(
     alloc: Global,
     form: VerdictForm,
@@ -138,15 +139,20 @@ fn write_verdict<W: Write>(
     }
 }
 
-/// Writes a line in this form for each block whose digest isn't that of its CID, or isn't computed here: what is wrong, and where its section
-/// begins. It returns how many blocks there are of each kind.
+/// Writes a line in this form for every block whose digest isn't that of its CID, or isn't computed
+/// here. The line has the error and the offset of the section. Returns the number of blocks of each
+/// kind.
 ///
-/// It reads one section at a time, and keeps nothing of those before. It allocates for the text of each CID that it writes.
+/// It reads one section at a time, and keeps nothing of earlier ones. It allocates for the text of
+/// every CID that it writes.
 ///
 /// # Errors
 ///
-/// `Car` where the file is no CAR, with the offset; `Write` where the writer failed, `Memory` where an allocation did. What was written until
-/// then stays written.
+/// - `Car` if the file is not a CAR or its reader fails, with the offset.
+/// - `Write` if the writer fails.
+/// - `Memory` if an allocation fails.
+///
+/// The lines that were written until then stay written.
 #[tactic(auto, using(crate::proofs::Tallying::tallies_none, crate::proofs::Tallying::tallies_right, crate::proofs::Tallying::tallies_wrong, crate::proofs::Tallying::tallies_unknown, crate::proofs::Tallying::tallies_all, crate::proofs::Tallying::unverified_car, crate::proofs::Tallying::unverified))]
 pub fn write_verified<R: BufRead + Drop, W: Write>(
     alloc: Global,
@@ -191,6 +197,6 @@ pub fn write_verified<R: BufRead + Drop, W: Write>(
             Err(error) => return Err(error),
         }
     }
-    // No file has so many sections: the bytes of a file are counted in 64 bits.
+    // No file has that many sections: the bytes of a file are counted in 64 bits.
     Err(CarFileError::Memory)
 }

@@ -1,4 +1,4 @@
--- What the encoder has left to write.
+-- The values that the encoder has left to write.
 use Rattle.std.specs.Prelude.{◌≡◌, ℕ, suc, ◌+◌, ◌<◌, ◌&&◌, Bool, true, false, List, [], ◌∷◌, ◌++◌, map, length, Option, Some, None}
 use Rattle.std.specs.Borrow.{Bor}
 use Rattle.std.specs.Slice.Iter.{iter_rest}
@@ -13,7 +13,7 @@ use Rattle.dag_cbor.specs.Writing.{Keyed, after_key, lent}
 use Rattle.dag_cbor.specs.declared.encode.EncodeCursor.{EncodeCursor}
 use Rattle.dag_cbor.specs.declared.encode.EncodeCursor.TheVariants.{Items as ItemsLeft, Entries, Sorted}
 
--- a value, and what is written before it: the key of an entry, nothing of an item
+-- a value, and the bytes that are written before it: the key of an entry, or no bytes for an item
 abbrev pub Pending : Type 0
 Pending = Option (List ℕ) × Ipld
 
@@ -28,26 +28,27 @@ left_of (ItemsLeft xs) = map of_item (iter_rest xs)
 left_of (Entries es) = map of_entry (after_key es)
 left_of (Sorted es) = map of_entry (lent (into_iter_items es))
 
--- what the cursors have left, of which the last is the innermost
+-- the values that the cursors have left, if the last cursor is the innermost
 abbrev pub pending : List EncodeCursor → List Pending
 pending [] = []
 pending (c ∷ cs) = pending cs ++ left_of c
 
--- what is left where a cursor is open inside others
+-- the values that are left if a cursor is open inside others
 abbrev pub all_left : EncodeCursor → List EncodeCursor → List Pending
 all_left innermost outer = left_of innermost ++ pending outer
 
--- what is written of it
+-- the bytes that are written for these values
 abbrev pub written : List Pending → Option (List ℕ)
 written [] = Some []
 written (p ∷ ps) = joined (joined p.0 (canonical (tree_of p.1))) (written ps)
 
--- each integer in it is in range
+-- whether every integer in these values is in range
 abbrev pub within : List Pending → Bool
 within [] = true
 within (p ∷ ps) = in_range (tree_of p.1) && within ps
 
--- how often the loop of the encoder runs for a tree: once for each value, and once for the end of each list and map
+-- the number of iterations of the encoder's loop for a tree: one for every value, and one for the
+-- end of every list and map
 abbrev mutual
   pub load : Tree → ℕ
   load null = 1
@@ -71,7 +72,7 @@ abbrev pub load_of : List Pending → ℕ
 load_of [] = 0
 load_of (p ∷ ps) = load (tree_of p.1) + load_of ps
 
--- the beginning of a tree was written, and the cursors, none or one, have the rest of it
+-- True if the beginning of a tree was written, and the cursors have the rest of it.
 pub record Begins (t : Tree) (start : List ℕ) (cursors : List EncodeCursor) (end : List ℕ) : Type 0 where
   pub bytes : List ℕ
   pub appended : end ≡ start ++ bytes
@@ -79,25 +80,26 @@ pub record Begins (t : Tree) (start : List ℕ) (cursors : List EncodeCursor) (e
   pub range : in_range t ≡ within (pending cursors)
   pub shrinks : load t ≡ suc (load_of (pending cursors) + length cursors)
 
--- a beginning of a tree was written, and the cursors that have the rest of it were put inside the others
+-- True if the beginning of a tree was written, and the cursors that have the rest of it were put
+-- inside the others.
 pub record Opens (t : Tree) (innermost : EncodeCursor) (outer : List EncodeCursor) (start : List ℕ) (innermost' : EncodeCursor) (outer' : List EncodeCursor) (end : List ℕ) : Type 0 where
   pub cursors : List EncodeCursor
   pub inside : outer' ++ innermost' ∷ [] ≡ (outer ++ innermost ∷ []) ++ cursors
   pub begins : Begins t start cursors end
 
--- a beginning of what was left was written
+-- True if a beginning of the values that were left was written, and the values in `after` are left.
 pub record Goes (before : List Pending) (start : List ℕ) (after : List Pending) (end : List ℕ) : Type 0 where
   pub bytes : List ℕ
   pub appended : end ≡ start ++ bytes
   pub same : written before ≡ joined (Some bytes) (written after)
   pub range : within before ≡ within after
 
--- what comes next, with what stands before it written, or nothing is left
+-- True if the next value is returned and the bytes before it were written, or if nothing was left.
 abbrev pub Advances : List Pending → List ℕ → Option (Bor Ipld) → List Pending → List ℕ → Type 0
 Advances before start None after end = (before ≡ []) × (end ≡ start)
 Advances before start (Some x) after end = (o : Option (List ℕ)) × (before ≡ (o, x.now) ∷ after) × Adds o start end
 
--- an iteration of the encoder's loop went on, or found nothing left
+-- True if an iteration of the encoder's loop moved on, or found nothing left and wrote nothing.
 abbrev pub StepOf : Bool → EncodeCursor → List EncodeCursor → List ℕ → EncodeCursor → List EncodeCursor → List ℕ → Type 0
 StepOf false innermost outer start innermost' outer' end = (all_left innermost outer ≡ []) × (end ≡ start)
 StepOf true innermost outer start innermost' outer' end =

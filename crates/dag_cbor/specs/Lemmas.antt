@@ -1,2 +1,2 @@
--- Proofs that the source cites, of laws that a trait asks for: no definitions.
+-- Proofs of the laws that a trait requires, cited by the source. It has no definitions.
 pub mod BlockLaws

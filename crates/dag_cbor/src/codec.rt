@@ -29,13 +29,14 @@ use ipld_tree::{Ipld, Limits};
 use std::alloc::Global;
 use std::io::{BufRead, Write};
 
-/// DAG-CBOR without floats, of which trees are written and read, and blocks have links.
+/// The DAG-CBOR codec, without floats. It writes and reads trees, and finds the links of blocks.
 ///
-/// A block is one item and nothing after it. Arguments are in their shortest form (preferred serialization, RFC 8949, section 4.1);
-/// the keys of a map are strings that differ, read in any order and written in length-first order (section 4.2.3); a link is tag 42
-/// before a byte string of a zero byte and the CID's bytes. Integers are from -2^64 to 2^64 - 1.
+/// A block is one item and nothing after it. Arguments are in their shortest form (preferred
+/// serialization, RFC 8949, section 4.1). The keys of a map are strings that differ, read in any
+/// order and written in length-first order (section 4.2.3). A link is tag 42 before a byte string
+/// of a zero byte and the CID's bytes. Integers are from -2^64 to 2^64 - 1.
 ///
-/// Its number, 0x71, is that of `dag-cbor` in the table of multicodecs.
+/// Its number, 0x71, is the number of `dag-cbor` in the table of multicodecs.
 #[derive(Clone, Copy, Debug, PartialEq, Eq)]
 pub struct DagCborCodec;
 
@@ -46,12 +47,13 @@ impl Links for DagCborCodec {
 
     ghost links_failure_of = { cbor_failure };
 
-    /// The links of a block, in the order of its bytes. Nothing but bytes that encode a tree has links. Of untrusted input use
-    /// [`links_of_block`](crate::links_of_block), which has limits.
+    /// Returns the links of a block, in the order of its bytes. Only bytes that encode a tree have
+    /// links. For untrusted input use [`links_of_block`](crate::links_of_block), which has limits.
     ///
     /// # Errors
     ///
-    /// `Memory` where an allocation failed, else the first error of the bytes, as of [`decode_slice`]. `Read`, `Write` and `IntegerRange` are never returned.
+    /// `Memory` if an allocation fails. Otherwise the first error of the bytes, the same one that
+    /// [`decode_slice`] returns. `Read`, `Write` and `IntegerRange` are never returned.
     fn links(alloc: Global, bytes: &[u8]) -> Result<LinkIter, CborError>
         ensures ok { IfOk result (λ links. links_found bytes.now ≡ Some (links_left links)) }
         ensures err { IfErr result (λ error. MatchOption (cbor_failure error)
@@ -67,7 +69,7 @@ impl Links for DagCborCodec {
     }
 }
 
-// All that the reader still has.
+// Reads all bytes that the reader still has.
 pub(crate) fn read_block<R: BufRead>(alloc: Global, reader: &mut R) -> Result<Vec<u8>, CborError>
     ensures ok { IfOk result (λ bytes. IfSome (R.remaining reader.old) (λ block.
         block ≡ bytes.items)) }
@@ -81,19 +83,21 @@ pub(crate) fn read_block<R: BufRead>(alloc: Global, reader: &mut R) -> Result<Ve
     }
 }
 
-// The capacity with which the vector of a block begins, so that a small one isn't moved while it grows.
+// The initial capacity of a block's vector, so that a small block is not moved while it grows.
 const RESERVED: usize = 128;
 
 impl DagCborCodec {
-    /// Reads the reader to its end, and decodes the block that it gave, as of [`Codec::decode`], where its tree is within the
-    /// limits. For untrusted input: see [`decode_slice_within`]. The reader's bytes are held in memory, so bound these too, as by
-    /// `take`.
+    /// Reads the reader to its end, and decodes the block as [`Codec::decode`] does, if its tree is
+    /// within the limits. For untrusted input: see [`decode_slice_within`]. The reader's bytes are
+    /// held in memory, so limit these too, for example with `take`.
     ///
     /// # Errors
     ///
-    /// - `Cbor(Read)` where the reader failed or did not end, and `Cbor(Memory)` where an allocation failed. The offset is 0 where no
-    ///   block was read.
-    /// - Else the error of [`decode_slice_within`]. How far the reader was read isn't said.
+    /// - `Cbor(Read)` if the reader fails or does not end, and `Cbor(Memory)` if an allocation
+    ///   fails. The offset is 0 if no block was read.
+    /// - Otherwise the error of [`decode_slice_within`].
+    ///
+    /// After an error, it is unspecified how far the reader was read.
     pub fn decode_within<R: BufRead>(
         alloc: Global,
         reader: &mut R,
@@ -140,14 +144,15 @@ impl Codec<Ipld> for DagCborCodec {
 
     ghost failure_of = { cbor_failure };
 
-    /// Reads the reader to its end, and decodes the block that it gave: its keys may be in any order. Of untrusted input use
-    /// [`DagCborCodec::decode_within`].
+    /// Reads the reader to its end, and decodes the block. Its keys may be in any order. For
+    /// untrusted input use [`DagCborCodec::decode_within`].
     ///
     /// # Errors
     ///
-    /// - `Read` where the reader failed or did not end.
-    /// - `Memory` where an allocation failed.
-    /// - Else the first error of the bytes, as of [`decode_slice`]. `Write` and `IntegerRange` are never returned.
+    /// - `Read` if the reader fails or does not end.
+    /// - `Memory` if an allocation fails.
+    /// - Otherwise the first error of the bytes, the same one that [`decode_slice`] returns.
+    ///   `Write` and `IntegerRange` are never returned.
     fn decode<R: BufRead>(alloc: Global, reader: &mut R) -> Result<Ipld, CborError>
         ensures ok { IfOk result (λ value. IfSome (R.remaining reader.old) (λ block.
             tree_of_block block ≡ Some (tree_of value))) }
@@ -165,15 +170,20 @@ impl Codec<Ipld> for DagCborCodec {
         decode_slice(alloc, &block)
     }
 
-    /// Writes the block of a tree, the keys of each map in length-first order. The block is held in memory before any of it
-    /// is written, and it is written at once. It is made in a loop: beside it the call allocates a slot for each list or map that
-    /// is open, and a vector of the entries of each open map of which a key is shorter than one before it in byte order.
+    /// Writes the block of a tree, with the keys of every map in length-first order. The whole
+    /// block is held in memory before any of it is written, and it is written at once.
+    ///
+    /// The block is made in a loop. In addition to the block, the call allocates a slot for every
+    /// open list or map. If an open map has a key that is shorter than a key before it in byte
+    /// order, the call also allocates a vector of the map's entries.
     ///
     /// # Errors
     ///
-    /// - `IntegerRange` where an integer is below -2^64 or above 2^64 - 1, or `Memory`. The writer is then as it was.
-    /// - Of any other tree `Memory`, also where the writer says that it found none, or `Write` where the writer failed. Some bytes of the
-    ///   block, from the first on, may then have been written, but never all.
+    /// - If an integer is below -2^64 or above 2^64 - 1: `IntegerRange`, or `Memory` if an
+    ///   allocation fails. The writer is then unchanged.
+    /// - For any other tree: `Memory` if an allocation fails or the writer reports that it is out
+    ///   of memory, or `Write` if the writer fails. A beginning of the block may then have been
+    ///   written, but never all of it.
     #[tactic(auto, using(crate::proofs::EncodedParts::none_of_block, crate::proofs::EncodedParts::part_of_block))]
     fn encode<W: Write>(alloc: Global, writer: &mut W, value: &Ipld) -> Result<(), CborError>
         ensures ok { OnOk result (Writes (canonical (tree_of value.now)) (W.contents writer.old)
@@ -199,11 +209,12 @@ impl Codec<Ipld> for DagCborCodec {
         }
     }
 
-    /// Decodes a block, all of the bytes: see [`decode_slice`].
+    /// Decodes a block from all of the bytes, as [`decode_slice`] does.
     ///
     /// # Errors
     ///
-    /// `Memory` where an allocation failed, else the first error of the bytes. `Read`, `Write` and `IntegerRange` are never returned.
+    /// `Memory` if an allocation fails. Otherwise the first error of the bytes. `Read`, `Write` and
+    /// `IntegerRange` are never returned.
     fn decode_from_slice(alloc: Global, bytes: &[u8]) -> Result<Ipld, CborError>
         ensures ok { IfOk result (λ value. tree_of_block bytes.now ≡ Some (tree_of value)) }
         ensures err { IfErr result (λ error. MatchOption (cbor_failure error)
@@ -216,12 +227,13 @@ impl Codec<Ipld> for DagCborCodec {
         decode_slice(alloc, bytes)
     }
 
-    /// The block of a tree: what [`Codec::encode`] writes. It allocates as that does, and doesn't recurse.
+    /// Returns the block of a tree, the same one that [`Codec::encode`] writes. It allocates as
+    /// that does, and is not recursive.
     ///
     /// # Errors
     ///
-    /// `IntegerRange` where an integer is below -2^64 or above 2^64 - 1, `Memory` where an allocation failed. `Write` is never
-    /// returned.
+    /// `IntegerRange` if an integer is below -2^64 or above 2^64 - 1. `Memory` if an allocation
+    /// fails. `Write` is never returned.
     fn encode_to_vec(alloc: Global, value: &Ipld) -> Result<Vec<u8>, CborError>
         ensures ok { IfOk result (λ block. canonical (tree_of value.now) ≡ Some block.items) }
         ensures err { IfErr result (λ error. MatchOption (cbor_failure error)

@@ -1,4 +1,4 @@
-//! The trees of blocks.
+//! The decoding of blocks to trees.
 
 ghost use Rattle.std.specs.Prelude.{◌≡◌, ◌⊎◌, ◌≤◌, true, false, Some, None, IfOk, IfErr, IsErrAnd, MatchResult, length};
 ghost use Rattle.ipld_tree.specs.Limits.{Within};
@@ -20,13 +20,15 @@ use dag_cbor_format::CborError;
 use ipld_tree::{Ipld, Limits};
 use std::alloc::Global;
 
-/// The tree that the bytes of a block encode, all of the bytes. Of untrusted input use [`decode_slice_within`], which bounds how deep
-/// the tree nests and how many values it has.
+// [begin: decode_slice]
+/// Returns the tree that a block encodes. The block is all of the bytes. For untrusted input use
+/// [`decode_slice_within`], which limits how deep the tree nests and how many values it has.
 ///
 /// # Errors
 ///
-/// `Memory` where an allocation failed. Else the first error from the left: of an item its head comes before its content; of a pair of a
-/// map the key, then that the map has it already, then the value; and bytes that follow the item come last.
+/// `Memory` if an allocation fails. Otherwise the first error from the left. The head of an item
+/// comes before its content. In a pair of a map, errors of the key come first, then a duplicate
+/// key, then errors of the value. Bytes after the item come last.
 pub fn decode_slice(alloc: Global, bytes: &[u8]) -> Result<Ipld, CborError>
     ensures found { IfOk result (λ v. EncodesTree (tree_of v) bytes.now) }
     ensures only { (t : Tree) → EncodesTree t bytes.now → UnlessMemory result (λ v. tree_of v ≡ t) }
@@ -41,8 +43,9 @@ pub fn decode_slice(alloc: Global, bytes: &[u8]) -> Result<Ipld, CborError>
         Err(Stop::Unread) => decode_by_loop(alloc, bytes),
     }
 }
+// [end: decode_slice]
 
-// What `decode_slice` returns, by a loop: of a block that nests however deep, or has an error.
+// Decodes as `decode_slice` does, in a loop. The block may nest to any depth or have an error.
 fn decode_by_loop(alloc: Global, bytes: &[u8]) -> Result<Ipld, CborError>
     ensures found { IfOk result (λ v. EncodesTree (tree_of v) bytes.now) }
     ensures only { (t : Tree) → EncodesTree t bytes.now → UnlessMemory result (λ v. tree_of v ≡ t) }
@@ -59,20 +62,26 @@ fn decode_by_loop(alloc: Global, bytes: &[u8]) -> Result<Ipld, CborError>
     }
 }
 
-/// The tree that the bytes of a block encode, as of [`decode_slice`], where it is within the limits. For untrusted input.
+/// Returns the tree that a block encodes, as [`decode_slice`] does, if it is within the limits. For
+/// untrusted input.
 ///
-/// The limits are kept while the bytes are read: no list or map that stands deeper than the limit is gone into, and no value after the
-/// last that is allowed is read.
+/// The limits apply while the bytes are read. A list or a map that is nested deeper than the limit
+/// is not entered, and reading stops with the first value after the last allowed one.
 ///
 /// # Errors
 ///
-/// The error says at which byte reading stopped: where the item, the key, the byte string behind the tag of a link, or the bytes left over
-/// begin that the error lies in, or the item that passes the limit. Its kind is:
+/// The error has the byte at which reading stopped. It is the first byte of the part that has the
+/// error: an item, a key, the byte string after the tag of a link, or the bytes left over. If a
+/// limit is passed, it is the first byte of the item that passes it, or of the byte string of a
+/// link. If an allocation fails, it is any offset in the block. The kind of the error is:
 ///
-/// - `TooDeep` where a list or a map stands deeper than `limits.levels`.
-/// - `TooMany` where more values than `limits.values` come. A value counts once it was read whole, a list or a map once its head was,
-///   and the keys of maps don't count. Of a list or a map that passes both limits the kind is `TooDeep`.
-/// - Else `Cbor`, with the error of [`decode_slice`]. Where the bytes have an error and pass a limit, what comes first in them decides.
+/// - `TooDeep` if a list or a map is nested deeper than `limits.levels`.
+/// - `TooMany` if there are more values than `limits.values`. A value counts once it was read
+///   whole, and a list or a map once its head was read. The keys of maps do not count. If a list or
+///   a map passes both limits, the kind is `TooDeep`.
+/// - Otherwise `Cbor`, with the error of [`decode_slice`].
+///
+/// If the bytes have an error and pass a limit, the one that comes first in the bytes is returned.
 pub fn decode_slice_within(alloc: Global, bytes: &[u8], limits: &Limits) -> Result<Ipld, BlockError>
     ensures found { IfOk result (λ v. EncodesTree (tree_of v) bytes.now) }
     ensures within { IfOk result (λ v. Within limits.now (tree_of v)) }
@@ -97,7 +106,8 @@ pub fn decode_slice_within(alloc: Global, bytes: &[u8], limits: &Limits) -> Resu
     }
 }
 
-// The tree of a block that can't have more values than are allowed, since it has no more bytes.
+// Decodes a block by recursion, if it has no more bytes than values are allowed. It then cannot
+// have too many values.
 fn read_shallow_within(alloc: Global, bytes: &[u8], limits: &Limits) -> Result<Ipld, Stop>
     ensures found { IfOk result (λ tree. EncodesTree (tree_of tree) bytes.now) }
     ensures within { IfOk result (λ tree. Within limits.now (tree_of tree)) }
@@ -108,7 +118,8 @@ fn read_shallow_within(alloc: Global, bytes: &[u8], limits: &Limits) -> Result<I
     read_shallow(alloc, bytes, limits.levels.min(SHALLOW))
 }
 
-// As `decode_slice_within`, of a block that nests however deep, passes a limit or has an error.
+// Decodes as `decode_slice_within` does, in a loop. The block may nest to any depth, pass a limit
+// or have an error.
 fn decode_by_loop_within(alloc: Global, bytes: &[u8], limits: &Limits) -> Result<Ipld, BlockError>
     ensures found { IfOk result (λ v. EncodesTree (tree_of v) bytes.now) }
     ensures within { IfOk result (λ v. Within limits.now (tree_of v)) }

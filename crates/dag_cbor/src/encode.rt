@@ -17,7 +17,8 @@ use std::alloc::{AllocError, Global};
 use std::collections::{BTreeMap, btree_map};
 use std::{mem, slice, vec};
 
-// What an open list or map has left to write. Entries are sorted only where their lengths don't ascend.
+// The part of an open list or map that is left to write. Entries are sorted only if the lengths of
+// their keys do not ascend.
 #[derive(Drop)]
 enum EncodeCursor<'a> {
     Items(slice::Iter<'a, Ipld>),
@@ -25,7 +26,7 @@ enum EncodeCursor<'a> {
     Sorted(vec::IntoIter<(&'a String, &'a Ipld), Global>),
 }
 
-// What a cursor has next, with its key written.
+// Returns the next value of a cursor, and writes its key.
 #[inline(always)]
 fn advance<'a>(
     cursor: &mut EncodeCursor<'a>,
@@ -53,7 +54,7 @@ fn advance<'a>(
     }
 }
 
-// The entries of a map, the shorter keys first.
+// Returns a cursor over the entries of a map, with the shorter keys first.
 fn cursor_of<'a>(
     alloc: Global,
     members: &'a BTreeMap<String, Ipld>,
@@ -67,7 +68,7 @@ fn cursor_of<'a>(
     Ok(EncodeCursor::Sorted(sorted_entries(alloc, members)?.into_iter()))
 }
 
-// Goes on in what a list or a map holds.
+// Enters a list or a map, whose cursor is then the innermost.
 #[inline(always)]
 fn enter<'a>(
     inner: EncodeCursor<'a>,
@@ -81,7 +82,7 @@ fn enter<'a>(
     Ok(())
 }
 
-// Writes the head of a list, and goes on in it.
+// Writes the head of a list, and enters the list.
 #[inline(never)]
 fn enter_list<'a>(
     out: &mut Vec<u8>,
@@ -97,7 +98,7 @@ fn enter_list<'a>(
     Ok(())
 }
 
-// Writes the head of a map, and goes on in it.
+// Writes the head of a map, and enters the map.
 #[inline(never)]
 fn enter_map<'a>(
     alloc: Global,
@@ -115,7 +116,7 @@ fn enter_map<'a>(
     Ok(())
 }
 
-// Writes a value; of a list or a map the head, and goes on in it.
+// Writes a value. For a list or a map, writes the head and enters it.
 #[inline(always)]
 fn write_value<'a>(
     alloc: Global,
@@ -143,7 +144,7 @@ fn write_value<'a>(
     Ok(())
 }
 
-// Writes the next value, or leaves a list or a map at its end; false where nothing is left.
+// Writes the next value, or leaves a list or a map at its end. Returns false if nothing is left.
 #[inline(always)]
 fn write_next<'a>(
     alloc: Global,
@@ -168,7 +169,8 @@ fn write_next<'a>(
     Ok(true)
 }
 
-// Appends the block of a tree. Where there is none, or an allocation failed, perhaps a beginning of one is appended.
+// Appends the block of a tree. If the tree has no block, or an allocation fails, a beginning of one
+// may be appended.
 pub(crate) fn encode_to(alloc: Global, out: &mut Vec<u8>, value: &Ipld) -> Result<(), CborError>
     ensures ok { OnOk result (Adds (canonical (tree_of value.now)) out.old.items out.new.items) }
     ensures within { OnOk result (range.in_range (tree_of value.now) ≡ true) }

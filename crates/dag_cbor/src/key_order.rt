@@ -7,7 +7,8 @@ use ipld_tree::Ipld;
 use std::alloc::{AllocError, Global};
 use std::collections::BTreeMap;
 
-// Whether no key is shorter than one before it in byte order: then they are in length-first order already.
+// Returns whether no key is shorter than a key before it in byte order. The keys are then in
+// length-first order already.
 pub(crate) fn lengths_ascend(members: &BTreeMap<String, Ipld>) -> bool
     ensures { IsTrue result → in_order (after_key members.now.entries)
         ≡ after_key members.now.entries }
@@ -22,7 +23,8 @@ pub(crate) fn lengths_ascend(members: &BTreeMap<String, Ipld>) -> bool
     true
 }
 
-// The entries, the shorter keys first. They come in byte order, in which keys of one length stay.
+// Returns the entries, with the shorter keys first. The entries come in byte order, and those with
+// keys of one length stay in it.
 pub(crate) fn sorted_entries(
     alloc: Global,
     members: &BTreeMap<String, Ipld>,

@@ -1,4 +1,4 @@
-//! What holds of blocks.
+//! Laws of blocks.
 
 ghost use Rattle.std.specs.Prelude.{◌≡◌, ◌↔◌, Some, None, Bool, true, false, List, ℕ, map};
 ghost use Rattle.ipld_cid.specs.Cid.{Link};
@@ -33,14 +33,18 @@ use ipld_codec::{Codec, LinkIter, Links};
 use ipld_tree::Ipld;
 use std::alloc::Global;
 
-/// What holds of blocks of DAG-CBOR. A call does nothing.
+/// States the laws of DAG-CBOR blocks. A call does nothing.
 ///
-/// - Bytes have an error, which is one of bytes, exactly where they encode no tree.
+/// - Bytes have an error if and only if they do not encode a tree. The error is one of those that
+///   lie in bytes.
 /// - No block encodes two trees.
-/// - The tree of a block is the one that it encodes, and there is none where it encodes none.
-/// - Its links are those of the item that it encodes, in the order of the bytes; bytes that encode no tree have none.
+/// - The tree of a block is the one that it encodes. If a block does not encode a tree, it does not
+///   have one.
+/// - The links of a block are those of the item that it encodes, in the order of the bytes. Bytes
+///   that do not encode a tree have no links.
 /// - A tree with an integer below -2^64 or above 2^64 - 1 has no block.
-/// - The block that is written of a tree encodes it, with the keys of each map in length-first order, and no other block does.
+/// - The block that is written for a tree encodes it, with the keys of every map in length-first
+///   order. No other block does both.
 pub fn block_law()
     ensures errors { (block : List ℕ) → (first_error block ≡ None) ↔ ((t : Tree)
         × EncodesTree t block) }
@@ -62,17 +66,20 @@ pub fn block_law()
         → canonical t ≡ Some block }
 {}
 
-/// What holds of blocks with floats and without. A call does nothing.
+/// States the laws of blocks with and without floats. A call does nothing.
 ///
-/// A float has no item of its own: the item of a block has null in its place.
+/// A float does not have an item of its own: the item of a block has null instead.
 ///
-/// - Bytes have an error, which is one of bytes, exactly where they encode no item with a tree.
+/// - Bytes have an error if and only if they do not encode an item with a tree. The error is one of
+///   those that lie in bytes.
 /// - No block encodes two trees.
-/// - The links of a block are those of the item that it encodes, in the order of the bytes; bytes that encode none have none.
-/// - At the positions of the links stand the bytes of their CIDs, in the same order.
-/// - Its keys are sorted exactly where those of the item are, in each map by length-first order.
-/// - It passes no limit exactly where the tree passes none.
-/// - Without floats the items that are encoded, the first error and the links are those of [`block_law`].
+/// - The links of a block are those of the item that it encodes, in the order of the bytes. Bytes
+///   that do not encode an item have no links.
+/// - The bytes at the positions of the links are those of their CIDs, in the same order.
+/// - The keys of a block are sorted if and only if those of the item are. They are sorted in every
+///   map by length-first order.
+/// - A block does not pass a limit if and only if its tree does not.
+/// - Without floats, the encoded items, the first error and the links are those of [`block_law`].
 pub fn float_law()
     ensures errors { (floats : Bool) (block : List ℕ) → (error_in floats block ≡ None) ↔ ((t : Tree)
         × EncodesTreeIn floats t block) }
@@ -104,7 +111,8 @@ pub fn float_law()
     ensures links_found { (block : List ℕ) → links_read false block ≡ links_found block }
 {}
 
-/// Decodes a block by both codecs of DAG-CBOR, by [`DagCborCodec`] and then by [`TokenCodec`]: it shows that they answer alike.
+/// Decodes a block by both DAG-CBOR codecs, first by [`DagCborCodec`] and then by [`TokenCodec`].
+/// It shows that they return the same.
 ///
 /// Both return the same tree or the same error, unless an allocation fails in one of them.
 pub fn both_decode(
@@ -119,8 +127,8 @@ pub fn both_decode(
     )
 }
 
-/// Finds the links of a block by both codecs of DAG-CBOR, by [`DagCborCodec`] and then by [`TokenCodec`]: it shows that they answer
-/// alike.
+/// Finds the links of a block by both DAG-CBOR codecs, first by [`DagCborCodec`] and then by
+/// [`TokenCodec`]. It shows that they return the same.
 ///
 /// Both return the same links or the same error, unless an allocation fails in one of them.
 pub fn both_find_links(

@@ -1,7 +1,8 @@
-//! Blocks of DAG-CBOR (RFC 8949 and the DAG-CBOR specification): as trees, without floats, and their links, with floats too.
+//! DAG-CBOR blocks (RFC 8949 and the DAG-CBOR specification): their trees, without floats, and
+//! their links, also with floats.
 //!
-//! A block encodes a tree of the IPLD data model. [`decode_slice_within`] returns the tree of an untrusted block within limits, and
-//! [`decode_slice`] the tree of any block:
+//! A block encodes a tree of the IPLD data model. [`decode_slice_within`] returns the tree of an
+//! untrusted block within limits, and [`decode_slice`] returns the tree of any block:
 //!
 //! ```rust
 //! use dag_cbor::{BlockError, decode_slice_within};
@@ -14,8 +15,8 @@
 //! }
 //! ```
 //!
-//! [`links_of_block`] returns the links in a block, without building the tree. [`ReadOptions`] has the limits, and whether floats are
-//! read, of which a tree has none:
+//! [`links_of_block`] returns the links in a block, without building the tree. [`ReadOptions`]
+//! contains the limits, and whether floats are read. A tree cannot contain floats:
 //!
 //! ```rust
 //! use dag_cbor::{BlockError, ReadOptions, links_of_block};
@@ -28,10 +29,14 @@
 //! }
 //! ```
 //!
-//! In the same way [`check_block`] says whether bytes are a block, [`count_links`] and [`link_positions`] how many links there are and
-//! where they stand, [`measure_block`] how large the tree is, and [`is_canonical`] whether the block is the one that is written of its
-//! tree. [`CborTokens`] are the tokens of a block, one after another, and [`tape`] lists its values and keys as entries that refer to its
-//! bytes.
+//! More functions read a block without building the tree:
+//!
+//! - [`check_block`] checks that bytes are a block.
+//! - [`count_links`] returns the number of links, and [`link_positions`] their positions.
+//! - [`measure_block`] returns how large the tree is.
+//! - [`is_canonical`] returns whether the block is the one that is written for its tree.
+//! - [`CborTokens`] yields the tokens of a block, one after another.
+//! - [`tape`] lists the values and keys of a block as entries that refer to its bytes.
 //!
 //! [`DagCborCodec`] is the format as a codec, which writes trees too:
 //!
@@ -46,16 +51,23 @@
 //! }
 //! ```
 //!
-//! [`TokenCodec`] returns the same by the calls that read any source of tokens. It is slower, and shows how a codec is written.
+//! [`TokenCodec`] returns the same, with the functions that read any source of tokens. It is
+//! slower, and is an example of how to write a codec.
 //!
-//! [`item`] reads what an item begins with, for what goes through a block by itself.
-//! [`write`] has the calls that write an item after another, for blocks that are made without a tree.
+//! [`item`] reads the beginning of an item, for code that walks a block by itself. [`write`] has
+//! the functions that write one item after another, to make blocks without a tree.
 //!
-//! A block is one item with nothing after it. Each argument is in its shortest form. A list has a
-//! length that its head says, and so has a map, of which the keys are strings that differ: they are read in any order, and written
-//! in length-first order (RFC 8949, section 4.2.3): by length, then by bytes. A link is tag 42 before a byte string of a zero byte and the CID's bytes. Integers are from -2^64 to
-//! 2^64 - 1. Other simple values than false, true and null, other tags and indefinite lengths are rejected by name, and so are floats, but where
-//! [`ReadOptions`] say that they are read.
+//! A block is one item with nothing after it:
+//!
+//! - Every argument is in its shortest form.
+//! - A list has its length in its head, and so has a map.
+//! - The keys of a map are strings that differ. They are read in any order, and written in
+//!   length-first order (RFC 8949, section 4.2.3): by length, then by bytes.
+//! - A link is tag 42 before a byte string of a zero byte and the CID's bytes.
+//! - Integers are from -2^64 to 2^64 - 1.
+//!
+//! Simple values other than false, true and null, other tags and indefinite lengths are rejected
+//! with `Unsupported`. Floats are rejected with `Float`, unless [`ReadOptions`] allows them.
 #![tactic(auto)]
 
 mod codec;

@@ -1,4 +1,4 @@
-//! DAG-CBOR as a codec over tokens, as a codec of any format can be written.
+//! DAG-CBOR as a codec over tokens. A codec of any format can be written in this way.
 
 ghost use Rattle.std.specs.Prelude.{◌≡◌, ◌⊎◌, true, None, Some, IfOk, IfErr, OnOk, IfSome, MatchOption};
 ghost use Rattle.ipld_codec.specs.Codec.{memory, reading, writing, MemoryOr, Writes, IsReadOut};
@@ -24,16 +24,18 @@ use ipld_tree::Ipld;
 use std::alloc::Global;
 use std::io::{BufRead, Write};
 
-/// DAG-CBOR, read by the calls that read any source of tokens: [`read_ipld`] and [`ExtractLinks`] over [`CborTokens`].
+/// DAG-CBOR, read by the functions that read any source of tokens: [`read_ipld`] and
+/// [`ExtractLinks`] over [`CborTokens`].
 ///
-/// It returns what [`DagCborCodec`] returns, which reads the bytes itself and is several times as fast: see
-/// [`both_decode`](crate::laws::both_decode) and [`both_find_links`](crate::laws::both_find_links). It is an example for whoever writes a
-/// codec: its proofs use the contracts of the calls that it makes, and nothing below them.
+/// It returns the same as [`DagCborCodec`], which reads the bytes itself and is several times as
+/// fast: see [`both_decode`](crate::laws::both_decode) and
+/// [`both_find_links`](crate::laws::both_find_links). It is an example for your own codec. Its
+/// proofs use only the contracts of the functions that it calls.
 #[derive(Clone, Copy, Debug, PartialEq, Eq)]
 pub struct TokenCodec;
 
-// The error of a codec that the error of a read is. A source over a block returns an error of its own before the tokens have one, so
-// the last arm is never taken.
+// Converts the error of a read to the error of a codec. A source over a block returns its own error
+// before the tokens have one, so the last arm is never taken.
 fn source_error(error: TokenError<CborError>) -> CborError
     ensures { result ≡ error_of error }
 {
@@ -51,12 +53,14 @@ impl Links for TokenCodec {
 
     ghost links_failure_of = { cbor_failure };
 
-    /// Returns the links of a block, in the order of its bytes. Only bytes that encode a tree have links.
+    /// Returns the links of a block, in the order of its bytes. Only bytes that encode a tree have
+    /// links.
     ///
     /// # Errors
     ///
-    /// `Memory` if an allocation fails, else the first error of the bytes, as of [`decode_slice`](crate::decode_slice). `Read`, `Write`
-    /// and `IntegerRange` are never returned.
+    /// `Memory` if an allocation fails. Otherwise the first error of the bytes, the same one that
+    /// [`decode_slice`](crate::decode_slice) returns. `Read`, `Write` and `IntegerRange` are never
+    /// returned.
     fn links(alloc: Global, bytes: &[u8]) -> Result<LinkIter, CborError>
         ensures ok { IfOk result (λ links. links_found bytes.now ≡ Some (links_left links)) }
         ensures err { IfErr result (λ error. MatchOption (cbor_failure error)
@@ -103,13 +107,15 @@ impl Codec<Ipld> for TokenCodec {
 
     ghost failure_of = { cbor_failure };
 
-    /// Reads the reader to its end, and decodes the block that it gave: its keys may be in any order.
+    /// Reads the reader to its end, and decodes the block. Its keys may be in any order.
     ///
     /// # Errors
     ///
-    /// - `Read` if the reader failed or did not end.
-    /// - `Memory` if an allocation failed.
-    /// - Else the first error of the bytes, as of [`decode_slice`](crate::decode_slice). `Write` and `IntegerRange` are never returned.
+    /// - `Read` if the reader fails or does not end.
+    /// - `Memory` if an allocation fails.
+    /// - Otherwise the first error of the bytes, the same one that
+    ///   [`decode_slice`](crate::decode_slice) returns. `Write` and `IntegerRange` are never
+    ///   returned.
     fn decode<R: BufRead>(alloc: Global, reader: &mut R) -> Result<Ipld, CborError>
         ensures ok { IfOk result (λ value. IfSome (R.remaining reader.old) (λ block.
             tree_of_block block ≡ Some (tree_of value))) }
@@ -141,11 +147,12 @@ impl Codec<Ipld> for TokenCodec {
         DagCborCodec::encode(alloc, writer, value)
     }
 
-    /// Decodes a block, all of the bytes: its keys may be in any order.
+    /// Decodes a block from all of the bytes. Its keys may be in any order.
     ///
     /// # Errors
     ///
-    /// `Memory` if an allocation failed, else the first error of the bytes. `Read`, `Write` and `IntegerRange` are never returned.
+    /// `Memory` if an allocation fails. Otherwise the first error of the bytes. `Read`, `Write` and
+    /// `IntegerRange` are never returned.
     fn decode_from_slice(alloc: Global, bytes: &[u8]) -> Result<Ipld, CborError>
         ensures ok { IfOk result (λ value. tree_of_block bytes.now ≡ Some (tree_of value)) }
         ensures err { IfErr result (λ error. MatchOption (cbor_failure error)

@@ -16,7 +16,8 @@ use ipld_tokens::open_tree::{BuildError, OpenTree};
 use ipld_tree::Ipld;
 use std::alloc::{AllocError, Global};
 
-// The tree of a block, as far as its parts have come. It is rejected where a part can't stand where it came.
+// The tree of a block, as far as its parts were read. It is rejected if a part is not allowed at
+// its place.
 #[derive(Drop)]
 pub(crate) struct TreeBuilder {
     alloc: Global,
@@ -33,14 +34,14 @@ impl TreeBuilder {
         }
     }
 
-    // The tree, where the parts were those of one.
+    // Returns the tree, if the parts were those of one.
     pub(crate) fn finish(self) -> Option<Ipld>
         ensures { option_map tree_of result ≡ tree_answer self [] }
     {
         self.tree.finish()
     }
 
-    // Rejects the tree where a part couldn't stand where it came.
+    // Rejects the tree if a part was not allowed at its place.
     #[inline(always)]
     fn settle(&mut self, built: Result<(), BuildError>) -> Result<(), AllocError>
         ensures { Settles (state_of self.old) built result (state_of self.new) }
@@ -84,7 +85,7 @@ impl TreeBuilder {
         self.add(Ipld::String(string))
     }
 
-    // A string, which is a key where a map has none that waits.
+    // Adds a string. It is a key if the innermost map waits for one.
     fn add_key(&mut self, string: &str) -> Result<(), AllocError>
         ensures { Reaches (step (state_of self.old) (atom (text string.now))) result
             (state_of self.new) }
@@ -97,7 +98,7 @@ impl TreeBuilder {
         self.add_text(string)
     }
 
-    // Adds a string as a value where one can come, else as a key.
+    // Adds a string as a value if one is allowed there, and otherwise as a key.
     #[inline(always)]
     fn add_string(&mut self, string: &str) -> Result<(), AllocError>
         ensures { Reaches (step (state_of self.old) (atom (text string.now))) result
@@ -110,7 +111,8 @@ impl TreeBuilder {
         }
     }
 
-    // What is called seldom, or makes a value, is out of line, so that the loop over a block's bytes stays small enough to be one function.
+    // Functions that are rarely called, or make a value, are out of line, so that the loop over a
+    // block's bytes stays small enough to be one function.
 
     #[inline(never)]
     fn add_null(&mut self) -> Result<(), AllocError>

@@ -1,4 +1,4 @@
--- What reading a block returns.
+-- The results of reading a block.
 use Rattle.std.specs.Prelude.{◌≡◌, ℕ, Bool, List, Some, Result, Ok, Err}
 use Rattle.ipld_cid.specs.Cid.{Link}
 use Rattle.ipld_tree.specs.Tree.{Tree}
@@ -9,12 +9,12 @@ use Rattle.dag_cbor_format.specs.declared.error.CborError.{CborError}
 use Rattle.dag_cbor_format.specs.declared.error.CborError.TheVariants.{Memory}
 use Rattle.dag_cbor_format.specs.WithFloats.{EncodesIn}
 
--- P of what is given, unless an allocation failed
+-- True if `P` is true of the value that is returned, or if an allocation failed.
 abbrev pub UnlessMemory : {A : Type 0} → Result A CborError → (A → Type 0) → Type 0
 UnlessMemory (Ok x) P = P x
 UnlessMemory (Err e) P = e ≡ Memory
 
 -- True if the bytes encode an item that has a tree, with floats or without, and these are the
--- item's links, in the order of the bytes. Each link is in the tree as often as in the item.
+-- item's links, in the order of the bytes. A link is in the tree as often as in the item.
 abbrev pub LinksOf : Bool → List ℕ → List Link → Type 0
 LinksOf floats bytes links = (i : Item 64) × (t : Tree) × EncodesIn floats i bytes × (tree_of_item i ≡ Some t) × (links ≡ links_in i) × SameLinks i t

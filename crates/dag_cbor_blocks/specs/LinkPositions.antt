@@ -5,7 +5,7 @@ use Rattle.dag_cbor_format.specs.Trace.{Event, Position, tokens_in, positions_am
 use Rattle.dag_cbor_blocks.specs.declared.link_position.LinkPosition.{LinkPosition}
 use Rattle.dag_cbor_blocks.specs.declared.link_position.PositionFinder.{PositionFinder}
 
--- a position, as the format has it
+-- the model of a position
 abbrev pub position_of : LinkPosition → Position
 position_of p = (p.offset, p.length)
 
@@ -14,7 +14,8 @@ abbrev pub kept : Bool → List Position → List Position
 kept true ps = ps
 kept false ps = []
 
--- how many links a finder has and how many are among events; and the positions that it has, and those among events if it keeps them
+-- the number of links that a finder has and that are among events, and the positions that it has,
+-- and those among events if it keeps them
 abbrev pub found_with : PositionFinder → List Event → ℕ × List Position
 found_with finder events =
     (finder.count + length (links_among (tokens_in events)), map position_of finder.positions.items ++ kept finder.is_keeping (positions_among finder.size events))

@@ -1,4 +1,4 @@
--- What is open at a position in a block, and how it goes on from there.
+-- The levels that are open at a position in a block, and the steps of the machine from there.
 use Rattle.std.specs.Prelude.{◌≡◌, ◌⊎◌, ◌+◌, ◌*◌, ◌<◌, ◌≤◌, ℕ, Bool, true, false, List, [], ◌∷◌, length, Result, Ok, Err}
 use Rattle.std.specs.Borrow.{Bor}
 use Rattle.ipld_tokens.specs.Token.{atom, text, seq_end, map_end}
@@ -20,16 +20,16 @@ framed level.Whole fs = fs
 framed (level.List n) fs = many n ∷ fs
 framed (level.Map map) fs = pairs map.pairs (seen_in map.keys) ∷ fs
 
--- what is open, innermost last, outside which other frames are
+-- the frames of these levels, innermost last, and then the frames outside of them
 abbrev pub inside : List Level → List Frame → List Frame
 inside [] outer = outer
 inside (o ∷ os) outer = inside os (framed o outer)
 
--- the frames of the format's machine, but for that of a value that is to come
+-- the frames of the format's machine, except that of a value that is to come
 abbrev pub frames_of : Position → List Frame
 frames_of p = framed p.innermost (inside p.outer.items [])
 
--- which of them are lists and which are maps
+-- the kinds of the lists and maps among frames
 abbrev pub kinds_in : List Frame → List OpenKind
 kinds_in [] = []
 kinds_in (one ∷ fs) = kinds_in fs
@@ -50,17 +50,19 @@ is_open_level (level.Map map) outer = true
 abbrev pub is_open : Position → Bool
 is_open p = is_open_level p.innermost p.outer.items
 
--- how many bytes are left, and how many frames and levels
+-- three times the number of bytes left, plus the number of frames and of outer levels
 abbrev pub steps_left : Position → ℕ
 steps_left p = 3 * length p.rest.now + length (frames_of p) + length p.outer.items
 
--- a key was read as the machine does, which has a frame for the value after it; or an allocation failed, and the map is as before; or the machine rejects for this
+-- True if a key was read by the machine's step, after which the machine has a frame for the value.
+-- An error is a failed allocation, which leaves the map unchanged, or the error of the machine.
 abbrev pub TakesKey : UnreadMap → List ℕ → Result (Bor (List ℕ) × Bor (List ℕ)) CborError → UnreadMap → Type 0
 TakesKey old bytes (Ok (key, rest)) new =
     (new.pairs + 1 ≡ old.pairs) × ((floats : Bool) (fs : List Frame) → step_in floats (pairs old.pairs (seen_in old.keys) ∷ fs) bytes ≡ yields (atom (text key.now)) (value new.pairs (seen_in new.keys) ∷ fs) rest.now)
 TakesKey old bytes (Err error) new = ((error ≡ Memory) × (new.pairs ≡ old.pairs) × (seen_in new.keys ≡ seen_in old.keys)) ⊎ ((floats : Bool) (fs : List Frame) → step_in floats (pairs old.pairs (seen_in old.keys) ∷ fs) bytes ≡ rejected error)
 
--- what the machine does in the next step, with floats or without; before an item of a list no byte is read
+-- True if the position follows the machine's next step, with floats or without. Before an item of a
+-- list no byte is read.
 abbrev pub Steps : Position → Next → Position → Type 0
 Steps before Item after = (after.rest.now ≡ before.rest.now) × ((floats : Bool) → step_in floats (frames_of before) before.rest.now ≡ item_step_in floats (frames_of after) after.rest.now)
 Steps before (Value key) after =
@@ -70,13 +72,15 @@ Steps before EndOfList after = (floats : Bool) → step_in floats (frames_of bef
 Steps before EndOfMap after = (floats : Bool) → step_in floats (frames_of before) before.rest.now ≡ yields map_end (frames_of after) after.rest.now
 Steps before Outside after = (frames_of before ≡ frames_of after) × (before.rest.now ≡ after.rest.now)
 
--- an item or a key leaves no more steps, an end fewer
+-- True if `steps_left` does not grow with an item or a key, and otherwise shrinks if a level was
+-- open.
 abbrev pub LeavesFewer : Position → Next → Position → Type 0
 LeavesFewer before Item after = steps_left after ≤ steps_left before
 LeavesFewer before (Value key) after = steps_left after ≤ steps_left before
 LeavesFewer before _ after = is_open before ≡ true → steps_left after < steps_left before
 
--- an item comes in a list, a value in a map after its key, and an end is that of what was innermost
+-- True if an item comes in a list, a value in a map after its key, and an end is that of the
+-- innermost level.
 abbrev pub Stands : Position → Next → Position → Type 0
 Stands before Item after = (outer : List OpenKind) × (kinds_of before ≡ in_list ∷ outer) × (kinds_of after ≡ in_list ∷ outer)
 Stands before (Value key) after = (outer : List OpenKind) × (kinds_of before ≡ in_map ∷ outer) × (kinds_of after ≡ in_map ∷ outer)
@@ -84,7 +88,8 @@ Stands before EndOfList after = kinds_of before ≡ in_list ∷ kinds_of after
 Stands before EndOfMap after = kinds_of before ≡ in_map ∷ kinds_of after
 Stands before Outside after = kinds_of before ≡ kinds_of after
 
--- an error is one at the key that begins there, or an allocation failed, and it is as before
+-- True if the position moves to its next part. An error is a failed allocation, which leaves the
+-- position unchanged, or that of the key that begins there.
 abbrev pub NextIn : Position → Result Next CborError → Position → Type 0
 NextIn before (Ok next) after = Steps before next after × LeavesFewer before next after × Stands before next after
 NextIn before (Err error) after =

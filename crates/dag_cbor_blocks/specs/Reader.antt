@@ -1,4 +1,4 @@
--- What is open in a running reader, and what its steps do.
+-- The frames that are open in a running reader, and the steps of the reader.
 use Rattle.std.specs.Prelude.{◌≡◌, ◌⊎◌, List, ◌∷◌, Option, Some, None, Result, Ok, Err}
 use Rattle.ipld_tokens.specs.Token.{erase}
 use Rattle.ipld_tokens.specs.declared.token.Token.{Token}
@@ -18,11 +18,12 @@ in_stage Inside fs = fs
 abbrev pub frames_of : Reader → List Frame
 frames_of reader = in_stage reader.stage (position.frames_of reader.position)
 
--- what the machine does next where a reader stands
+-- the machine's next step from the state of a reader
 abbrev pub next_of : Reader → Out
 next_of reader = step (frames_of reader) reader.position.rest.now
 
--- a token is given as the machine says, or the end is reached; or an allocation failed, and the same comes next; or the machine rejects for this
+-- True if a token that the machine yields is returned, or the end is reached. On an error the
+-- machine rejects with it, or an allocation failed and the next step stays the same.
 abbrev pub StepsTo : Out → Reader → Result (Option Token) CborError → Type 0
 StepsTo o after (Ok (Some t)) = (fs : List Frame) × (o ≡ yields (erase t) fs after.position.rest.now) × (step fs after.position.rest.now ≡ next_of after)
 StepsTo o after (Ok None) = (o ≡ ended) × (o ≡ next_of after)

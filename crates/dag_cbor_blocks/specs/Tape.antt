@@ -1,4 +1,5 @@
--- The tape of a block of DAG-CBOR with floats: an entry for each value and each key, in the order of the bytes, with a number or with where the content stands.
+-- The tape of a block of DAG-CBOR with floats: an entry for every value and key, in the order of
+-- the bytes. An entry has a number or the offset of the content.
 use Rattle.std.specs.Prelude.{◌≡◌, ◌⊎◌, ◌+◌, ◌^◌, ◌<◌, nat_lt, ◌&&◌, ℕ, pos, negsuc, suc, Bool, true, false, List, [], ◌∷◌, ◌++◌, length, Some, None, Result, Ok, Err}
 use Rattle.std.specs.Str.{IsUtf8}
 use Rattle.ipld_tree.specs.Tree.{Tree}
@@ -22,15 +23,17 @@ use Rattle.dag_cbor_blocks.specs.declared.tape.TapeError.TheVariants.{Block, Too
 abbrev pub entry : ℕ → ℕ → ℕ → TapeEntry
 entry kind len value = record { kind = kind; len = len; value = value }
 
--- The bytes at the offset encode a text string, of which this is the entry of the kind: the length of its bytes, and the offset of the first.
+-- True if the bytes at the offset encode a text string, and `e` is its entry of the kind: the
+-- length of its bytes, and the offset of the first.
 pub record DescribesText (kind : ℕ) (s : List ℕ) (at : ℕ) (bytes : List ℕ) (e : TapeEntry) : Type 0 where
   pub utf8 : IsUtf8 s
   pub fits : length s < 2 ^ 64
   pub is : bytes ≡ head Text (length s) ++ s
   pub entry_is : e ≡ entry kind (length s) (at + length (head Text (length s)))
 
--- The bytes at the offset encode a scalar, of which this is the entry: the kinds 0, 1 and 2 are null, false and true, 3 an integer n and 4 an
--- integer -1 - n, each with n as its value, 5 a float, with the offset of its eight bytes, and 6 a text string.
+-- True if the bytes at the offset encode a scalar, and `e` is its entry. The kinds 0, 1 and 2 are
+-- null, false and true. 3 is an integer n and 4 an integer -1 - n, both with n as the value. 5 is a
+-- float, with the offset of its eight bytes, and 6 is a text string.
 abbrev pub DescribesAtom : Atom → ℕ → List ℕ → TapeEntry → Type 0
 DescribesAtom none at bytes e = ((bytes ≡ head Simple 22) × (e ≡ entry 0 0 0)) ⊎ (IsFloat bytes × (e ≡ entry 5 8 (at + 1)))
 DescribesAtom (boolean false) at bytes e = (bytes ≡ head Simple 20) × (e ≡ entry 1 0 0)
@@ -40,15 +43,16 @@ DescribesAtom (integer (negsuc n)) at bytes e = (n < 2 ^ 64) × (bytes ≡ head 
 DescribesAtom (text s) at bytes e = DescribesText 6 s at bytes e
 DescribesAtom _ at bytes e = ⊥
 
--- the bytes at the offset encode a key, a text string, of which this is the entry
+-- True if the bytes at the offset encode a key, a text string, and `e` is its entry.
 abbrev pub DescribesKey : Item 64 → ℕ → List ℕ → TapeEntry → Type 0
 DescribesKey (atom_item (text s)) at bytes e = DescribesText 11 s at bytes e
 DescribesKey _ at bytes e = ⊥
 
 abbrev mutual
-  -- The bytes at the offset encode the item, each null of which may be a float, and these are its entries: of a byte string (7) and a link (8)
-  -- the offset and the length of the bytes, those of a link being its CID's; of a list (9) and a map (10) how many entries it spans, its own
-  -- and those of what it holds, and how many items or pairs it has.
+  -- True if the bytes at the offset encode the item, any null in it may be a float, and these are
+  -- its entries. The entry of a byte string (7) or a link (8) has the offset and the length of the
+  -- bytes, for a link those of its CID. The entry of a list (9) or a map (10) has the number of
+  -- entries that it spans, itself included, and the number of its items or pairs.
   pub Describes : Item 64 → ℕ → List ℕ → List TapeEntry → Type 0
   Describes (atom_item a) at bytes es = (e : TapeEntry) × DescribesAtom a at bytes e × (es ≡ e ∷ [])
   Describes (bytes_item b) at bytes es = (length b < 2 ^ 64) × (bytes ≡ head Bytes (length b) ++ b) × (es ≡ entry 7 (length b) (at + length (head Bytes (length b))) ∷ [])
@@ -64,14 +68,16 @@ abbrev mutual
       (suc (length encoded) < 2 ^ 64) × (bytes ≡ head Tag 42 ++ (head Bytes (suc (length encoded)) ++ 0 ∷ encoded))
       × (es ≡ entry 8 (length encoded) (at + length (head Tag 42) + length (head Bytes (suc (length encoded))) + 1) ∷ [])
 
-  -- the items of a list, one after another
+  -- True if the bytes at the offset encode the items of a list, one after another, and these are
+  -- their entries.
   pub DescribeParts : Parts 64 → ℕ → List ℕ → List TapeEntry → Type 0
   DescribeParts no_parts at bytes es = (bytes ≡ []) × (es ≡ [])
   DescribeParts (part i is) at bytes es =
       (first : List ℕ) × (more : List ℕ) × (here : List TapeEntry) × (others : List TapeEntry) × Describes i at first here × DescribeParts is (at + length first) more others
       × (bytes ≡ first ++ more) × (es ≡ here ++ others)
 
-  -- the pairs of a map, keys and values alternating
+  -- True if the bytes at the offset encode the pairs of a map, keys and values alternating, and
+  -- these are their entries.
   pub DescribePairs : Pairs 64 → ℕ → List ℕ → List TapeEntry → Type 0
   DescribePairs no_pairs at bytes es = (bytes ≡ []) × (es ≡ [])
   DescribePairs (pair k v ps) at bytes es =
@@ -79,29 +85,32 @@ abbrev mutual
       × DescribesKey k at name e × Describes v (at + length name) first here × DescribePairs ps (at + length name + length first) more others
       × (bytes ≡ name ++ (first ++ more)) × (es ≡ e ∷ (here ++ others))
 
--- the bytes are a block, one item without a repeated key, and these are its entries
+-- True if the bytes are a block, one item without a repeated key, and these are its entries.
 abbrev pub IsTapeOf : List TapeEntry → List ℕ → Type 0
 IsTapeOf es block = (i : Item 64) × (t : Tree) × (tree_of_item i ≡ Some t) × Describes i 0 block es
 
--- each length has 32 bits
+-- whether the lengths of all entries have 32 bits
 abbrev pub all_short : List TapeEntry → Bool
 all_short [] = true
 all_short (e ∷ es) = nat_lt e.len (2 ^ 32) && all_short es
 
--- The bytes are a block that passes no limit, and these are its entries, whose lengths have 32 bits; or one of them would be longer; or why the
--- bytes aren't read, and where.
+-- True if the bytes are a block that passes no limit, and these are its entries, whose lengths have
+-- 32 bits. The error `TooLong` means that a length has more. Other errors are the reason why the
+-- bytes are rejected, with its offset.
 abbrev pub GivesTape : {A : Type 0} → Limits → List ℕ → (A → List TapeEntry) → Result A TapeError → Type 0
 GivesTape limits block view (Ok x) = IsTapeOf (view x) block × (all_short (view x) ≡ true) × (limit_passed true limits block ≡ None)
 GivesTape limits block view (Err TooLong) = (es : List TapeEntry) × IsTapeOf es block × (all_short es ≡ false) × (limit_passed true limits block ≡ None)
 GivesTape limits block view (Err (Block error)) = StopsAt true limits block error.kind error.offset
 
--- These entries are returned; or one of them is too long, or a limit was passed, or an allocation failed.
+-- True if these entries are returned. An error means that one of them is too long, a limit was
+-- passed, or an allocation failed.
 abbrev pub ReturnsTape : {A : Type 0} → List TapeEntry → (A → List TapeEntry) → Result A TapeError → Type 0
 ReturnsTape es view (Ok x) = view x ≡ es
 ReturnsTape es view (Err TooLong) = all_short es ≡ false
 ReturnsTape es view (Err (Block error)) = IsLimit error.kind
 
--- of a block within the limits an allocation alone can fail, or an entry be too long
+-- True if an error is a failed allocation or an entry that is too long, the only errors for a block
+-- within the limits.
 abbrev pub OnlyMemory : {A : Type 0} → Result A TapeError → Type 0
 OnlyMemory (Ok x) = Unit {0}
 OnlyMemory (Err TooLong) = Unit {0}

@@ -1,4 +1,4 @@
--- What a visitor of a block's parts comes to.
+-- The events that a visitor of a block's parts takes.
 use Rattle.std.specs.Prelude.{◌≡◌, ◌⊎◌, ◌++◌, ◌∷◌, ℕ, FitsSigned, Bool, true, false, List, [], Some, None, Result, Ok, Err}
 use Rattle.std.specs.Int.{w128}
 use Rattle.std.specs.declared.alloc.AllocError.{AllocError}
@@ -11,13 +11,15 @@ use Rattle.dag_cbor_format.specs.Trace.{Event, trace_of}
 use Rattle.dag_cbor_blocks.specs.declared.visit.Event as part
 use Rattle.dag_cbor_blocks.specs.declared.visit.Event.TheVariants.{Null, Bool as Truth, Integer, Str, Bytes, Link, List as ListBegins, EndOfList, Map, Key, EndOfMap}
 
--- an integer has 128 bits, and the CID of a link is that of its bytes
+-- True if an integer has 128 bits, and the CID of a link is the one that its bytes encode.
 abbrev pub IsRead : part.Event → Type 0
 IsRead (Link cid encoded left) = read_link 64 encoded.now ≡ Some (link_of cid)
 IsRead (Integer number) = FitsSigned w128 number
 IsRead _ = Unit {0}
 
--- the events of a part, which so many bytes follow, and whether it is a key; of a link there are two, of its tag and of its bytes
+-- The events of a part with `left` bytes after it, and with this mark of a key. A string is not
+-- marked as a key, and a key always is. A link has two events: of its tag, with `left` bytes after
+-- it, and of its bytes.
 abbrev pub events_of : part.Event → ℕ → Bool → List Event
 events_of Null left key = (atom none, left, key) ∷ []
 events_of (Truth truth) left key = (atom (boolean truth), left, key) ∷ []
@@ -31,12 +33,14 @@ events_of Map left key = (map, left, key) ∷ []
 events_of (Key string) left key = (atom (text string.now), left, true) ∷ []
 events_of EndOfMap left key = (map_end, left, key) ∷ []
 
--- after these tokens or events it comes to what it came to before them, whatever follows; or an allocation failed
+-- True if the visitor `new` comes to the same answer as `old` with these tokens or events first,
+-- whatever follows, or if an allocation failed.
 abbrev pub Takes : {V A E : Type 0} → (V → List E → A) → V → List E → Result (Unit {0}) AllocError → V → Type 0
 Takes {E = E} answer old taken (Ok done) new = (more : List E) → answer new more ≡ answer old (taken ++ more)
 Takes answer old taken (Err error) new = Unit {0}
 
--- it has taken all events of a block, with floats or without, whose bytes have no error; or an allocation failed, or this is the error of the bytes
+-- True if a visitor has taken all events of a block that has no error, with floats or without. An
+-- error is a failed allocation or the error of the bytes.
 abbrev pub VisitsEvents : {V A : Type 0} → Bool → (V → List Event → A) → V → List ℕ → Result (Unit {0}) CborError → V → Type 0
 VisitsEvents floats answer old block (Ok done) new = ((trace_of floats block).error ≡ None) × (answer new [] ≡ answer old (trace_of floats block).events)
 VisitsEvents floats answer old block (Err error) new = (error ≡ Memory) ⊎ ((trace_of floats block).error ≡ Some error)

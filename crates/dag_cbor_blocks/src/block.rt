@@ -169,7 +169,7 @@ fn read_simple<'a, const FLOATS: bool, V: BorrowingVisitor<'a>>(
     Ok(PartKind::Scalar)
 }
 
-// What stands behind the head of an item, or the beginning of it.
+// Reads the content after the head of an item. A list or a map is only opened.
 #[inline(always)]
 fn read_content<'a, const FLOATS: bool, V: BorrowingVisitor<'a>>(
     position: &mut Position<'a>,
@@ -193,7 +193,7 @@ fn read_content<'a, const FLOATS: bool, V: BorrowingVisitor<'a>>(
     }
 }
 
-// A float, which is read as null, behind the byte that is its head.
+// Reads a float as null, after the byte that is its head.
 fn read_float<'a, const FLOATS: bool, V: BorrowingVisitor<'a>>(
     position: &mut Position<'a>,
     visitor: &mut V,
@@ -210,7 +210,7 @@ fn read_float<'a, const FLOATS: bool, V: BorrowingVisitor<'a>>(
     Ok(PartKind::Scalar)
 }
 
-// An item that is no float, or what it begins with.
+// Reads an item that is not a float. A list or a map is only opened.
 #[inline(always)]
 fn read_item_without_floats<'a, const FLOATS: bool, V: BorrowingVisitor<'a>>(
     position: &mut Position<'a>,
@@ -226,7 +226,7 @@ fn read_item_without_floats<'a, const FLOATS: bool, V: BorrowingVisitor<'a>>(
     read_content::<FLOATS, V>(position, visitor, major, argument)
 }
 
-// An item, or what it begins with.
+// Reads an item. A list or a map is only opened.
 #[inline(always)]
 fn read_item<'a, const FLOATS: bool, V: BorrowingVisitor<'a>>(
     position: &mut Position<'a>,
@@ -245,7 +245,7 @@ fn read_item<'a, const FLOATS: bool, V: BorrowingVisitor<'a>>(
     read_item_without_floats::<FLOATS, V>(position, visitor)
 }
 
-// Goes on in what is open.
+// Reads the next part of the innermost list or map.
 #[inline(always)]
 fn read_part<'a, const FLOATS: bool, V: BorrowingVisitor<'a>>(
     position: &mut Position<'a>,
@@ -273,13 +273,16 @@ fn read_part<'a, const FLOATS: bool, V: BorrowingVisitor<'a>>(
     }
 }
 
-/// Reads a whole block, with floats or without, and hands each part of it to the visitor. Of untrusted input use [`read_events_within`].
+/// Reads a whole block, with floats or without, and passes every part of it to the visitor. For
+/// untrusted input use [`read_events_within`].
 ///
-/// It reads the bytes once, by a loop, and allocates for the lists and maps that are open and for the keys of open maps.
+/// It reads the bytes once, in a loop. It allocates for the lists and maps that are open and for
+/// the keys of open maps.
 ///
 /// # Errors
 ///
-/// `Memory` where an allocation failed, also the visitor's, else the first error of the bytes. Then the visitor has taken some parts.
+/// `Memory` if an allocation fails, including one of the visitor. Otherwise the first error of the
+/// bytes. The visitor has then taken some parts.
 pub fn read_events<'a, const FLOATS: bool, V: BorrowingVisitor<'a>>(
     alloc: Global,
     bytes: &'a [u8],
@@ -298,7 +301,7 @@ pub fn read_events<'a, const FLOATS: bool, V: BorrowingVisitor<'a>>(
     Ok(())
 }
 
-// Reads a whole block from where it begins, while its parts are within the limits.
+// Reads a whole block from its start, as long as its parts are within the limits.
 fn read_parts<'a, const FLOATS: bool, V: BorrowingVisitor<'a>>(
     position: &mut Position<'a>,
     limits: Limits,
@@ -322,11 +325,12 @@ fn read_parts<'a, const FLOATS: bool, V: BorrowingVisitor<'a>>(
     Err(BlockErrorKind::Cbor(CborError::TrailingBytes))
 }
 
-/// Reads a whole block as [`read_events`] does, while it is within the limits.
+/// Reads a whole block as [`read_events`] does, as long as it is within the limits.
 ///
 /// # Errors
 ///
-/// Those of [`check_block`](crate::check_block), also where an allocation of the visitor failed. Then the visitor has taken some parts.
+/// Those of [`check_block`](crate::check_block), also if an allocation of the visitor fails. The
+/// visitor has then taken some parts.
 #[inline(never)]
 pub fn read_events_within<'a, const FLOATS: bool, V: BorrowingVisitor<'a>>(
     alloc: Global,
@@ -347,7 +351,7 @@ pub fn read_events_within<'a, const FLOATS: bool, V: BorrowingVisitor<'a>>(
     }
 }
 
-// Reads a whole block within the limits of the options, with floats or without as they say.
+// Reads a whole block within the limits of the options, with floats if the options have them.
 #[inline(always)]
 pub(crate) fn read_events_as<'a, V: BorrowingVisitor<'a>>(
     alloc: Global,

@@ -1,4 +1,4 @@
-//! Why a block isn't read within limits, and where.
+//! The error of reading a block within limits, with its offset.
 
 ghost use Rattle.std.specs.Fmt.{WritesOnOk, WritesStyledOnOk};
 ghost use Rattle.dag_cbor_blocks.specs.declared.block_error.BlockErrorKind.TheVariants.{Cbor};
@@ -8,17 +8,17 @@ use dag_cbor_format::CborError;
 use itoa::Buffer;
 use std::{error, fmt};
 
-/// Why a block isn't read within limits.
+/// The reason why a block was not read within limits.
 ///
-/// Its `Display` is the variant's name, and that of the [`CborError`] where there is one; with `#`, as in `{error:#}`, it is a sentence
-/// that says what is wrong.
+/// `Display` prints the variant's name, or for `Cbor` the name of the [`CborError`]. With `#`
+/// (`{error:#}`), it prints a sentence that describes the error.
 #[derive(Clone, Copy, Debug, PartialEq, Eq)]
 pub enum BlockErrorKind {
-    /// The bytes are no block, an allocation failed, or the reader did.
+    /// The bytes are not a block, an allocation failed, or the reader failed.
     Cbor(CborError),
-    /// A list or a map stands deeper than the limit allows.
+    /// A list or a map is nested deeper than the limit allows.
     TooDeep,
-    /// More values stand in the block than the limit allows.
+    /// The block has more values than the limit allows.
     TooMany,
 }
 
@@ -58,15 +58,17 @@ impl fmt::Display for BlockErrorKind {
     }
 }
 
-/// Why a block isn't read within limits, and where reading stopped.
+/// The reason why a block was not read within limits, and the byte at which reading stopped.
 ///
-/// Its `Display` is that of the kind, also with `#`, then ` at byte `, and the offset.
+/// `Display` prints the kind, also with `#`, then ` at byte `, and the offset.
 #[derive(Clone, Copy, Debug, PartialEq, Eq)]
 pub struct BlockError {
-    /// Why.
+    /// The reason.
     pub kind: BlockErrorKind,
-    /// The byte of the block at which reading stopped: where the item, the key, the byte string behind the tag of a link, or the bytes left
-    /// over begin that the error lies in, or the item that passes the limit.
+    /// The byte of the block at which reading stopped. It is the first byte of the part that has
+    /// the error: an item, a key, the byte string after the tag of a link, or the bytes left over.
+    /// If a limit is passed, it is the first byte of the item that passes it, or of the byte string
+    /// of a link. If an allocation fails, it is any offset in the block.
     pub offset: usize,
 }
 
@@ -85,7 +87,7 @@ impl fmt::Display for BlockError {
     }
 }
 
-// Writes the byte at which reading stopped, behind why it did.
+// Writes the byte at which reading stopped, after the kind.
 fn write_place<W: fmt::Write>(f: &mut fmt::Formatter<W>, offset: usize) -> fmt::Result
     ensures writes { WritesOnOk W.write_str_gives f.old result (place_of offset) f.new }
     ensures styled { WritesStyledOnOk W.write_str_gives f.old result (place_of offset) f.new }

@@ -1,4 +1,4 @@
-//! Whether the keys of a block come in the order in which they are written.
+//! A check that the keys of a block come in the order in which they are written.
 
 ghost use Rattle.std.specs.Prelude.{◌≡◌, ◌&&◌, ◌++◌, ◌∷◌, [], true, Bool, Some, OnOk};
 ghost use Rattle.dag_cbor_blocks.specs.OrderChecker.{last_of};
@@ -8,15 +8,15 @@ use crate::keys::comes_after;
 use crate::visit::{BorrowingVisitor, Event};
 use std::alloc::{AllocError, Global};
 
-// The order of a block's keys so far.
+// Whether the keys of a block are in order so far.
 #[derive(Drop)]
 pub(crate) struct OrderChecker<'a> {
-    // Of each open map the key that came last, innermost last.
+    // The last key of every open map, the innermost map last.
     lasts: Vec<Option<&'a str>>,
     pub(crate) is_sorted: bool,
 }
 
-// Whether a key comes after the one before it in its map in length-first order.
+// Returns whether a key comes after the one before it in its map, in length-first order.
 #[inline(always)]
 fn comes_next(last: Option<&str>, key: &str) -> bool
     ensures { result ≡ follows (last_of last.entry) key.now }
@@ -45,7 +45,7 @@ impl<'a> OrderChecker<'a> {
         }
     }
 
-    // A key comes after this one, which was taken from the innermost map.
+    // Adds a key after `last`, which was taken from the innermost map.
     #[inline(always)]
     fn follow(&mut self, last: Option<&'a str>, key: &'a str) -> Result<(), AllocError>
         ensures lasts { OnOk result (self.new.lasts.items ≡ self.old.lasts.items ++ Some key.entry

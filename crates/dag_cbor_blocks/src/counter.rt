@@ -1,4 +1,4 @@
-//! How deep the parts of a block stand, and how many values they are, within limits.
+//! A count of the levels and values of a block, within limits.
 
 ghost use Rattle.std.specs.Prelude.{◌≡◌, ◌<◌, ◌^◌};
 ghost use Rattle.dag_cbor_blocks.specs.Counter.{Closes, CountsValue, CountsPart};
@@ -6,10 +6,10 @@ ghost use Rattle.dag_cbor_blocks.specs.Counter.{Closes, CountsValue, CountsPart}
 use crate::block_error::BlockErrorKind;
 use ipld_tree::Limits;
 
-// What was read of a block.
+// The kind of a part that was read.
 #[derive(Clone, Copy)]
 pub(crate) enum PartKind {
-    // A value that holds no others.
+    // A value that contains no others.
     Scalar,
     // The head of a list or a map.
     Beginning,
@@ -19,7 +19,8 @@ pub(crate) enum PartKind {
     Nothing,
 }
 
-// What the limits leave to the rest of a block. It counts down, so that the loop over a block holds two numbers, and not four.
+// The levels and values that the limits leave to the rest of a block. It counts down, so that the
+// loop over a block keeps two numbers, not four.
 #[derive(Drop)]
 pub(crate) struct Counter {
     // How many more lists and maps may be open.
@@ -50,7 +51,7 @@ impl Counter {
         Ok(())
     }
 
-    // Counts a part, where it is within the limits.
+    // Counts a part if it is within the limits.
     #[inline(always)]
     pub(crate) fn count(&mut self, part: PartKind) -> Result<(), BlockErrorKind>
         requires { Closes part self.old.levels }

@@ -1,4 +1,4 @@
-//! A block handed to a visitor in the fastest way that reads it.
+//! A block passed to a visitor in the fastest way that reads it.
 
 ghost use Rattle.std.specs.Prelude.{◌≡◌, List};
 ghost use Rattle.dag_cbor_format.specs.Trace.{Event};
@@ -12,10 +12,11 @@ use crate::visit::Visitor;
 use dag_cbor_format::CborError;
 use std::alloc::Global;
 
-// Hands each part of a block to the visitor, and gives it back: by recursion, or, if that doesn't reach the end of the block, by the loop
-// to the spare one, which has taken nothing yet either.
+// Passes every part of a block to the visitor, and returns it. It reads by recursion. If that does
+// not reach the end of the block, the loop reads it and passes the parts to `spare`, which has not
+// taken a part yet either.
 //
-// It is inlined so that a caller with constant options has one recursion and one loop alone.
+// It is inlined so that a caller with constant options has only one recursion and one loop.
 #[inline(always)]
 pub(crate) fn visit_block<V: Visitor>(
     alloc: Global,

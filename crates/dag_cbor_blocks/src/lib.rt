@@ -1,9 +1,11 @@
-//! Blocks of DAG-CBOR, with floats and without, read without building their trees.
+//! Blocks of DAG-CBOR, with and without floats, read without building their trees.
 //!
-//! The calls at the root take [`ReadOptions`], which have the limits and whether floats are read, and say at which byte reading stopped.
-//! They read the bytes from the left, by a recursion of at most 32 levels. A block that nests deeper, has its keys in another order than
-//! length-first, has more bytes than it may have values, or has an error they read again, from its start, in a loop. [`is_canonical`] reads
-//! each block in the loop alone.
+//! The functions at the root take [`ReadOptions`], which contain the limits and whether floats are
+//! read. Their errors have the byte at which reading stopped. They read the bytes from the left, by
+//! a recursion of at most 32 levels. If a block nests deeper or has an error, they read it in a
+//! loop, from its start. They also do so if it has an empty key, has keys that are not in
+//! length-first order, or has more bytes than it may have values. [`is_canonical`] reads every
+//! block only in the loop.
 //!
 //! ```rust
 //! use dag_cbor_blocks::{BlockError, ReadOptions, links_of_block};
@@ -16,13 +18,17 @@
 //! }
 //! ```
 //!
-//! [`check_block`] says whether bytes are a block, [`links_of_block`], [`count_links`] and [`link_positions`] which links it has, how many
-//! and where they stand, [`measure_block`] how large the tree is, and [`is_canonical`] whether the block is the one that is written of its
-//! tree. [`CborTokens`] are the tokens of a block, one after another, and [`tape`] lists its values and keys as entries that refer to its
-//! bytes.
+//! - [`check_block`] checks that bytes are a block.
+//! - [`links_of_block`] returns the links of a block, [`count_links`] their number, and
+//!   [`link_positions`] their positions.
+//! - [`measure_block`] returns how large the tree is.
+//! - [`is_canonical`] returns whether the block is the one that is written for its tree.
+//! - [`CborTokens`] yields the tokens of a block, one after another.
+//! - [`tape`] lists the values and keys of a block as entries that refer to its bytes.
 //!
-//! What else is to be found in a block is a [`Visitor`](visit::Visitor), which [`block`] hands its parts one after another. `dag_cbor` builds
-//! trees so, and has the items of this library under its own paths.
+//! To find anything else in a block, write a [`Visitor`](visit::Visitor). [`block`] passes it the
+//! parts of a block one after another. `dag_cbor` builds trees in this way, and re-exports the
+//! items at the root of this library and [`tape`].
 #![tactic(auto)]
 
 pub mod block;

@@ -11,7 +11,7 @@ use dag_cbor_format::CborError;
 use dag_cbor_format::item_header::read_link_bytes;
 use ipld_cid::Cid;
 
-// The CID that stands behind the tag of a link, its bytes, and those that follow them.
+// Reads the CID after the tag of a link, and returns it with its bytes and the bytes after them.
 #[inline(always)]
 pub(crate) fn read_link_cid(bytes: &[u8]) -> Result<(Cid, &[u8], &[u8]), CborError>
     ensures encoded { Returns (λ x. (x.1.now, x.2.now)) (wrong.link_error bytes.now) result

@@ -1,4 +1,4 @@
-//! Where the links of a block stand in it.
+//! The positions of links in a block.
 
 ghost use Rattle.std.specs.Prelude.{◌≡◌, true, false, [], List};
 ghost use Rattle.dag_cbor_format.specs.Trace.{Position};
@@ -6,18 +6,20 @@ ghost use Rattle.dag_cbor_format.specs.Trace.{Position};
 use crate::visit::{Event, Visitor};
 use std::alloc::{AllocError, Global};
 
-/// Where the bytes of a link's CID stand in its block.
+/// The position of the bytes of a link's CID in its block.
 ///
-/// They begin behind the zero byte of the byte string that tag 42 stands before, and are `length` bytes.
+/// The bytes begin after the zero byte of the byte string that follows tag 42. There are `length`
+/// of them.
 #[derive(Clone, Copy, Debug, PartialEq, Eq)]
 pub struct LinkPosition {
     /// The byte of the block at which they begin.
     pub offset: usize,
-    /// How many bytes they are.
+    /// The number of the bytes.
     pub length: usize,
 }
 
-// How many links a block has so far, and their positions in the order of its bytes, if they are kept.
+// The number of links in a block so far. If positions are kept, also these, in the order of the
+// block's bytes.
 #[derive(Drop)]
 pub(crate) struct PositionFinder {
     // How many bytes the block has.
@@ -28,7 +30,7 @@ pub(crate) struct PositionFinder {
 }
 
 impl PositionFinder {
-    // A finder that keeps the positions, in a block of so many bytes.
+    // Creates a finder that keeps the positions, in a block of `size` bytes.
     #[inline(always)]
     pub(crate) fn new(alloc: Global, size: usize) -> Self
         ensures count { result.count ≡ 0 }
@@ -44,7 +46,7 @@ impl PositionFinder {
         }
     }
 
-    // A finder that only counts the links.
+    // Creates a finder that only counts the links.
     #[inline(always)]
     pub(crate) fn counter(alloc: Global) -> Self
         ensures count { result.count ≡ 0 }

@@ -1,4 +1,4 @@
-//! The links of a block, from its parts.
+//! The links of a block, found in its parts.
 
 ghost use Rattle.std.specs.Prelude.{◌≡◌, [], List};
 ghost use Rattle.ipld_cid.specs.Cid.{Link};
@@ -16,7 +16,7 @@ pub struct LinkFinder {
 }
 
 impl LinkFinder {
-    /// A finder that has no links yet. Does not allocate.
+    /// Creates a finder that has no links yet. Does not allocate.
     pub fn new(alloc: Global) -> Self
         ensures { result.links.items ≡ [] }
     {

@@ -1,4 +1,4 @@
-//! A block measured, without building its tree.
+//! The size of a block, measured without building its tree.
 
 ghost use Rattle.std.specs.Prelude.{◌≡◌, ◌+◌, ◌-◌, max, length, IfOk, option_map};
 ghost use Rattle.ipld_tree.specs.Limits.{Within};
@@ -14,18 +14,20 @@ use crate::options::ReadOptions;
 use crate::visit::{Event, Visitor};
 use std::alloc::{AllocError, Global};
 
-/// How large the tree of a block is, and how many links it has.
+/// The size of a block's tree, and the number of its links.
 #[derive(Clone, Copy, Debug, PartialEq, Eq)]
 pub struct BlockSize {
-    /// How deep lists and maps nest: 0 for neither, 1 for a list or a map of other values, and so on.
+    /// The nesting depth of lists and maps: 0 for neither, 1 for a list or a map without lists and
+    /// maps in it, and so on.
     pub levels: usize,
-    /// How many values the tree has: itself, and each item of a list and each value of a map in it.
+    /// The number of values in the tree: the tree itself, every item of a list, and every value of
+    /// a map.
     pub values: usize,
-    /// How many links it has, repeats included.
+    /// The number of links, including repeats.
     pub links: usize,
 }
 
-// What was counted of a block so far.
+// The counts of a block so far.
 #[derive(Drop)]
 struct Measurer {
     // How many lists and maps are open.
@@ -47,7 +49,7 @@ impl Measurer {
         }
     }
 
-    // A value has come, or the head of a list or a map.
+    // Counts a value, or the head of a list or a map.
     #[inline(always)]
     fn count_value(&mut self) -> Result<(), AllocError>
         ensures { Counts self.old.depth self.old.levels self.old.links self.old result self.new }
@@ -59,7 +61,7 @@ impl Measurer {
         Ok(())
     }
 
-    // A value has come that is a link.
+    // Counts a value that is a link.
     #[inline(always)]
     fn count_link(&mut self) -> Result<(), AllocError>
         ensures { Counts self.old.depth self.old.levels (self.old.links + 1) self.old result
@@ -72,7 +74,7 @@ impl Measurer {
         self.count_value()
     }
 
-    // A list or a map begins.
+    // Counts a list or a map, which begins.
     #[inline(always)]
     fn begin(&mut self) -> Result<(), AllocError>
         ensures { Counts (self.old.depth + 1) (max self.old.levels (self.old.depth + 1))
@@ -86,7 +88,7 @@ impl Measurer {
         self.count_value()
     }
 
-    // The innermost list or map ends.
+    // Ends the innermost list or map.
     #[inline(always)]
     fn end(&mut self)
         ensures { self.new ≡ record self.old { depth = self.old.depth - 1 } }
@@ -122,13 +124,15 @@ impl Visitor for Measurer {
     }
 }
 
-/// Returns how large the tree of a block is, and how many links it has. It makes no tree. A float is a value like null.
+/// Returns the size of a block's tree and the number of its links. It does not build the tree. A
+/// float is a value like null.
 ///
 /// It allocates as [`check_block`](crate::check_block) does.
 ///
 /// # Errors
 ///
-/// Those of [`check_block`](crate::check_block): the same error of the same bytes, unless an allocation fails.
+/// Those of [`check_block`](crate::check_block): the same error for the same bytes, unless an
+/// allocation fails.
 #[inline(always)]
 pub fn measure_block(
     alloc: Global,

@@ -1,8 +1,8 @@
-//! How a block is read.
+//! The options for reading a block.
 
 use ipld_tree::Limits;
 
-/// How a block is read: within which limits, and whether floats are.
+/// The options for reading a block: the limits, and whether floats are read.
 ///
 /// The default is for untrusted input: the limits of [`Limits::default`], and no floats.
 ///
@@ -21,8 +21,9 @@ use ipld_tree::Limits;
 pub struct ReadOptions {
     /// How deep the block may nest, and how many values it may have.
     pub limits: Limits,
-    /// Whether floats of 64 bits are read, each as a value that holds no others; else the first float is an error. Those of 16 and
-    /// 32 bits, NaN and the infinities are errors always: DAG-CBOR has none.
+    /// Whether floats of 64 bits are read. If they are, a float is a value that contains no others.
+    /// If they are not, the first float is an error. Floats of 16 and 32 bits, NaN and the
+    /// infinities are always errors, because DAG-CBOR does not have them.
     pub floats: bool,
 }
 
@@ -31,7 +32,7 @@ impl Default for ReadOptions {
 
     ghost is_default = { λ options. options ≡ record { limits = record { levels = 1024; values = 2 ^ 64 - 1 }; floats = false } };
 
-    /// At most 1,024 levels, any number of values, and no floats.
+    /// Returns options with at most 1,024 levels, any number of values, and no floats.
     fn default() -> Self {
         ReadOptions {
             limits: Limits::default(),

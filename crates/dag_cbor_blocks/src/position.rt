@@ -1,4 +1,4 @@
-//! A position in a block: what is open there, and the bytes that follow.
+//! A position in a block: the lists and maps that are open there, and the bytes that follow.
 
 ghost use Rattle.std.specs.Prelude.{◌≡◌, ◌+◌, ◌-◌, ◌<◌, ◌≤◌, ◌++◌, ◌∷◌, [], length, IfErr, OnOk, MatchOption};
 ghost use Rattle.dag_cbor_format.specs.Reading.{many, pairs as pairs_frame};
@@ -10,14 +10,14 @@ use dag_cbor_format::item_header::read_key_text;
 use std::alloc::{AllocError, AllocFailed, Global};
 use std::mem;
 
-// A map with so many pairs to come, by the keys that it has.
+// A map with `pairs` more pairs to come, and the keys that it has so far.
 #[derive(Drop)]
 pub(crate) struct UnreadMap<'a> {
     pairs: u64,
     keys: Keys<'a>,
 }
 
-// What is open: nothing, a list with so many items to come, or a map.
+// An open level: nothing, a list with this number of items to come, or a map.
 #[derive(Drop)]
 pub(crate) enum Level<'a> {
     Whole,
@@ -25,7 +25,7 @@ pub(crate) enum Level<'a> {
     Map(UnreadMap<'a>),
 }
 
-// What comes next in what is open.
+// The next part of the innermost level.
 #[derive(Clone, Copy)]
 pub(crate) enum Next<'a> {
     // An item of a list.
@@ -34,7 +34,7 @@ pub(crate) enum Next<'a> {
     Value(&'a str),
     EndOfList,
     EndOfMap,
-    // Nothing was open there, and what it stands in is now.
+    // The innermost level was `Whole`, and the level around it is now the innermost.
     Outside,
 }
 
@@ -42,18 +42,20 @@ pub(crate) enum Next<'a> {
 pub(crate) struct Position<'a> {
     alloc: Global,
     pub(crate) rest: &'a [u8],
-    // How many bytes were left where the item, the key or the byte string of a link that was read last begins.
+    // The number of bytes that were left at the start of the item, the key or the byte string of a
+    // link that was read last.
     pub(crate) begun: usize,
     innermost: Level<'a>,
     outer: Vec<Level<'a>>,
     // The memory of keys of a map that has ended.
     spare: Vec<&'a str>,
-    // The bytes of the block that no hint counts on.
+    // The number of the block's bytes that no hint counts on.
     uncounted: usize,
 }
 
 impl<'a> UnreadMap<'a> {
-    // The key of the next pair, which the map doesn't have yet, and what follows it.
+    // Reads the key of the next pair, which the map must not have yet, and returns it with the
+    // bytes after it.
     #[inline(always)]
     fn read_key(&mut self, alloc: Global, bytes: &'a [u8]) -> Result<(&'a str, &'a [u8]), CborError>
         requires { 0 < self.old.pairs }
@@ -69,7 +71,7 @@ impl<'a> UnreadMap<'a> {
 }
 
 impl<'a> Position<'a> {
-    // The beginning of a block.
+    // Creates a position at the start of a block.
     pub(crate) fn new(alloc: Global, bytes: &'a [u8]) -> Self
         ensures frames { frames_of result ≡ [] }
         ensures rest { result.rest.now ≡ bytes.entry.now }
@@ -85,7 +87,8 @@ impl<'a> Position<'a> {
         }
     }
 
-    // The length of a list as a hint, where it can be right: each item takes a byte or more, of those that no other hint counts on.
+    // Returns the length of a list as a hint if it can be right. Every item takes at least one byte
+    // that no other hint counts on.
     #[inline(always)]
     pub(crate) fn capacity_hint(&mut self, items: u64) -> Option<usize>
         ensures hint { MatchOption result
@@ -124,7 +127,8 @@ impl<'a> Position<'a> {
         }
     }
 
-    // Keeps what was innermost, where there may be no capacity for it.
+    // Pushes the level that was innermost, for which there may be no capacity. If that fails, it is
+    // the innermost again.
     #[inline(never)]
     fn grow(&mut self, innermost: Level<'a>) -> Result<(), AllocError>
         ensures outer { OnOk result (self.new.outer.items ≡ self.old.outer.items ++ innermost.entry
@@ -144,7 +148,7 @@ impl<'a> Position<'a> {
         }
     }
 
-    // Opens a list of so many items.
+    // Opens a list of `items` items.
     #[inline(always)]
     pub(crate) fn open_list(&mut self, items: u64) -> Result<(), AllocError>
         ensures frames { OnOk result (frames_of self.new ≡ many items ∷ frames_of self.old) }
@@ -158,7 +162,7 @@ impl<'a> Position<'a> {
         self.open(Level::List(items))
     }
 
-    // Opens a map of so many pairs.
+    // Opens a map of `pairs` pairs.
     #[inline(always)]
     pub(crate) fn open_map(&mut self, pairs: u64) -> Result<(), AllocError>
         ensures frames { OnOk result (frames_of self.new ≡ pairs_frame pairs []
@@ -175,7 +179,7 @@ impl<'a> Position<'a> {
         self.open(Level::Map(UnreadMap { pairs, keys }))
     }
 
-    // Goes on outside of what is innermost, which has ended.
+    // Leaves the innermost level, which has ended.
     #[inline(always)]
     fn leave(&mut self)
         ensures frames { frames_of self.new ≡ inside self.old.outer.items [] }
@@ -190,7 +194,8 @@ impl<'a> Position<'a> {
         }
     }
 
-    // What comes next in what is innermost, which has one less to come then; or leaves it at its end.
+    // Returns the next part of the innermost level, which then has one less to come, or leaves the
+    // level at its end.
     #[inline(always)]
     pub(crate) fn advance(&mut self) -> Result<Next<'a>, CborError>
         ensures { NextIn self.old result self.new }
@@ -218,7 +223,7 @@ impl<'a> Position<'a> {
         Ok(end)
     }
 
-    // Whether something is open.
+    // Returns whether a level is open.
     #[inline(always)]
     pub(crate) fn is_open(&self) -> bool
         ensures { result ≡ is_open self.now }

@@ -1,4 +1,5 @@
-//! What is read of a block without its tree: whether it is one, its links and where they stand, and whether it is in canonical form.
+//! The reading of a block without its tree: whether it is valid and canonical, its links and their
+//! positions.
 
 ghost use Rattle.std.specs.Prelude.{◌≡◌, ◌↔◌, true, false, None, Some, length, map, IfOk, MatchResult, option_map};
 ghost use Rattle.ipld_cid.specs.LinkOf.{link_of};
@@ -27,17 +28,28 @@ use std::alloc::Global;
 
 /// Checks that the bytes are a block, within the limits of the options.
 ///
-/// It allocates nothing if the block nests at most 32 levels deep, the keys of each map come in length-first order (RFC 8949, section
-/// 4.2.3), none of them is empty, and the block has no more bytes than it may have values. It reads any other block again, from its start,
-/// in a loop, and then allocates for what is open and for the keys of open maps.
+/// It does not allocate if the block meets all of these conditions:
+///
+/// - It nests at most 32 levels deep.
+/// - The keys of every map come in length-first order (RFC 8949, section 4.2.3), and no key is
+///   empty.
+/// - The block has no more bytes than it may have values.
+///
+/// It reads any other input in a loop, from its start. It then allocates for open lists and maps
+/// and for the keys of open maps.
 ///
 /// # Errors
 ///
-/// The error says at which byte reading stopped, as that of `decode_slice_within` of `dag_cbor`. Its kind is:
+/// The error has the byte at which reading stopped, like the error of `decode_slice_within` of
+/// `dag_cbor`. Its kind is:
 ///
-/// - `TooDeep` or `TooMany` where the bytes pass a limit.
-/// - Else `Cbor`: with `Memory` where an allocation failed, else with the first error from the left. With floats it is `Float` of one of
-///   16 or 32 bits, NaN or an infinity, and `End` of a float of 64 bits that is cut; without, `Float` of the first float.
+/// - `TooDeep` or `TooMany` if the bytes pass a limit.
+/// - Otherwise `Cbor`, with `Memory` if an allocation fails, and otherwise with the first error
+///   from the left.
+///
+/// If floats are read, a float of 16 or 32 bits, NaN or an infinity is the error `Float`, and a
+/// float of 64 bits that is cut short is `End`. If they are not read, the first float is the error
+/// `Float`.
 #[inline(always)]
 pub fn check_block(alloc: Global, bytes: &[u8], options: &ReadOptions) -> Result<(), BlockError>
     ensures exact { MatchResult result
@@ -55,13 +67,13 @@ pub fn check_block(alloc: Global, bytes: &[u8], options: &ReadOptions) -> Result
     Ok(())
 }
 
-/// Returns the links of a block, in the order of its bytes, each as often as it stands there. It makes no tree.
+/// Returns the links of a block, in the order of its bytes, with repeats. It does not build a tree.
 ///
-/// It allocates the vector, and what [`check_block`] allocates for the same block.
+/// It allocates the vector, and otherwise as [`check_block`] does for the same block.
 ///
 /// # Errors
 ///
-/// Those of [`check_block`]: the same error of the same bytes, unless an allocation fails.
+/// Those of [`check_block`]: the same error for the same bytes, unless an allocation fails.
 #[inline(always)]
 pub fn links_of_block(
     alloc: Global,
@@ -86,11 +98,12 @@ pub fn links_of_block(
     Ok(finder.links)
 }
 
-/// Returns how many links a block has, repeats included. It keeps none of them, and allocates as [`check_block`] does.
+/// Returns the number of links in a block, including repeats. It does not keep the links, and it
+/// allocates as [`check_block`] does.
 ///
 /// # Errors
 ///
-/// Those of [`check_block`]: the same error of the same bytes, unless an allocation fails.
+/// Those of [`check_block`]: the same error for the same bytes, unless an allocation fails.
 #[inline(always)]
 pub fn count_links(alloc: Global, bytes: &[u8], options: &ReadOptions) -> Result<usize, BlockError>
     ensures exact { ReadsAs options.now.floats options.now.limits bytes.now
@@ -106,13 +119,14 @@ pub fn count_links(alloc: Global, bytes: &[u8], options: &ReadOptions) -> Result
     Ok(counter.count)
 }
 
-/// Returns where the bytes of the links' CIDs stand in a block, in their order, repeats included. It copies nothing of the block.
+/// Returns the positions of the bytes of the links' CIDs in a block, in their order, with repeats.
+/// It does not copy anything of the block.
 ///
-/// It allocates the vector, and what [`check_block`] allocates for the same block.
+/// It allocates the vector, and otherwise as [`check_block`] does for the same block.
 ///
 /// # Errors
 ///
-/// Those of [`check_block`]: the same error of the same bytes, unless an allocation fails.
+/// Those of [`check_block`]: the same error for the same bytes, unless an allocation fails.
 #[inline(always)]
 pub fn link_positions(
     alloc: Global,
@@ -133,14 +147,16 @@ pub fn link_positions(
     Ok(finder.positions)
 }
 
-/// Returns whether a block is in canonical form: the keys of each map come in length-first order (RFC 8949, section 4.2.3). All else that it
-/// asks for is asked of each block. If no floats are read it is the block that `DagCborCodec` of `dag_cbor` writes of its tree.
+/// Returns whether a block is in canonical form: the keys of every map come in length-first order
+/// (RFC 8949, section 4.2.3). Every block meets the other requirements of that form. If floats are
+/// not read, a canonical block is the one that `DagCborCodec` of `dag_cbor` writes for its tree.
 ///
-/// It reads the bytes once, in a loop, and allocates for what is open and for the keys of open maps.
+/// It reads the bytes once, in a loop. It allocates for open lists and maps and for the keys of
+/// open maps.
 ///
 /// # Errors
 ///
-/// Those of [`check_block`]: the same error of the same bytes, unless an allocation fails.
+/// Those of [`check_block`]: the same error for the same bytes, unless an allocation fails.
 #[inline(always)]
 pub fn is_canonical(alloc: Global, bytes: &[u8], options: &ReadOptions) -> Result<bool, BlockError>
     ensures exact { ReadsAs options.now.floats options.now.limits bytes.now

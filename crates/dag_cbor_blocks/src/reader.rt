@@ -1,4 +1,4 @@
-//! A block, token by token.
+//! A block read token by token.
 
 ghost use Rattle.std.specs.Prelude.{◌≡◌, ◌∷◌, []};
 ghost use Rattle.dag_cbor_format.specs.Reading.{one};
@@ -11,14 +11,14 @@ use dag_cbor_format::item_header::{ItemHeader, read_header};
 use ipld_tokens::{Token, TokenBytes};
 use std::alloc::Global;
 
-// What comes next.
+// The part that comes next.
 #[derive(Clone, Copy)]
 pub(crate) enum TokenStage {
     // An item.
     Item,
     // The bytes of a link.
     LinkBytes,
-    // What the innermost list or map has next, or the end.
+    // The next part of the innermost list or map, or the end.
     Inside,
 }
 
@@ -41,7 +41,7 @@ impl<'a> Reader<'a> {
         }
     }
 
-    // The first token of an item.
+    // Reads the first token of an item.
     fn read_item(&mut self) -> Result<Option<Token<'a>>, CborError>
         requires { self.old.stage ≡ TokenStage.Item }
         ensures { Steps self.old self.new result }
@@ -75,7 +75,7 @@ impl<'a> Reader<'a> {
         }
     }
 
-    // The bytes of a link.
+    // Reads the bytes of a link.
     fn read_link(&mut self) -> Result<Option<Token<'a>>, CborError>
         requires { self.old.stage ≡ TokenStage.LinkBytes }
         ensures { Steps self.old self.new result }
@@ -90,7 +90,7 @@ impl<'a> Reader<'a> {
         }
     }
 
-    // What the innermost list or map has next, or the end.
+    // Reads the next part of the innermost list or map, or the end.
     fn read_part(&mut self) -> Result<Option<Token<'a>>, CborError>
         requires { self.old.stage ≡ TokenStage.Inside }
         ensures { Steps self.old self.new result }
@@ -117,8 +117,8 @@ impl<'a> Reader<'a> {
         }
     }
 
-    /// The next token, or `None` where a whole item was given and no byte follows it. After a failed allocation the same comes next as
-    /// before.
+    /// Returns the next token, or `None` once a whole item was returned and no byte follows it. If
+    /// an allocation fails, the reader does not advance.
     pub(crate) fn advance(&mut self) -> Result<Option<Token<'a>>, CborError>
         ensures { Steps self.old self.new result }
     {

@@ -1,8 +1,9 @@
-//! A block that nests little, handed to a visitor by recursion.
+//! A block that nests at most [`SHALLOW`] levels, passed to a visitor by recursion.
 //!
-//! It is the fast way, and says of no block what is wrong with it: if it doesn't reach the end of a block, the loop of
-//! [`block`](crate::block) reads that. It keeps no keys of maps: those differ of which each comes after the one before it, and a map with
-//! other keys is left to the loop.
+//! This is the fast way, but it does not report the error of a block. If it does not reach the end
+//! of a block, the loop of [`block`](crate::block) reads the block. It does not keep the keys of
+//! maps. If every key of a map comes after the one before it, the keys differ. A map with other
+//! keys is left to the loop.
 
 ghost use Rattle.std.specs.Prelude.{◌≤◌, ℕ, None, IfOk};
 ghost use Rattle.dag_cbor_format.specs.Trace.{halted, trace_of};
@@ -20,15 +21,15 @@ use dag_cbor_format::item_header::{
 use dag_cbor_format::{CborError, Major};
 use std::alloc::{AllocError, AllocFailed};
 
-/// How many levels of lists and maps a block that is read by recursion has at most.
+/// The maximum number of levels of lists and maps in a block that is read by recursion.
 pub const SHALLOW: usize = 32;
 
-/// Why a block isn't read by recursion.
+/// The reason why a block was not read by recursion.
 #[derive(Clone, Copy)]
 pub enum Stop {
     /// An allocation failed.
     Memory,
-    /// The bytes have an error, or nest too deep, or are left to another way of reading.
+    /// The bytes have an error, nest too deep, or are left to another way of reading.
     Unread,
 }
 
@@ -50,7 +51,8 @@ impl From<CborError> for Stop {
     }
 }
 
-// Each of these hands a value to the visitor, with all that it holds, and returns the bytes that follow it.
+// Each of these functions passes a value, with all values in it, to the visitor. It returns the
+// bytes after the value.
 
 // A float, if floats are read and the bytes begin with one.
 #[inline(always)]
@@ -130,7 +132,7 @@ fn visit_simple<'a, const FLOATS: bool, V: Visitor>(
     }
 }
 
-// A list of so many items, after its head.
+// A list of `count` items, after its head.
 #[cycle(visiting)]
 #[inline(never)]
 fn visit_list<'a, const FLOATS: bool, V: Visitor>(
@@ -158,7 +160,7 @@ fn visit_list<'a, const FLOATS: bool, V: Visitor>(
     Ok(rest)
 }
 
-// A map of so many pairs, after its head.
+// A map of `count` pairs, after its head.
 #[cycle(visiting)]
 #[inline(never)]
 fn visit_map<'a, const FLOATS: bool, V: Visitor>(
@@ -193,7 +195,7 @@ fn visit_map<'a, const FLOATS: bool, V: Visitor>(
     Ok(rest)
 }
 
-// The value that the bytes begin with.
+// The value at the front of the bytes.
 #[cycle(visiting)]
 #[inline(always)]
 fn visit_item<'a, const FLOATS: bool, V: Visitor>(
@@ -234,7 +236,7 @@ fn visit_item<'a, const FLOATS: bool, V: Visitor>(
     }
 }
 
-// A whole block, at most so many levels deep.
+// A whole block, at most `levels` levels deep.
 #[inline(never)]
 fn visit_levels<const FLOATS: bool, V: Visitor>(
     visitor: &mut V,
@@ -253,7 +255,8 @@ fn visit_levels<const FLOATS: bool, V: Visitor>(
     }
 }
 
-// A whole block within the limits: it can't have more values than are allowed if it has no more bytes.
+// A whole block within the limits. A block that has no more bytes than values are allowed cannot
+// have too many values.
 #[inline(always)]
 pub(crate) fn visit_shallow<V: Visitor>(
     bytes: &[u8],

@@ -1,7 +1,8 @@
 //! The values of a block in an array of entries, a tape, without a tree.
 //!
-//! A tape has an entry for each value of a block and for each key of its maps, in the order of the block's bytes. Nothing of the content is
-//! copied: it stands in the block, at the offset that the entry says. Floats of 64 bits are read.
+//! A tape has an entry for every value of a block and for every key of its maps, in the order of
+//! the block's bytes. Content is not copied: it is in the block, at the offset that the entry has.
+//! Floats of 64 bits are read.
 //!
 //! | kind | `len` | `value` |
 //! |---|---|---|
@@ -9,13 +10,14 @@
 //! | [`UNSIGNED`], the integer n | 0 | n |
 //! | [`NEGATIVE`], the integer -1 - n | 0 | n |
 //! | [`FLOAT`] | 8 | the offset of its eight bytes, the highest first |
-//! | [`STRING`], [`BYTES`], [`KEY`] | how many bytes | their offset |
-//! | [`LINK`] | how many bytes its CID has | their offset |
-//! | [`LIST`], [`MAP`] | how many entries it spans, its own included | how many items or pairs it has |
+//! | [`STRING`], [`BYTES`], [`KEY`] | the number of bytes | their offset |
+//! | [`LINK`] | the number of bytes of its CID | their offset |
+//! | [`LIST`], [`MAP`] | how many entries it spans, with its own | how many items or pairs it has |
 //!
-//! The entries of a list's items follow that of the list, and behind that of a map the key and the value of each pair follow one another. No
-//! entry marks an end: behind the list or the map at an index the tape goes on at that index plus `len`, and behind any other entry at the
-//! next.
+//! The entries of a list's items follow the entry of the list. After the entry of a map, the key
+//! and the value of every pair follow one another. No entry marks an end. After a list or a map at
+//! an index, the tape continues at that index plus `len`. After any other entry, it continues at
+//! the next index.
 
 ghost use Rattle.std.specs.Prelude.{◌≡◌, ◌<◌, ◌++◌, ◌∷◌, [], true, List, OnOk, vec_len, vec_capacity};
 ghost use Rattle.ipld_tree.specs.Limits.{Within};
@@ -61,35 +63,38 @@ pub const KEY: u32 = 11;
 // How many bytes a float takes.
 const FLOAT_SIZE: usize = 9;
 
-// Most blocks have about so many bytes for each entry.
+// Most blocks have about this many bytes per entry.
 const BYTES_PER_ENTRY: usize = 8;
 
-// At most so many entries are reserved before any came.
+// Capacity is reserved for at most this many entries before any was read.
 const RESERVED: usize = 1024;
 
-// For how many entries capacity is reserved at least if there is none.
+// When there is no capacity left, it is reserved for at least this many entries.
 const SPARE_ENTRIES: usize = 32;
 
-/// A value of a block, or a key of a map. The [module](self) says what its fields are.
+/// A value of a block, or a key of a map. The [module](self) describes its fields.
 #[repr(C)]
 #[derive(Clone, Copy, Debug, PartialEq, Eq)]
 pub struct TapeEntry {
-    /// What it is: one of the kinds.
+    /// The kind of the value or key, one of the constants of this module.
     pub kind: u32,
-    /// How many bytes the content has, or how many entries a list or a map spans, its own included; else 0.
+    /// The number of bytes of the content, or the number of entries that a list or a map spans,
+    /// including its own. Otherwise 0.
     pub len: u32,
-    /// The offset of the content in the block, or the number, or how many items or pairs there are; else 0.
+    /// The offset of the content in the block, the number of an integer, or the number of items or
+    /// pairs. Otherwise 0.
     pub value: u64,
 }
 
-/// Why a block's values aren't listed.
+/// The reason why the values of a block are not listed.
 ///
-/// Its `Display` is that of the [`BlockError`], or `TooLong`; with `#`, as in `{error:#}`, it is a sentence.
+/// `Display` prints the [`BlockError`], or `TooLong`. With `#` (`{error:#}`), it prints a sentence.
 #[derive(Clone, Copy, Debug, PartialEq, Eq)]
 pub enum TapeError {
-    /// The bytes are no block within the limits, or an allocation failed.
+    /// The bytes are not a block within the limits, or an allocation failed.
     Block(BlockError),
-    /// A string, a byte string or a key has 2^32 bytes or more, or a list or a map spans 2^32 entries or more.
+    /// A string, a byte string or a key has 2^32 bytes or more, or a list or a map spans 2^32
+    /// entries or more.
     TooLong,
 }
 
@@ -126,7 +131,7 @@ impl fmt::Display for TapeError {
 
 impl error::Error for TapeError {}
 
-// Capacity for an entry more.
+// Reserves capacity for another entry.
 #[inline(never)]
 fn grow(entries: &mut Vec<TapeEntry>) -> Result<(), AllocError>
     ensures same { OnOk result (entries.new.items ≡ entries.old.items) }
@@ -136,7 +141,7 @@ fn grow(entries: &mut Vec<TapeEntry>) -> Result<(), AllocError>
     Ok(())
 }
 
-// Puts an entry behind the others.
+// Appends an entry.
 #[inline(always)]
 fn push_entry(
     entries: &mut Vec<TapeEntry>,
@@ -153,7 +158,7 @@ fn push_entry(
     Ok(())
 }
 
-// A list or a map that is open, or what is outside of all.
+// An open list or map, or the outside of all of them.
 #[derive(Clone, Copy)]
 struct OpenEntry {
     // The index of its entry.
@@ -162,12 +167,12 @@ struct OpenEntry {
     count: usize,
 }
 
-// The halves of a number of 64 bits have so many values.
+// A 32-bit half of a 64-bit number has this many values.
 const HALF: usize = 0x1_0000_0000;
 
 impl OpenEntry {
-    // The entry that keeps this for the list or the map that begins in it, until that ends: the index as its value, and the
-    // halves of the count.
+    // Returns the entry that stores this, until the list or map that begins in it ends. The index
+    // is its value, and the halves of the count are its kind and length.
     #[inline(always)]
     fn kept(self) -> TapeEntry
         ensures { result ≡ kept self }
@@ -181,7 +186,7 @@ impl OpenEntry {
 }
 
 impl TapeEntry {
-    // What the entry of an open list or map keeps.
+    // Returns the state that the entry of an open list or map stores.
     #[inline(always)]
     fn outside(self) -> OpenEntry
         ensures { result ≡ outside self }
@@ -198,12 +203,12 @@ impl TapeEntry {
 struct TapeWriter {
     // How many bytes the block has.
     size: usize,
-    // How many of them follow what was read last.
+    // The number of those that follow the part that was read last.
     left: usize,
     innermost: OpenEntry,
-    // Whether each entry could be written.
+    // Whether every entry could be written.
     fits: bool,
-    // Those of open lists and maps keep what is outside of them.
+    // The entries of open lists and maps store the state outside of them.
     entries: Vec<TapeEntry>,
 }
 
@@ -221,7 +226,7 @@ impl TapeWriter {
         }
     }
 
-    // An entry could not be written.
+    // Stops, because an entry could not be written.
     #[inline(always)]
     fn stop(&mut self) -> Result<(), AllocError>
         ensures { OnOk result (reading_of self.new ≡ stopped) }
@@ -230,7 +235,7 @@ impl TapeWriter {
         Ok(())
     }
 
-    // A value more in what is innermost.
+    // Counts another value in the innermost list or map.
     #[inline(always)]
     fn count(&mut self) -> Result<(), AllocError>
         ensures { Writes (λ t. reading (counted t)) self.old result self.new }
@@ -242,7 +247,7 @@ impl TapeWriter {
         Ok(())
     }
 
-    // An entry, behind which so many bytes are left.
+    // Appends an entry, after which `left` bytes are left.
     #[inline(always)]
     fn push(&mut self, kind: u32, len: u32, value: u64, left: usize) -> Result<(), AllocError>
         ensures { Writes (λ t. reading (written (entry kind len value) left t)) self.old result
@@ -253,7 +258,7 @@ impl TapeWriter {
         Ok(())
     }
 
-    // A value of no bytes.
+    // Appends a value without content.
     #[inline(always)]
     fn push_value(&mut self, kind: u32, value: u64, left: usize) -> Result<(), AllocError>
         ensures { Writes (λ t. reading (written (entry kind 0 value) left (counted t))) self.old
@@ -303,7 +308,7 @@ impl TapeWriter {
         }
     }
 
-    // Content of so many bytes, which end where so many bytes are left.
+    // Appends an entry with content of `length` bytes, after which `left` bytes are left.
     #[inline(always)]
     fn push_content(&mut self, kind: u32, length: usize, left: usize) -> Result<(), AllocError>
         ensures { Writes (content_after kind length left) self.old result self.new }
@@ -317,7 +322,8 @@ impl TapeWriter {
         }
     }
 
-    // A value with content of so many bytes, which counts as one of what is open.
+    // Appends a value with content of `length` bytes, which counts as one of the innermost list or
+    // map.
     #[inline(always)]
     fn push_counted(&mut self, kind: u32, length: usize, left: usize) -> Result<(), AllocError>
         ensures { Writes (λ t. content_after kind length left (counted t)) self.old result
@@ -327,7 +333,7 @@ impl TapeWriter {
         self.push_content(kind, length, left)
     }
 
-    // A list or a map begins. Its entry keeps what is outside of it, until it ends.
+    // Begins a list or a map. Its entry stores the state outside of it, until it ends.
     #[inline(always)]
     fn begin(&mut self, left: usize) -> Result<(), AllocError>
         ensures { Writes (λ t. reading (begun left t)) self.old result self.new }
@@ -341,7 +347,7 @@ impl TapeWriter {
         self.push(kind, len, value, left)
     }
 
-    // The innermost list or map ends.
+    // Ends the innermost list or map.
     #[inline(always)]
     fn end(&mut self, kind: u32, left: usize) -> Result<(), AllocError>
         ensures { Writes (ended kind left) self.old result self.new }
@@ -390,12 +396,19 @@ impl Visitor for TapeWriter {
     }
 }
 
-/// The values and keys of a block, floats among them, in the order of its bytes. For untrusted input.
+/// Returns the values and keys of a block, including floats, in the order of its bytes. For
+/// untrusted input.
 ///
-/// It makes no tree, and allocates the entries alone, at most one for each byte of the block, where the block nests at most 32 levels deep,
-/// the keys of each map come in length-first order (RFC 8949, section 4.2.3), none of them empty, and the block has no more bytes than it may
-/// have values. Another block is read a second time, from its start, in a loop, which allocates some 80 bytes for each list or map that is
-/// open, and keeps the keys of open maps.
+/// It does not build a tree. A tape has at most one entry per byte of the block. Only the entries
+/// are allocated, with capacity for at least 32, if the block meets all of these conditions:
+///
+/// - It nests at most 32 levels deep.
+/// - The keys of every map come in length-first order (RFC 8949, section 4.2.3), and no key is
+///   empty.
+/// - The block has no more bytes than it may have values.
+///
+/// Any other input is read in a loop, from its start. The loop allocates about 80 bytes per open
+/// list or map, and keeps the keys of open maps.
 ///
 /// ```rust
 /// use dag_cbor::tape::{self, TapeError, read_tape};
@@ -411,9 +424,10 @@ impl Visitor for TapeWriter {
 ///
 /// # Errors
 ///
-/// `Block` where the bytes are no block within the limits, or an allocation failed, as of
-/// [`check_block`](crate::check_block) with floats. `TooLong` where a length of an entry would have more than 32 bits, in a block that has
-/// no other error.
+/// - `Block` if the bytes are not a block within the limits, or if an allocation fails. It has the
+///   error of [`check_block`](crate::check_block) with floats.
+/// - `TooLong` if a length of an entry would have more than 32 bits, in a block that has no other
+///   error.
 pub fn read_tape(alloc: Global, bytes: &[u8], limits: &Limits) -> Result<Vec<TapeEntry>, TapeError>
     ensures exact { GivesTape limits.now bytes.now (λ entries. entries.items) result }
     ensures once { (es : List TapeEntry) → IsTapeOf es bytes.now

@@ -18,15 +18,18 @@ use dag_cbor_format::CborError;
 use ipld_tokens::{Token, TokenSource};
 use std::alloc::Global;
 
-/// The tokens of a block of DAG-CBOR, whose strings and bytes are lent from the block.
+/// The tokens of a DAG-CBOR block, whose strings and bytes are borrowed from the block.
 ///
-/// It reads the block once, from the left. In place of an end of the tokens it returns the first error of the bytes unless they encode a
-/// tree, all of them: the block is one item, its arguments are in their shortest form, the keys of each map are strings and differ, and each link is a CID.
+/// It reads the block once, from the left. If the bytes as a whole do not encode a tree, it returns
+/// the first error of the bytes instead of the end of the tokens. Bytes that encode a tree are one
+/// item. Its arguments are in their shortest form, the keys of every map are strings and differ,
+/// and every link is a CID.
 ///
-/// The hint of a list or a map is its length, and there is none where the block is too short for it: all hints together count on no more
-/// items than the block has bytes.
+/// The hint of a list or a map is its length. The hint is absent if the block is too short for it:
+/// all hints together count on at most as many items as the block has bytes.
 ///
-/// A list or a map that is open takes some bytes of memory, and each key of an open map too. After an error it returns that error for good.
+/// An open list or map takes some bytes of memory, and so does every key of an open map. After an
+/// error, every further call returns that error.
 #[derive(Drop)]
 pub struct CborTokens<'a> {
     block: &'a [u8],
@@ -39,7 +42,7 @@ pub struct CborTokens<'a> {
 impl<'a> CborTokens<'a> {
     ghost use Rattle.dag_cbor_blocks.specs.TokensSource.{tokens_left, has_stopped, block_of};
 
-    /// A source of the block's tokens. Does not allocate.
+    /// Creates a source of the block's tokens. Does not allocate.
     pub fn new(alloc: Global, bytes: &'a [u8]) -> Self
         ensures tokens { (i : Item 64) (t : Tree) → EncodesItem i bytes.entry.now
             → tree_of_item i ≡ Some t

@@ -1,4 +1,5 @@
--- The tree that a block encodes, from its tokens: from the last to the first, with what each open list or map holds after them.
+-- The tree that a block encodes, from its tokens. These are read from the last to the first, with
+-- the later contents of every open list or map.
 use Rattle.std.specs.Prelude.{List, [], ◌∷◌, ℕ, Option, Some, None}
 use Rattle.ipld_cid.specs.Cid.{Link}
 use Rattle.ipld_tree.specs.Tree.{Tree, text, bytes, list, entries, link, Items, no_items, item, Members, no_members}
@@ -17,7 +18,7 @@ abbrev pub pushed_if : Option Tree → List Items → List Items
 pushed_if None gs = []
 pushed_if (Some t) gs = pushed t gs
 
--- keys and values alternating
+-- the members of a map, from keys and values that alternate
 abbrev pub members_from : Items → Members
 members_from (item (text key) (item t ts)) = put key t (members_from ts)
 members_from _ = no_members
@@ -30,7 +31,7 @@ abbrev pub as_map : List Items → List Items
 as_map [] = []
 as_map (g ∷ gs) = pushed (entries (members_from g)) gs
 
--- bytes that are a CID's become a link
+-- the items with this link instead of the first one, which has the bytes of its CID
 abbrev pub as_link : Option Link → List Items → List Items
 as_link (Some cid) (item t g ∷ gs) = item (link cid) g ∷ gs
 as_link _ _ = []
@@ -54,6 +55,6 @@ only_tree _ = None
 abbrev pub tree_of_run : Ran → Option Tree
 tree_of_run ran = unless_error ran.error (only_tree (held ran.tokens))
 
--- The tree that the bytes encode, or nothing if they encode none.
+-- The tree that the bytes encode, or nothing if they do not encode one.
 unfoldable pub tree_of_block : List ℕ → Option Tree
 tree_of_block block = tree_of_run (of_block block)

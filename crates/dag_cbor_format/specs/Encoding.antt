@@ -1,5 +1,5 @@
--- Blocks of DAG-CBOR (RFC 8949, section 3.1, and the DAG-CBOR specification) without floats: the items that have a encoding, the bytes that encode
--- an item, and the tree that they encode.
+-- Blocks of DAG-CBOR (RFC 8949, section 3.1, and the DAG-CBOR specification) without floats: the
+-- items that have an encoding, the bytes that encode an item, and the tree that they encode.
 use Rattle.std.specs.Prelude.{◌≡◌, ℕ, pos, negsuc, suc, ◌^◌, ◌<◌, true, false, List, [], ◌∷◌, ◌++◌, length, Some}
 use Rattle.std.specs.Str.{IsUtf8}
 use Rattle.ipld_tree.specs.Tree.{Tree}
@@ -9,17 +9,18 @@ use Rattle.ipld_tokens.specs.ItemTree.{tree_of_item}
 use Rattle.dag_cbor_format.specs.declared.major.Major.TheVariants.{Unsigned, Negative, Bytes, Text, List as Array, Map, Tag, Simple}
 use Rattle.dag_cbor_format.specs.Head.{head}
 
--- how many items a list holds
+-- the number of items of a list
 abbrev pub part_count : Parts 64 → ℕ
 part_count no_parts = 0
 part_count (part i is) = suc (part_count is)
 
--- how many pairs a map holds
+-- the number of pairs of a map
 abbrev pub pair_count : Pairs 64 → ℕ
 pair_count no_pairs = 0
 pair_count (pair key value ps) = suc (pair_count ps)
 
--- a scalar: false, true and null are simple values; -1 - n has the argument n; a string is its bytes
+-- the bytes of a scalar: false, true and null are simple values, -1 - n has the argument n, and a
+-- string is its head and its bytes
 abbrev pub atom_encoding : Atom → List ℕ
 atom_encoding none = head Simple 22
 atom_encoding (boolean false) = head Simple 20
@@ -30,8 +31,8 @@ atom_encoding (text s) = head Text (length s) ++ s
 atom_encoding _ = []
 
 abbrev mutual
-  -- The bytes of an item, in the order of its pairs. A link is tag 42 before a byte string, of a
-  -- zero byte and the CID's bytes (RFC 8949, section 3.1; the DAG-CBOR specification, tag 42).
+  -- The bytes of an item, in the order of its pairs. A link is tag 42 before a byte string that has
+  -- a zero byte and the CID's bytes (RFC 8949, section 3.1; the DAG-CBOR specification, tag 42).
   pub encoding : Item 64 → List ℕ
   encoding (atom_item a) = atom_encoding a
   encoding (bytes_item b) = head Bytes (length b) ++ b
@@ -49,7 +50,8 @@ abbrev mutual
   pairs_encoding no_pairs = []
   pairs_encoding (pair key value ps) = encoding key ++ (encoding value ++ pairs_encoding ps)
 
--- which scalars have a encoding: arguments have 64 bits, so that integers are from -2^64 to 2^64 - 1
+-- True if the scalar has an encoding: it is null, a bool, an integer from -2^64 to 2^64 - 1, or a
+-- UTF-8 string of fewer than 2^64 bytes.
 abbrev pub HasAtom : Atom → Type 0
 HasAtom none = Unit {0}
 HasAtom (boolean b) = Unit {0}
@@ -58,15 +60,15 @@ HasAtom (integer (negsuc n)) = n < 2 ^ 64
 HasAtom (text s) = IsUtf8 s × (length s < 2 ^ 64)
 HasAtom _ = ⊥
 
--- a key is a string
+-- True if the item can be a key: a UTF-8 string of fewer than 2^64 bytes.
 abbrev pub IsKey : Item 64 → Type 0
 IsKey (atom_item (text s)) = IsUtf8 s × (length s < 2 ^ 64)
 IsKey _ = ⊥
 
 abbrev mutual
-  -- True if the item has an encoding: integers are from -2^64 to 2^64 - 1, texts are UTF-8, keys
-  -- are texts, and there are no floats, options or variants (RFC 8949, section 3.1; the DAG-CBOR
-  -- specification).
+  -- True if the item has an encoding: integers are from -2^64 to 2^64 - 1, strings are UTF-8, keys
+  -- are strings, and lengths are below 2^64. The item contains no floats, options or variants (RFC
+  -- 8949, section 3.1; the DAG-CBOR specification).
   pub HasEncoding : Item 64 → Type 0
   HasEncoding (atom_item a) = HasAtom a
   HasEncoding (bytes_item b) = length b < 2 ^ 64
@@ -84,12 +86,12 @@ abbrev mutual
   PairsHaveEncodings no_pairs = Unit {0}
   PairsHaveEncodings (pair key value ps) = IsKey key × HasEncoding value × PairsHaveEncodings ps
 
--- True if the item has an encoding and `bytes` are it (RFC 8949, section 3.1; the DAG-CBOR
+-- True if the item has an encoding, and it is `bytes` (RFC 8949, section 3.1; the DAG-CBOR
 -- specification, tag 42).
 abbrev pub EncodesItem : Item 64 → List ℕ → Type 0
 EncodesItem i bytes = HasEncoding i × (bytes ≡ encoding i)
 
--- True if the bytes encode an item that is the tree, so that no key is twice in a map (the DAG-CBOR
--- specification).
+-- True if the bytes encode an item whose tree is `t`, so that no key is twice in a map (the
+-- DAG-CBOR specification).
 abbrev pub EncodesTree : Tree → List ℕ → Type 0
 EncodesTree t bytes = (i : Item 64) × EncodesItem i bytes × (tree_of_item i ≡ Some t)

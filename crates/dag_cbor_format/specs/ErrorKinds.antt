@@ -1,10 +1,10 @@
--- The name and the sentence of each error, and which of them lie in the bytes that are read.
+-- The name and the sentence of every error, and whether it reports that the bytes are not a block.
 use Rattle.std.specs.Prelude.{ℕ, Bool, true, false, List, codes, Some, None, if◌then◌else◌}
 use Rattle.std.specs.declared.option.Option.{Option}
 use Rattle.dag_cbor_format.specs.declared.error.CborError.{CborError}
 use Rattle.dag_cbor_format.specs.declared.error.CborError.TheVariants.{Memory, Read, Write, End, NotShortest, Float, Unsupported, Utf8, KeyNotText, DuplicateKey, LinkBytes, Cid, TrailingBytes, IntegerRange}
 
--- the name of an error, as it is printed
+-- the printed name of an error
 abbrev pub name_of : CborError → List ℕ
 name_of Memory = codes "Memory"
 name_of Read = codes "Read"
@@ -21,7 +21,7 @@ name_of (Cid error) = codes "Cid"
 name_of TrailingBytes = codes "TrailingBytes"
 name_of IntegerRange = codes "IntegerRange"
 
--- what is wrong, in a sentence; that of bytes that are no CID isn't said
+-- the sentence that describes an error, or nothing (not specified) for bytes that are not a CID
 abbrev pub sentence_of : CborError → Option (List ℕ)
 sentence_of Memory = Some (codes "out of memory")
 sentence_of Read = Some (codes "the reader failed")
@@ -38,7 +38,8 @@ sentence_of (Cid error) = None
 sentence_of TrailingBytes = Some (codes "more bytes follow the item")
 sentence_of IntegerRange = Some (codes "an integer is below -2^64 or above 2^64 - 1")
 
--- what is printed: the sentence where `#` is among the options, as in `{error:#}`, and else the name
+-- the printed form of an error: its sentence if `#` is among the options (`{error:#}`), and its
+-- name otherwise
 abbrev pub printed : Bool → CborError → Option (List ℕ)
 printed alternate error = if alternate then sentence_of error else Some (name_of error)
 

@@ -9,7 +9,7 @@ abbrev pub link_before : Option Link → List Link → List Link
 link_before None ls = ls
 link_before (Some cid) ls = cid ∷ ls
 
--- the CID of the bytes behind a link mark
+-- the CID that the bytes after a link mark encode, if they do
 abbrev pub marked_link : List TokenModel → Option Link
 marked_link (bytes b ∷ ts) = read_link 64 b
 marked_link _ = None
@@ -23,6 +23,7 @@ links_among (t ∷ ts) = links_among ts
 abbrev pub links_of_run : Ran → Option (List Link)
 links_of_run ran = unless_error ran.error (Some (links_among ran.tokens))
 
--- The links of the tree that the bytes encode, or nothing if they encode none.
+-- The links of a block without floats, in the order of the bytes, or nothing if the bytes have an
+-- error.
 unfoldable pub links_found : List ℕ → Option (List Link)
 links_found block = links_of_run (of_block block)

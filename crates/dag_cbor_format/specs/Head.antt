@@ -1,5 +1,7 @@
--- The head of a data item (RFC 8949, section 3): three bits of major type and five more bits, which are the argument below 24, or
--- say in how many bytes it follows, most significant first. DAG-CBOR has each argument in its shortest form, and no others than these heads.
+-- The head of a data item (RFC 8949, section 3): three bits of major type and five more bits. Below
+-- 24 these are the argument, and otherwise they give the number of bytes of the argument that
+-- follows, most significant first. DAG-CBOR has every argument in its shortest form, and no heads
+-- except these.
 use Rattle.std.specs.Prelude.{ℕ, ◌+◌, ◌*◌, ◌^◌, ◌<◌, nat_lt, if◌then◌else◌, List, [], ◌∷◌}
 use Rattle.std.specs.Int.{w16, w32, w64, to_be_bytes}
 use Rattle.dag_cbor_format.specs.declared.major.Major.{Major}
@@ -16,7 +18,8 @@ number_of Map = 5
 number_of Tag = 6
 number_of Simple = 7
 
--- below what the arguments of a major type are: of 64 bits, and of the simple values those in the first byte
+-- the number that every argument of a major type is below: 64 bits, and for simple values those in
+-- the first byte
 abbrev pub limit_of : Major → ℕ
 limit_of Simple = 24
 limit_of _ = 2 ^ 64

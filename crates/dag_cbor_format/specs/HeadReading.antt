@@ -1,4 +1,4 @@
--- A head read at the front of some bytes.
+-- A head that is read from the front of bytes.
 use Rattle.std.specs.Prelude.{ℕ, ◌/◌, ◌%◌, ◌^◌, ◌==◌, nat_lt, if◌then◌else◌, List, [], ◌∷◌, length, take, drop, Option, Some, None, ◌++◌, ◌&&◌}
 use Rattle.std.specs.Str.{bytes_eq}
 use Rattle.std.specs.Int.{Width, w16, w32, w64, byte_len, from_be_bytes}
@@ -18,22 +18,22 @@ major_at k =
     else if k == 6 then Tag
     else Simple
 
--- an argument, which is in its shortest form from the least on
+-- the argument `n`, or nothing if it is below `least` and so not in its shortest form
 abbrev pub at_least : ℕ → ℕ → List ℕ → Option (ℕ × List ℕ)
 at_least least n rest = if nat_lt n least then None else Some (n, rest)
 
--- an argument in one byte
+-- an argument in one byte, and the bytes that follow it
 abbrev pub read_byte : List ℕ → Option (ℕ × List ℕ)
 read_byte [] = None
 read_byte (b ∷ rest) = at_least 24 b rest
 
--- an argument in more bytes
+-- an argument in several bytes, and the bytes that follow it
 abbrev pub read_wide : Width → ℕ → List ℕ → Option (ℕ × List ℕ)
 read_wide w least bytes =
     if nat_lt (length bytes) (byte_len w) then None
     else at_least least (from_be_bytes w (take (byte_len w) bytes)) (drop (byte_len w) bytes)
 
--- an argument, by the additional bits of the first byte, and what follows it
+-- the argument for these additional bits of the first byte, and the bytes that follow it
 unfoldable pub read_argument : ℕ → List ℕ → Option (ℕ × List ℕ)
 read_argument additional bytes =
     if nat_lt additional 24 then Some (additional, bytes)
@@ -43,7 +43,7 @@ read_argument additional bytes =
     else if additional == 27 then read_wide w64 (2 ^ 32) bytes
     else None
 
--- the same of a major type: a simple value is in the first byte
+-- the same for a major type: the argument of a simple value is in the first byte
 abbrev pub argument_of : Major → ℕ → List ℕ → Option (ℕ × List ℕ)
 argument_of Simple additional bytes = if nat_lt additional 24 then Some (additional, bytes) else None
 argument_of _ additional bytes = read_argument additional bytes
@@ -52,7 +52,7 @@ abbrev pub with_major : Major → Option (ℕ × List ℕ) → Option (Major × 
 with_major major None = None
 with_major major (Some (n, rest)) = Some (major, n, rest)
 
--- the major type, the argument and what follows
+-- the major type, the argument and the bytes that follow
 unfoldable pub read_head : List ℕ → Option (Major × ℕ × List ℕ)
 read_head [] = None
 read_head (first ∷ bytes) = with_major (major_at (first / 32)) (argument_of (major_at (first / 32)) (first % 32) bytes)
@@ -61,6 +61,7 @@ abbrev pub if_encoded : List ℕ → Option (Major × ℕ × List ℕ) → Optio
 if_encoded bytes None = None
 if_encoded bytes (Some h) = if nat_lt h.1 (limit_of h.0) && bytes_eq bytes (head h.0 h.1 ++ h.2) then Some h else None
 
--- what is read, where the bytes encode it, as they do where each of them is a byte
+-- the head that is read and the bytes that follow it, if they encode to the bytes, which they do if
+-- every number is a byte
 unfoldable pub head_at : List ℕ → Option (Major × ℕ × List ℕ)
 head_at bytes = if_encoded bytes (read_head bytes)

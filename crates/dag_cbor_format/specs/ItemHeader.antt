@@ -1,4 +1,5 @@
--- What an item begins with: a whole scalar, a list or a map with the number of what it holds, or the tag of a link.
+-- The beginning of an item: a whole scalar, a list or a map with the number of its items or pairs,
+-- or the tag of a link.
 use Rattle.std.specs.Prelude.{ℕ, pos, negsuc, zero, suc, ◌==◌, nat_lt, if◌then◌else◌, true, false, List, [], ◌∷◌, length, take, drop, Option, Some, None, is_some}
 use Rattle.std.specs.Str.{is_utf8}
 use Rattle.ipld_tokens.specs.Token.{TokenModel, atom, none, boolean, integer, text}
@@ -14,11 +15,11 @@ pub data Beginning : Type 0 where
   map : ℕ → Beginning
   link : Beginning
 
--- so many bytes, and what follows them
+-- the first `n` bytes and the bytes that follow them, or nothing if there are fewer
 unfoldable pub front : ℕ → List ℕ → Option (List ℕ × List ℕ)
 front n bytes = if nat_lt (length bytes) n then None else Some (take n bytes, drop n bytes)
 
--- these bytes and what follows them, where they are UTF-8
+-- these bytes and the bytes that follow them, if these are UTF-8
 abbrev pub if_text : Option (List ℕ × List ℕ) → Option (List ℕ × List ℕ)
 if_text None = None
 if_text (Some (s, rest)) = if is_utf8 s then Some (s, rest) else None
@@ -31,7 +32,7 @@ abbrev pub text_scalar : Option (List ℕ × List ℕ) → Option (Beginning × 
 text_scalar None = None
 text_scalar (Some (s, rest)) = Some (scalar (atom (text s)), rest)
 
--- a simple value
+-- the simple value with this number (false, true or null) and the bytes that follow, or nothing
 abbrev pub simple_at : ℕ → List ℕ → Option (Beginning × List ℕ)
 simple_at n rest =
     if n == 20 then Some (scalar (atom (boolean false)), rest)
@@ -39,7 +40,7 @@ simple_at n rest =
     else if n == 22 then Some (scalar (atom none), rest)
     else None
 
--- after a head
+-- the beginning of an item after its head, which has this major type and argument
 abbrev pub item_header_after : Major → ℕ → List ℕ → Option (Beginning × List ℕ)
 item_header_after Unsigned n rest = Some (scalar (atom (integer (pos n))), rest)
 item_header_after Negative n rest = Some (scalar (atom (integer (negsuc n))), rest)
@@ -54,7 +55,7 @@ abbrev pub item_header_of : Option (Major × ℕ × List ℕ) → Option (Beginn
 item_header_of None = None
 item_header_of (Some h) = item_header_after h.0 h.1 h.2
 
--- what an item begins with, and what follows that
+-- the beginning of an item and the bytes that follow it
 unfoldable pub item_header_at : List ℕ → Option (Beginning × List ℕ)
 item_header_at bytes = item_header_of (head_at bytes)
 
@@ -66,14 +67,14 @@ abbrev pub key_of : Option (Major × ℕ × List ℕ) → Option (List ℕ × Li
 key_of None = None
 key_of (Some h) = text_after h.0 h.1 h.2
 
--- the string of a key, and what follows it
+-- the string of a key and the bytes that follow it
 unfoldable pub key_at : List ℕ → Option (List ℕ × List ℕ)
 key_at bytes = key_of (head_at bytes)
 
 abbrev pub if_cid : List ℕ → List ℕ → Option (List ℕ × List ℕ)
 if_cid encoded rest = if is_some (read_link 64 encoded) then Some (encoded, rest) else None
 
--- a CID's bytes stand behind a zero byte
+-- the bytes of a CID after a zero byte, and the bytes that follow them
 abbrev pub if_link : Option (List ℕ × List ℕ) → Option (List ℕ × List ℕ)
 if_link None = None
 if_link (Some ([], rest)) = None
@@ -88,6 +89,6 @@ abbrev pub link_of_head : Option (Major × ℕ × List ℕ) → Option (List ℕ
 link_of_head None = None
 link_of_head (Some h) = link_after h.0 h.1 h.2
 
--- the bytes of the CID of a link, after its tag, and what follows them
+-- the bytes of the CID of a link, after its tag, and the bytes that follow them
 unfoldable pub link_at : List ℕ → Option (List ℕ × List ℕ)
 link_at bytes = link_of_head (head_at bytes)

@@ -1,4 +1,5 @@
--- What an item begins with, as the format has it (RFC 8949, section 3, and the DAG-CBOR specification), and what is wrong where bytes begin with none.
+-- The beginnings of items in bytes (RFC 8949, section 3, and the DAG-CBOR specification), and the
+-- errors of bytes that do not begin with an item.
 use Rattle.std.specs.Prelude.{◌≡◌, ◌⊎◌, ℕ, pos, negsuc, suc, ◌^◌, ◌<◌, ◌≤◌, true, false, List, ◌∷◌, ◌++◌, length, Some, None, Result, Ok, Err}
 use Rattle.std.specs.Int.{w64, from_be_bytes}
 use Rattle.std.specs.Str.{IsUtf8}
@@ -14,16 +15,17 @@ use Rattle.dag_cbor_format.specs.LinkBytes.{link_bytes_at}
 use Rattle.dag_cbor_format.specs.declared.item.ItemHead.{ItemHead}
 use Rattle.dag_cbor_format.specs.declared.item.ItemHead.TheVariants as begin
 
--- the bytes begin with the eight bytes of a finite float, most significant first, of these bits
+-- True if `bytes` are the eight bytes of a finite float with these bits, most significant first,
+-- and then `rest`.
 abbrev pub BeginsWithFloat : ℕ → List ℕ → List ℕ → Type 0
 BeginsWithFloat bits bytes rest =
     (content : List ℕ) × (length content ≡ 8) × (is_finite content ≡ true) × (bits ≡ from_be_bytes w64 content) × (bytes ≡ content ++ rest)
 
--- the bytes begin with a text string, which is a key
+-- True if `bytes` are the text string `s` and then `rest`. A key is such a string.
 abbrev pub BeginsWithKey : List ℕ → List ℕ → List ℕ → Type 0
 BeginsWithKey s bytes rest = IsUtf8 s × (length s < 2 ^ 64) × (bytes ≡ head Text (length s) ++ (s ++ rest))
 
--- the bytes begin with this item, or with the head of this list or map
+-- True if `bytes` are this item, or the head of this list or map, and then `rest`.
 abbrev pub BeginsWith : ItemHead → List ℕ → List ℕ → Type 0
 BeginsWith begin.Null bytes rest = bytes ≡ head Simple 22 ++ rest
 BeginsWith (begin.Bool false) bytes rest = bytes ≡ head Simple 20 ++ rest
@@ -37,23 +39,29 @@ BeginsWith (begin.Link b) bytes rest = (suc (length b.now) < 2 ^ 64) × (bytes �
 BeginsWith (begin.List n) bytes rest = (n < 2 ^ 64) × (bytes ≡ head Array n ++ rest)
 BeginsWith (begin.Map n) bytes rest = (n < 2 ^ 64) × (bytes ≡ head Map n ++ rest)
 
--- this is what is wrong with the bytes behind the head of a float
+-- True if `bytes`, which follow the head of a float, do not begin with the eight bytes of a finite
+-- float, and `error` is the error.
 abbrev pub RejectsFloat : CborError → List ℕ → Type 0
 RejectsFloat error bytes = (if_finite (front 8 bytes) ≡ None) × (error ≡ error_of_float (front 8 bytes))
 
--- this is what is wrong with an item that the bytes should begin with, or with the bytes behind the tag of a link
+-- True if `bytes` do not begin with an item or a head of one, with floats, and `error` is the
+-- error. Also true if they begin with the tag of a link, the byte string of a link does not follow,
+-- and `error` is the error after the tag.
 abbrev pub RejectsItem : CborError → List ℕ → Type 0
 RejectsItem error bytes =
     ((beginning_at true bytes ≡ None) × (error ≡ beginning_error true bytes))
     ⊎ ((rest : List ℕ) × (beginning_at true bytes ≡ Some (link, rest)) × (link_bytes_at rest ≡ None) × (error ≡ link_error rest))
 
--- behind a head goes on what bytes begin with that begin with this head; or this is what is wrong there
+-- True if `result` is the reading after a head with this major type and argument, which `more`
+-- follows. A value and its rest: all bytes that are the head and then `more` begin with this item,
+-- and `rest` is at most as long as `more`. An error: the error after the head, or after the tag of
+-- a link.
 abbrev pub Continues : Major → ℕ → List ℕ → Result (ItemHead × Bor (List ℕ)) CborError → Type 0
 Continues major n more (Ok (h, rest)) = (length rest.now ≤ length more) × ((bytes : List ℕ) → IsArgument major n → bytes ≡ head major n ++ more → BeginsWith h bytes rest.now)
 Continues major n more (Err error) =
     ((item_header_after major n more ≡ None) × (error ≡ item_error major n more))
     ⊎ ((item_header_after major n more ≡ Some (link, more)) × (link_bytes_at more ≡ None) × (error ≡ link_error more))
 
--- this is what is wrong with a key that the bytes should begin with
+-- True if `bytes` do not begin with a key, and `error` is the error.
 abbrev pub RejectsKey : CborError → List ℕ → Type 0
 RejectsKey error bytes = (key_at bytes ≡ None) × (error ≡ key_error bytes)

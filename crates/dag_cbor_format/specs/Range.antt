@@ -1,14 +1,14 @@
--- Which integers DAG-CBOR has (RFC 8949, section 3.1: arguments of 64 bits).
+-- The integers of DAG-CBOR (RFC 8949, section 3.1: arguments of 64 bits).
 use Rattle.std.specs.Prelude.{ℤ, pos, negsuc, ◌^◌, ◌&&◌, nat_lt, Bool, true}
 use Rattle.ipld_tree.specs.Tree.{Tree, null, boolean, integer, text, bytes, list, entries, link, Items, no_items, item, Members, no_members, member}
 
--- from -2^64 to 2^64 - 1
+-- whether an integer is from -2^64 to 2^64 - 1
 abbrev pub has_argument : ℤ → Bool
 has_argument (pos n) = nat_lt n (2 ^ 64)
 has_argument (negsuc n) = nat_lt n (2 ^ 64)
 
 abbrev mutual
-  -- Whether each integer in a tree is from -2^64 to 2^64 - 1 (RFC 8949, section 3.1).
+  -- Whether every integer in a tree is from -2^64 to 2^64 - 1 (RFC 8949, section 3.1).
   pub in_range : Tree → Bool
   in_range null = true
   in_range (boolean b) = true

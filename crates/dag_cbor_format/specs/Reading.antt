@@ -1,4 +1,5 @@
--- A block read token by token, as a machine: what is open, innermost first, and the bytes that follow.
+-- A machine that reads a block token by token. Its state is the open frames, innermost first, and
+-- the bytes that follow.
 use Rattle.std.specs.Prelude.{ℕ, zero, suc, ◌+◌, ◌*◌, Bool, false, ◌||◌, if◌then◌else◌, List, [], ◌∷◌, length, Option, Some, None}
 use Rattle.std.specs.Str.{bytes_eq}
 use Rattle.std.specs.Ordering.{nat_cmp}
@@ -15,11 +16,11 @@ use Rattle.dag_cbor_format.specs.Floats.{beginning_at, beginning_error}
 pub data Frame : Type 0 where
   -- an item
   one : Frame
-  -- so many items, and the end of a list
+  -- this many items, and then the end of a list
   many : ℕ → Frame
-  -- so many pairs, with other keys than these, and the end of a map
+  -- this many pairs, whose keys are not among these, and then the end of a map
   pairs : ℕ → List (List ℕ) → Frame
-  -- a value, and then the same
+  -- a value, and then this many such pairs and the end of the map
   value : ℕ → List (List ℕ) → Frame
   -- the bytes of a link
   mark : Frame
@@ -35,12 +36,12 @@ begin fs (list n) rest = yields seq (many n ∷ fs) rest
 begin fs (map n) rest = yields token.map (pairs n [] ∷ fs) rest
 begin fs link rest = yields token.link (mark ∷ fs) rest
 
--- with this error where nothing is read
+-- the step from the beginning of an item, or this error if that is nothing
 abbrev pub begun : List Frame → CborError → Option (Beginning × List ℕ) → Out
 begun fs error None = rejected error
 begun fs error (Some (l, rest)) = begin fs l rest
 
--- an item begins, and these frames are open after it: with floats or without
+-- the step at the beginning of an item, with floats or without: these frames are open after it
 abbrev pub item_step_in : Bool → List Frame → List ℕ → Out
 item_step_in floats fs bs = begun fs (beginning_error floats bs) (beginning_at floats bs)
 
@@ -76,11 +77,11 @@ step_in floats (pairs (suc n) seen ∷ fs) bs = after_key n seen fs (key_error b
 step_in floats (value n seen ∷ fs) bs = item_step_in floats (pairs n seen ∷ fs) bs
 step_in floats (mark ∷ fs) bs = after_link fs (link_error bs) (link_at bs)
 
--- without floats
+-- the step without floats
 abbrev pub step : List Frame → List ℕ → Out
 step fs bs = step_in false fs bs
 
--- tokens, and the error that ends them if the end isn't reached
+-- tokens, and the error that ends them, or nothing if the end is reached
 pub record Ran : Type 0 where
   pub tokens : List TokenModel
   pub error : Option CborError
@@ -94,7 +95,7 @@ stopped error = record { tokens = []; error = Some error }
 abbrev pub preceded : TokenModel → Ran → Ran
 preceded t r = record { tokens = t ∷ r.tokens; error = r.error }
 
--- what a run reports that no error ends
+-- the result, or nothing if there is an error
 abbrev pub unless_error : {A : Type 0} → Option CborError → Option A → Option A
 unless_error None found = found
 unless_error (Some error) found = None
@@ -104,15 +105,15 @@ outcome more ended = reached
 outcome more (rejected error) = stopped error
 outcome more (yields t fs bs) = preceded t (more fs bs)
 
--- so many steps
+-- the run of at most this many steps, with the error `End` if it needs more
 abbrev pub run : ℕ → List Frame → List ℕ → Ran
 run zero fs bs = stopped End
 run (suc k) fs bs = outcome (run k) (step fs bs)
 
--- as many as there can be
+-- the run from these frames and bytes, with enough steps to reach the end or an error
 unfoldable pub ahead : List Frame → List ℕ → Ran
 ahead fs bs = run (suc (2 * length bs + length fs)) fs bs
 
--- of a whole block
+-- the run over a whole block
 abbrev pub of_block : List ℕ → Ran
 of_block bs = ahead (one ∷ []) bs

@@ -1,4 +1,5 @@
--- Items of which each map has its keys in the order in which they are written (DAG-CBOR specification, "Strictness"): by length, then by bytes.
+-- Items whose maps have their keys in the order of writing (DAG-CBOR specification, "Strictness"):
+-- by length, then by bytes.
 use Rattle.std.specs.Prelude.{◌≡◌, ℕ, true, List, Option, Some}
 use Rattle.ipld_tokens.specs.Item.{Item, Pairs, no_pairs, pair}
 use Rattle.ipld_tokens.specs.ItemOrder.{InEachMap}
@@ -9,17 +10,17 @@ abbrev pub GoesFirst : Option (List ℕ) → Option (List ℕ) → Type 0
 GoesFirst (Some j) (Some k) = goes_first j k ≡ true
 GoesFirst _ _ = ⊥
 
--- a key goes before those of all pairs
+-- True if a key goes before the keys of all pairs.
 abbrev pub IsFirst : Option (List ℕ) → Pairs 64 → Type 0
 IsFirst k no_pairs = Unit {0}
 IsFirst k (pair key value ps) = GoesFirst k (key_text key) × IsFirst k ps
 
--- each key goes before those after it
+-- True if every key goes before those after it.
 abbrev pub AreSorted : Pairs 64 → Type 0
 AreSorted no_pairs = Unit {0}
 AreSorted (pair key value ps) = IsFirst (key_text key) ps × AreSorted ps
 
--- True if in each map of the item each key goes before all keys after it (the DAG-CBOR
+-- True if in every map of the item every key goes before all keys after it (the DAG-CBOR
 -- specification, "Strictness").
 abbrev pub HasSortedKeys : Item 64 → Type 0
 HasSortedKeys = InEachMap AreSorted

@@ -1,13 +1,14 @@
--- What writing leaves.
+-- The bytes after a write.
 use Rattle.std.specs.Prelude.{◌≡◌, ◌+◌, ◌<◌, ◌++◌, ℕ, List, length, Option, Some, None}
 
--- there are bytes to be written, and they stand behind what was there
+-- True if there are bytes to write, and `after` is `before` with these bytes appended.
 pub record Adds (written : Option (List ℕ)) (before after : List ℕ) : Type 0 where
   pub bytes : List ℕ
   pub is : written ≡ Some bytes
   pub appended : after ≡ before ++ bytes
 
--- a beginning of the bytes to be written stands behind what was there, and not all of them do
+-- True if `after` is `before` with some of the bytes to write appended, from the first on, and at
+-- least one is missing.
 pub record AddsPart (written : Option (List ℕ)) (before after : List ℕ) : Type 0 where
   pub part : List ℕ
   pub rest : List ℕ
@@ -15,7 +16,8 @@ pub record AddsPart (written : Option (List ℕ)) (before after : List ℕ) : Ty
   pub missing : 0 < length rest
   pub appended : after ≡ before ++ part
 
--- a vector of so many bytes has no capacity for those to be written, if there are any
+-- True if a vector of `len` bytes has too little capacity for the bytes to write, or if there are
+-- no bytes to write.
 abbrev pub LacksCapacity : Option (List ℕ) → (capacity len : ℕ) → Type 0
 LacksCapacity None capacity len = Unit {0}
 LacksCapacity (Some bytes) capacity len = capacity < len + length bytes

@@ -1,4 +1,4 @@
-//! Why a block isn't read or written.
+//! The error of reading or writing a block.
 
 ghost use Rattle.std.specs.Fmt.{DisplaysStyledOnOk};
 ghost use Rattle.dag_cbor_format.specs.declared.error.CborError.TheVariants.{Memory};
@@ -8,11 +8,14 @@ use ipld_cid::CidError;
 use std::alloc::{AllocError, AllocFailed};
 use std::{error, fmt};
 
-/// Why bytes are no block of DAG-CBOR, or a tree isn't written as one.
+/// The reason why bytes are not a DAG-CBOR block, or why a tree is not written as one.
 ///
-/// Of bytes that encode no tree it is the first error from the left: of an item its head comes before its content, and of a pair of a map
-/// the key, then that the map has it already, then the value. Its `Display` is the variant's name, without its content; with `#`, as in
-/// `{error:#}`, it is a sentence that says what is wrong.
+/// For bytes that do not encode a tree, it is the first error from the left. The head of an item
+/// comes before its content. In a pair of a map, errors of the key come first, then a duplicate
+/// key, then errors of the value.
+///
+/// `Display` prints the variant's name, without its content. With `#` (`{error:#}`), it prints a
+/// sentence that describes the error.
 #[derive(Clone, Copy, Debug, PartialEq, Eq)]
 pub enum CborError {
     /// An allocation failed.
@@ -25,19 +28,21 @@ pub enum CborError {
     End,
     /// An argument isn't in its shortest form.
     NotShortest,
-    /// A float where none is read; where floats are, one of 16 or 32 bits, NaN or an infinity.
+    /// A float, if floats are not read. If they are read, a float of 16 or 32 bits, NaN or an
+    /// infinity.
     Float,
-    /// A simple value other than false, true and null, a tag other than 42, or an indefinite length.
+    /// A simple value other than false, true and null, a tag other than 42, an indefinite length,
+    /// or a head that RFC 8949 reserves.
     Unsupported,
     /// A text string isn't UTF-8.
     Utf8,
     /// The key of a map isn't a text string.
     KeyNotText,
-    /// A key stands in a map for the second time.
+    /// A map has the same key twice.
     DuplicateKey,
-    /// After the tag of a link there is no byte string that begins with a zero byte.
+    /// The tag of a link is not followed by a byte string that begins with a zero byte.
     LinkBytes,
-    /// The bytes of a link are no CID.
+    /// The bytes of a link are not a CID.
     Cid(CidError),
     /// More bytes follow the item.
     TrailingBytes,
@@ -66,7 +71,7 @@ impl<T: Drop> From<AllocFailed<T>> for CborError {
 }
 
 impl CborError {
-    // What is wrong, in a sentence.
+    // Writes a sentence that describes the error.
     fn describe<W: fmt::Write>(&self, f: &mut fmt::Formatter<W>) -> fmt::Result
         ensures { DisplaysStyledOnOk W.write_str_gives f.old result (sentence_of self.now) f.new }
     {

@@ -1,4 +1,4 @@
-//! The head of an item: its major type and its argument (RFC 8949, section 3), read.
+//! The reading of an item's head: its major type and its argument (RFC 8949, section 3).
 
 ghost use Rattle.std.specs.Prelude.{◌≡◌, ◌^◌, ◌/◌};
 ghost use Rattle.std.specs.Int.{w16, w32, w64};
@@ -9,7 +9,7 @@ ghost use Rattle.dag_cbor_format.specs.Parts.{Returns};
 use crate::error::CborError;
 use crate::major::Major;
 
-// The major type in the upper three bits of an item's first byte.
+// Returns the major type in the upper three bits of an item's first byte.
 #[inline(always)]
 fn major_of(first: u8) -> Major
     ensures { result ≡ reading.major_at (first / 32) }
@@ -26,7 +26,7 @@ fn major_of(first: u8) -> Major
     }
 }
 
-// An argument that has another form below the least.
+// Rejects an argument below `least`, which has a shorter form.
 #[inline(always)]
 fn argument_at_least(least: u64, argument: u64, rest: &[u8]) -> Result<(u64, &[u8]), CborError>
     ensures { Returns (λ x. (x.0, x.1.now)) CborError.NotShortest result
@@ -82,7 +82,7 @@ fn read_eight_bytes(bytes: &[u8]) -> Result<(u64, &[u8]), CborError>
     argument_at_least(1 << 32, u64::from_be_bytes(*argument), rest)
 }
 
-// The argument, by the additional five bits of an item's first byte.
+// Reads the argument by the lower five bits (the additional information) of an item's first byte.
 #[tactic(auto, unfolding(crate::specs::HeadReading::read_argument, crate::specs::Errors::argument_error))]
 #[inline(always)]
 fn read_argument(additional: u8, bytes: &[u8]) -> Result<(u64, &[u8]), CborError>
@@ -101,7 +101,7 @@ fn read_argument(additional: u8, bytes: &[u8]) -> Result<(u64, &[u8]), CborError
     }
 }
 
-// The argument of a simple value, which is in the first byte; floats are major type 7 too.
+// Reads the argument of a simple value, which is in the first byte. Floats have major type 7 too.
 #[inline(always)]
 fn read_simple(additional: u8, bytes: &[u8]) -> Result<(u64, &[u8]), CborError>
     ensures { Returns (λ x. (x.0, x.1.now)) (wrong.simple_error additional) result
@@ -125,7 +125,7 @@ fn argument_of(major: Major, additional: u8, bytes: &[u8]) -> Result<(u64, &[u8]
     }
 }
 
-// Reads by the bits, and doesn't look back at what was read.
+// Reads a head by its bits, without a comparison with its encoding.
 #[tactic(auto, unfolding(crate::specs::HeadReading::read_head, crate::specs::Errors::head_error))]
 #[inline(always)]
 fn read_any_head(bytes: &[u8]) -> Result<(Major, u64, &[u8]), CborError>
@@ -140,13 +140,16 @@ fn read_any_head(bytes: &[u8]) -> Result<(Major, u64, &[u8]), CborError>
     Ok((major, argument, rest))
 }
 
-/// The major type and the argument that the bytes begin with, and the bytes after them. Does not allocate.
+/// Reads the major type and the argument at the front of the bytes, and returns them with the bytes
+/// after them. Does not allocate.
 ///
 /// # Errors
 ///
-/// - `End` where the bytes end within the head.
-/// - `NotShortest` where the argument isn't in its shortest form.
-/// - `Float` of the head of a float, and `Unsupported` of an indefinite length and of a head that RFC 8949 reserves.
+/// - `End` if the bytes end within the head.
+/// - `NotShortest` if the argument is not in its shortest form.
+/// - `Float` for the head of a float.
+/// - `Unsupported` for an indefinite length, for a simple value in a second byte, and for a head
+///   that RFC 8949 reserves.
 #[inline(always)]
 pub fn read_head(bytes: &[u8]) -> Result<(Major, u64, &[u8]), CborError>
     ensures { Returns (λ x. (x.0, x.1, x.2.now)) (wrong.head_error bytes.now) result

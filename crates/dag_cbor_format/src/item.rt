@@ -1,6 +1,7 @@
-//! The item that bytes begin with, for what goes through a block by itself.
+//! The item at the front of bytes, for code that walks a block by itself.
 //!
-//! A block is walked item by item: behind the head of a list its items follow, and behind that of a map its entries, each a key and a value.
+//! A block is walked item by item. After the head of a list come its items, and after the head of a
+//! map come its entries. An entry is a key and then a value.
 
 ghost use Rattle.std.specs.Prelude.{◌≡◌, ◌<◌, false, length, IfOk, IfErr};
 ghost use Rattle.dag_cbor_format.specs.Floats.{has_float_head};
@@ -13,7 +14,8 @@ use crate::item_header::{
 };
 use crate::major::Major;
 
-/// What an item begins with, and all of it where it is neither a list nor a map. Strings and bytes are lent.
+/// The beginning of an item. It is the whole item, unless that is a list or a map. Strings and
+/// bytes are borrowed.
 #[derive(Clone, Copy, Debug)]
 pub enum ItemHead<'a> {
     /// Null.
@@ -22,21 +24,22 @@ pub enum ItemHead<'a> {
     Bool(bool),
     /// An integer, from -2^64 to 2^64 - 1.
     Integer(i128),
-    /// A float of 64 bits, by its bits: neither NaN nor an infinity.
+    /// A float of 64 bits, as its bits. It is neither NaN nor an infinity.
     Float(u64),
     /// A text string.
     Str(&'a str),
     /// A byte string.
     Bytes(&'a [u8]),
-    /// A link, by the bytes that are to be its CID's. They aren't read.
+    /// A link, with the bytes that have to be a CID. They are not decoded.
     Link(&'a [u8]),
-    /// A list of so many items.
+    /// A list with this number of items.
     List(u64),
-    /// A map of so many entries.
+    /// A map with this number of entries.
     Map(u64),
 }
 
-// The bits of a float, behind the byte that is its head, and what follows them.
+// Reads the bits of a float, after the byte that is its head, and returns them with the bytes after
+// them.
 fn read_float(bytes: &[u8]) -> Result<(u64, &[u8]), CborError>
     ensures found { IfOk result (λ read. BeginsWithFloat read.0 bytes.now read.1.now) }
     ensures shorter { IfOk result (λ read. length read.1.now < length bytes.now) }
@@ -51,7 +54,7 @@ fn read_float(bytes: &[u8]) -> Result<(u64, &[u8]), CborError>
     Ok((u64::from_be_bytes(*content), rest))
 }
 
-// What stands behind the head of an item that is no float.
+// Reads the content after the head of an item that is not a float.
 #[inline(always)]
 fn read_content(
     major: Major,
@@ -89,7 +92,7 @@ fn read_content(
     }
 }
 
-// An item that is no float.
+// Reads an item that is not a float.
 #[inline(always)]
 fn read_item_without_floats(bytes: &[u8]) -> Result<(ItemHead<'_>, &[u8]), CborError>
     requires { has_float_head bytes.now ≡ false }
@@ -101,12 +104,14 @@ fn read_item_without_floats(bytes: &[u8]) -> Result<(ItemHead<'_>, &[u8]), CborE
     read_content(major, argument, rest)
 }
 
-/// The item that the bytes begin with, or what it begins with, and what follows that. Does not allocate.
+/// Reads the item at the front of the bytes, or the head of a list or a map, and returns it with
+/// the bytes after it. Does not allocate.
 ///
 /// # Errors
 ///
-/// The first error in what is read, as `decode_slice` of `dag_cbor` has it: `Float` of floats of 16 or 32 bits, NaN and infinities
-/// alone. Of a link the bytes of its CID aren't read.
+/// The first error in the bytes that it reads, the same one that `decode_slice` of `dag_cbor`
+/// returns, except for floats: `Float` is returned only for floats of 16 or 32 bits, NaN and
+/// infinities. The bytes of a link's CID are not decoded.
 pub fn read_item(bytes: &[u8]) -> Result<(ItemHead<'_>, &[u8]), CborError>
     ensures found { IfOk result (λ read. BeginsWith read.0 bytes.now read.1.now) }
     ensures shorter { IfOk result (λ read. length read.1.now < length bytes.now) }
@@ -121,11 +126,13 @@ pub fn read_item(bytes: &[u8]) -> Result<(ItemHead<'_>, &[u8]), CborError>
     }
 }
 
-/// The key that the bytes begin with, a text string, and what follows it. Does not allocate.
+/// Reads the key at the front of the bytes, a text string, and returns it with the bytes after it.
+/// Does not allocate.
 ///
 /// # Errors
 ///
-/// The first error in what is read, `KeyNotText` of another item.
+/// The first error in the bytes that it reads. It is `KeyNotText` for an item that is not a text
+/// string.
 pub fn read_key(bytes: &[u8]) -> Result<(&str, &[u8]), CborError>
     ensures found { IfOk result (λ read. BeginsWithKey read.0.now bytes.now read.1.now) }
     ensures shorter { IfOk result (λ read. length read.1.now < length bytes.now) }

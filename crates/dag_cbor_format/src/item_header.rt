@@ -1,6 +1,7 @@
-//! What an item begins with, and the content behind its head.
+//! The beginning of an item, and the content after its head.
 //!
-//! Each call reads from the front of bytes, lends what it read, and returns what follows. None allocates.
+//! Every function reads from the front of bytes, borrows the part that it read, and returns the
+//! bytes after it. It does not allocate.
 
 ghost use Rattle.std.specs.Prelude.{◌≡◌, Some, nat_lt};
 ghost use Rattle.std.specs.List.{list_all};
@@ -20,33 +21,33 @@ use std::str;
 /// The tag of a link.
 pub const LINK_TAG: u64 = 42;
 
-/// The byte that is the head of a float of 64 bits.
+/// The byte that is the head of a 64-bit float.
 pub const FLOAT: u8 = 251;
 
-// Text of fewer bytes is looked over for a byte that isn't ASCII before it is checked.
+// A shorter text string is first searched for a byte that is not ASCII, and only then checked.
 const SHORT: usize = 16;
 
-// Text of so many bytes is checked 64 bytes at a time.
+// A text string of at least this many bytes is checked 64 bytes at a time.
 const LONG: usize = 64;
 
-/// What an item begins with, as tokens have it.
+/// The beginning of an item, in the terms of tokens.
 #[derive(Drop)]
 pub enum ItemHeader<'a> {
-    /// A scalar, a string or bytes, whole.
+    /// A scalar, a string or bytes, complete.
     Scalar(Token<'a>),
-    /// A list of so many items.
+    /// A list with this number of items.
     List(u64),
-    /// A map of so many entries.
+    /// A map with this number of entries.
     Map(u64),
-    /// A link, of which the tag was read.
+    /// A link, whose tag was read.
     Link,
 }
 
-/// So many bytes, and what follows them.
+/// Reads `length` bytes, and returns them with the bytes after them.
 ///
 /// # Errors
 ///
-/// `End` where there are fewer.
+/// `End` if there are fewer bytes.
 #[tactic(auto, unfolding(crate::specs::ItemHeader::front))]
 #[inline(always)]
 pub fn read_bytes(length: u64, bytes: &[u8]) -> Result<(&[u8], &[u8]), CborError>
@@ -65,7 +66,8 @@ fn is_ascii(bytes: &[u8]) -> bool
     bytes.iter().all(|byte| *byte < 128)
 }
 
-/// Whether eight bytes are those of a float that is finite, and no NaN: the eleven bits of the exponent aren't all ones.
+/// Returns whether eight bytes are those of a float that is finite and not NaN: the eleven bits of
+/// the exponent are not all ones.
 #[inline(always)]
 pub fn is_finite(content: &[u8]) -> bool
     ensures { result ≡ floats.is_finite content.now }
@@ -76,11 +78,11 @@ pub fn is_finite(content: &[u8]) -> bool
     }
 }
 
-/// The content of a text string of so many bytes, and what follows it.
+/// Reads the content of a text string of `length` bytes, and returns it with the bytes after it.
 ///
 /// # Errors
 ///
-/// `End` where there are fewer bytes, `Utf8` where they are no UTF-8.
+/// `End` if there are fewer bytes. `Utf8` if they are not UTF-8.
 #[inline(always)]
 pub fn read_text(length: u64, bytes: &[u8]) -> Result<(&str, &[u8]), CborError>
     ensures { Returns (λ x. (x.0.now, x.1.now)) (wrong.text_error (reading.front length bytes.now))
@@ -169,12 +171,14 @@ fn header_of(major: Major, argument: u64, rest: &[u8]) -> Result<(ItemHeader<'_>
     }
 }
 
-/// What an item begins with that is no float, and what follows that.
+/// Reads the beginning of an item that is not a float, and returns it with the bytes after it.
 ///
 /// # Errors
 ///
-/// Those of [`read_head`]; `End` and `Utf8` of its content; `Unsupported` of a tag that is no link's and of a simple value that is neither
-/// false nor true nor null.
+/// - Those of [`read_head`].
+/// - `End` and `Utf8` for the content of the item.
+/// - `Unsupported` for a tag that is not the tag of a link, and for a simple value other than
+///   false, true and null.
 #[tactic(auto, unfolding(crate::specs::ItemHeader::item_header_at, crate::specs::Errors::item_header_error))]
 #[inline(always)]
 pub fn read_header(bytes: &[u8]) -> Result<(ItemHeader<'_>, &[u8]), CborError>
@@ -196,11 +200,12 @@ fn key_text(major: Major, argument: u64, rest: &[u8]) -> Result<(&str, &[u8]), C
     }
 }
 
-/// The text string of a key, and what follows it.
+/// Reads the text string of a key, and returns it with the bytes after it.
 ///
 /// # Errors
 ///
-/// Those of [`read_head`], `KeyNotText` of another item, and `End` and `Utf8` of its content.
+/// Those of [`read_head`], `KeyNotText` for another item, and `End` and `Utf8` for the content of
+/// the string.
 #[tactic(auto, unfolding(crate::specs::ItemHeader::key_at, crate::specs::Errors::key_error))]
 #[inline(always)]
 pub fn read_key_text(bytes: &[u8]) -> Result<(&str, &[u8]), CborError>
@@ -211,7 +216,7 @@ pub fn read_key_text(bytes: &[u8]) -> Result<(&str, &[u8]), CborError>
     key_text(major, argument, rest)
 }
 
-// The bytes of a CID behind a zero byte.
+// Returns the bytes of a CID, which follow a zero byte.
 #[inline(always)]
 fn strip_zero<'a>(content: &'a [u8], rest: &'a [u8]) -> Result<(&'a [u8], &'a [u8]), CborError>
     ensures { Returns (λ x. (x.0.now, x.1.now)) CborError.LinkBytes result
@@ -237,11 +242,15 @@ fn link_content(major: Major, argument: u64, rest: &[u8]) -> Result<(&[u8], &[u8
     }
 }
 
-/// After the tag of a link: the bytes of its CID, which aren't read yet, and what follows them.
+/// Reads the byte string after the tag of a link, and returns the bytes of the CID with the bytes
+/// after them. It does not decode the CID.
 ///
 /// # Errors
 ///
-/// Those of [`read_head`], `LinkBytes` where no byte string comes or it has no zero byte first, and `End` where it is cut.
+/// - Those of [`read_head`].
+/// - `LinkBytes` if the next item is not a byte string, or the byte string does not begin with a
+///   zero byte.
+/// - `End` if the byte string is cut short.
 #[tactic(auto, unfolding(crate::specs::LinkBytes::link_bytes_at, crate::specs::Errors::link_error))]
 #[inline(always)]
 pub fn read_link_bytes(bytes: &[u8]) -> Result<(&[u8], &[u8]), CborError>

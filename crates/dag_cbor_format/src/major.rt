@@ -3,19 +3,19 @@
 /// A major type: the upper three bits of an item's first byte.
 #[derive(Clone, Copy)]
 pub enum Major {
-    /// 0: an unsigned integer, its argument.
+    /// 0: an unsigned integer, which is its argument.
     Unsigned,
-    /// 1: a negative integer, -1 less its argument.
+    /// 1: a negative integer, which is -1 minus its argument.
     Negative,
-    /// 2: a byte string, its argument its length.
+    /// 2: a byte string. Its argument is its length.
     Bytes,
-    /// 3: a text string, its argument its length in bytes.
+    /// 3: a text string. Its argument is its length in bytes.
     Text,
-    /// 4: an array, its argument the number of its items.
+    /// 4: an array. Its argument is the number of its items.
     List,
-    /// 5: a map, its argument the number of its pairs.
+    /// 5: a map. Its argument is the number of its pairs.
     Map,
-    /// 6: a tagged item, its argument the tag.
+    /// 6: a tagged item. Its argument is the tag.
     Tag,
     /// 7: a float or a simple value.
     Simple,

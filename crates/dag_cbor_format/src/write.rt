@@ -1,7 +1,8 @@
-//! Items written one after another, for a block that is made without its tree.
+//! Functions that write one item after another, to make a block without its tree.
 //!
-//! Each call adds to the end of a vector. A list or a map is its head, with the number of its items or entries, and then these; of an entry
-//! the key comes first, a text string. What is written is in canonical form where the keys of each map come in length-first order (RFC 8949,
+//! Every function appends to a vector. A list or a map is its head, with the number of its items or
+//! entries, and then the items or entries. An entry is its key, a text string, and then its value.
+//! The result is in canonical form if the keys of every map come in length-first order (RFC 8949,
 //! section 4.2.3).
 
 ghost use Rattle.std.specs.Prelude.{◌≡◌, ◌+◌, ◌*◌, ◌<◌, ◌≤◌, ◌++◌, ◌⊎◌, true, false, length, Some, OnOk, OnErr, IfErr, MatchOption, vec_capacity, vec_len};
@@ -19,7 +20,7 @@ use crate::major::Major;
 use ipld_cid::Cid;
 use std::alloc::AllocError;
 
-// The upper three bits of the first byte.
+// Returns the first byte of a head, with the major type in its upper three bits.
 #[inline(always)]
 fn first_byte(major: Major, additional: u8) -> u8
     requires { additional < 32 }
@@ -38,11 +39,12 @@ fn first_byte(major: Major, additional: u8) -> u8
     32 * number + additional
 }
 
-/// Adds the head of an item (RFC 8949, section 3), with its argument in the shortest form.
+/// Appends the head of an item (RFC 8949, section 3), with its argument in the shortest form.
 ///
 /// # Errors
 ///
-/// `AllocError` where the vector has no capacity for the head and an allocation failed. Nothing was added.
+/// `AllocError` if the vector has no capacity for the head and an allocation fails. Nothing is
+/// appended then.
 #[tactic(auto, unfolding(crate::specs::Head::head))]
 #[inline(always)]
 pub fn write_head(out: &mut Vec<u8>, major: Major, argument: u64) -> Result<(), AllocError>
@@ -70,11 +72,12 @@ pub fn write_head(out: &mut Vec<u8>, major: Major, argument: u64) -> Result<(), 
     out.extend_from_slice(&[first_byte(major, 27), a, b, c, d, e, f, g, h])
 }
 
-/// Adds a text string.
+/// Appends a text string.
 ///
 /// # Errors
 ///
-/// `AllocError` where the vector has no capacity for it and an allocation failed. A beginning of it may have been added, and never all.
+/// `AllocError` if the vector has no capacity for the string and an allocation fails. A beginning
+/// of the string may then have been appended, but never all of it.
 #[inline(always)]
 pub fn write_text(out: &mut Vec<u8>, text: &str) -> Result<(), AllocError>
     ensures ok { OnOk result (Adds (canonical (tree.text text.now)) out.old.items out.new.items) }
@@ -87,11 +90,12 @@ pub fn write_text(out: &mut Vec<u8>, text: &str) -> Result<(), AllocError>
     out.extend_from_slice(text.as_bytes())
 }
 
-/// Adds a byte string.
+/// Appends a byte string.
 ///
 /// # Errors
 ///
-/// `AllocError` where the vector has no capacity for it and an allocation failed. A beginning of it may have been added, and never all.
+/// `AllocError` if the vector has no capacity for the string and an allocation fails. A beginning
+/// of the string may then have been appended, but never all of it.
 #[inline(always)]
 pub fn write_bytes(out: &mut Vec<u8>, bytes: &[u8]) -> Result<(), AllocError>
     ensures ok { OnOk result (Adds (canonical (tree.bytes bytes.now)) out.old.items out.new.items) }
@@ -104,11 +108,12 @@ pub fn write_bytes(out: &mut Vec<u8>, bytes: &[u8]) -> Result<(), AllocError>
     out.extend_from_slice(bytes)
 }
 
-/// Adds a link: tag 42, and a byte string of a zero byte and the CID's bytes.
+/// Appends a link: tag 42, and a byte string of a zero byte and the CID's bytes.
 ///
 /// # Errors
 ///
-/// `AllocError` where the vector has no capacity for it and an allocation failed. A beginning of it may have been added, and never all.
+/// `AllocError` if the vector has no capacity for the link and an allocation fails. A beginning of
+/// the link may then have been appended, but never all of it.
 pub fn write_link(out: &mut Vec<u8>, cid: &Cid) -> Result<(), AllocError>
     ensures ok { OnOk result (Adds (canonical (tree.link (link_of cid.now))) out.old.items
         out.new.items) }
@@ -124,7 +129,7 @@ pub fn write_link(out: &mut Vec<u8>, cid: &Cid) -> Result<(), AllocError>
     cid.write_bytes(out)
 }
 
-// The head of an integer, if its argument has 64 bits.
+// Returns the head of an integer if its argument has at most 64 bits.
 #[inline(always)]
 fn integer_head(number: i128) -> Option<(Major, u64)>
     ensures { MatchOption result (has_argument number ≡ false)
@@ -144,12 +149,12 @@ fn integer_head(number: i128) -> Option<(Major, u64)>
     }
 }
 
-/// Adds an integer from -2^64 to 2^64 - 1. Of any other nothing is added.
+/// Appends an integer from -2^64 to 2^64 - 1. It appends nothing for any other integer.
 ///
 /// # Errors
 ///
-/// `IntegerRange` where the integer isn't in that range, else `Memory` where the vector has no capacity for it and an allocation failed.
-/// Nothing was added.
+/// `IntegerRange` if the integer is not in that range. Otherwise `Memory` if the vector has no
+/// capacity for it and an allocation fails. Nothing is appended in either case.
 #[inline(always)]
 pub fn write_integer(out: &mut Vec<u8>, number: i128) -> Result<(), CborError>
     ensures ok { OnOk result (Adds (canonical (tree.integer number)) out.old.items out.new.items) }

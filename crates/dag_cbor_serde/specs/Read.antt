@@ -1,4 +1,4 @@
--- What a type reads from a block: what it reads from the tree that the block encodes; and why it is not read.
+-- The reading of a type from the tree that a block encodes, and the errors of reading it.
 use Rattle.std.specs.Prelude.{◌≡◌, ◌≢◌, ◌≤◌, ◌-◌, ◌^◌, ℕ, false, List, length, Option, None, IsSomeAnd, option_and_then}
 use Rattle.ipld_tree.specs.Tree.{Tree}
 use Rattle.ipld_tree.specs.Limits.{Within}
@@ -17,7 +17,7 @@ use Rattle.dag_cbor_serde.specs.declared.error.DecodeError.TheVariants.{Memory, 
 abbrev pub reads_block : {C : Type 0} → (Tree → Option C) → List ℕ → Option C
 reads_block reads block = option_and_then reads (tree_of_block block)
 
--- True if the bytes are a block, whose tree is within the limits.
+-- True if the bytes are a block whose tree is within the limits.
 abbrev pub BlockWithin : Limits → List ℕ → Type 0
 BlockWithin limits block = IsSomeAnd (tree_of_block block) (Within limits)
 
@@ -26,9 +26,9 @@ abbrev pub default_limits : Limits
 default_limits = record { levels = 1024; values = 2 ^ 64 - 1 }
 
 -- True if the error is right about the block. `Block`: the bytes are not a block or not within the
--- limits, with the first error and its byte. `Value`: they are a block within the limits, of which
--- the type doesn't read the tree, with an error that the type states. `Memory` and `Read` state
--- nothing of it.
+-- limits, and this is the first error and its byte. `Value`: they are a block within the limits,
+-- the type doesn't read its tree, and the error is one that the type states, other than `Memory`.
+-- `Memory` and `Read` state nothing about the block.
 abbrev pub NotRead : {C : Type 0} → (Tree → Option C) → (Tree → SerdeError → Type 0) → Limits → List ℕ → DecodeError → Type 0
 NotRead reads why limits block Memory = Unit {0}
 NotRead reads why limits block Read = Unit {0}

@@ -1,4 +1,4 @@
-//! A block that values are read from part by part.
+//! The reading of values from a block, part by part.
 
 ghost use Rattle.std.specs.Prelude.{◌≡◌, ◌∷◌, ℕ, List, IfSome, IfNone};
 ghost use Rattle.ipld_tree.specs.Tree.{Tree};
@@ -20,7 +20,7 @@ use ipld_de::{ImageReader, Unread};
 use ipld_tree::Ipld;
 use std::alloc::Global;
 
-// What follows a Null, which is its head alone.
+// Returns the bytes after a Null, which is only a head.
 #[inline(always)]
 fn skip_null(bytes: &[u8]) -> Option<&[u8]>
     ensures some { IfSome result (λ rest. bytes.now ≡ 246 ∷ rest.now) }
@@ -32,13 +32,13 @@ fn skip_null(bytes: &[u8]) -> Option<&[u8]>
     }
 }
 
-// What is left of a block.
+// The rest of a block.
 #[derive(Drop)]
 pub(crate) struct BlockReader<'a> {
     pub(crate) bytes: &'a [u8],
 }
 
-// What follows an integer, a string or bytes, of which no tree need be made.
+// Returns the bytes after an integer, a string or bytes, of which no tree need be made.
 #[inline(always)]
 fn skip_scalar(bytes: &[u8]) -> Option<&[u8]>
     ensures { (levels : ℕ) → IfSome result (λ rest. (t : Tree)

@@ -1,4 +1,4 @@
-//! A block that values are written into part by part.
+//! The writing of values into a block, part by part.
 
 ghost use Rattle.std.specs.Prelude.{◌≡◌};
 ghost use Rattle.dag_cbor_format.specs.Canonical.{canonical};
@@ -16,7 +16,7 @@ use ipld_ser::{ImageWriter, Unwritten};
 use ipld_tree::Ipld;
 use std::alloc::Global;
 
-// A beginning of a block.
+// The beginning of a block.
 #[derive(Drop)]
 pub(crate) struct BlockWriter {
     pub(crate) block: Vec<u8>,
@@ -100,7 +100,7 @@ impl ImageWriter for BlockWriter {
     ghost structs = { canonical_structs };
 }
 
-// Why a part isn't written.
+// Converts the error of writing a part.
 fn unwritten_of(error: CborError) -> Unwritten
     ensures { result ≡ unwritten_of error }
 {

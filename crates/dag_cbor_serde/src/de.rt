@@ -1,4 +1,4 @@
-//! Values read from blocks.
+//! The decoding of values from blocks.
 
 ghost use Rattle.std.specs.Prelude.{◌≡◌, ◌≢◌, ◌⊎◌, ◌≤◌, length, Some, OnOk, IfOk, IfErr, IfSome};
 ghost use Rattle.ipld_codec.specs.Codec.{IsReadOut};
@@ -16,18 +16,27 @@ use ipld_tree::{Ipld, Limits};
 use std::alloc::Global;
 use std::io::BufRead;
 
-/// What a type reads from a block, all of the bytes, of at most [`Limits::default`] levels of lists and maps. For untrusted input.
+/// Decodes a value from a block, which is all of the bytes. It reads at most [`Limits::default`]
+/// levels of lists and maps. It is for untrusted input.
 ///
-/// It allocates what the value holds, where its type and those of its parts read the block part by part ([`Deserialize::read_image`]), and the
-/// tree of what stands under a name that no field has, if that isn't an integer, a string or bytes. Else, and where the block nests more
-/// than 32 levels deep, has its keys in another order than length-first or isn't read, it allocates the block's tree too, and reads the
-/// block again. One that is rejected for the bytes behind the value, or for a name that its own struct lacks, is read once.
+/// If the type and those of its parts read the block part by part ([`Deserialize::read_image`]), it
+/// allocates only the content of the value and the trees of some ignored values. An ignored value
+/// has a name that is not that of a field. Its tree is not made if it is an integer, a string or
+/// bytes.
+///
+/// In these cases it also allocates the block's tree, and reads the block again:
+///
+/// - The type or a type of its parts doesn't read the block part by part.
+/// - The block nests more than 32 levels deep.
+/// - Its keys are not in length-first order.
+/// - It is rejected. Two errors are found without a second reading: bytes after the value, and a
+///   missing field of the value's own struct.
 ///
 /// # Errors
 ///
-/// - `Memory` where an allocation failed.
-/// - `Block` where the bytes are no block, or lists and maps nest deeper than 1,024 levels.
-/// - `Value` where the type doesn't read the block's tree, with the error of [`from_ipld`].
+/// - `Memory` if an allocation fails.
+/// - `Block` if the bytes are not a block, or lists and maps nest deeper than 1,024 levels.
+/// - `Value` if the type rejects the block's tree, with the error of [`from_ipld`].
 ///
 /// `Read` is never returned.
 pub fn from_slice<T: Deserialize>(alloc: Global, bytes: &[u8]) -> Result<T, DecodeError>
@@ -40,14 +49,15 @@ pub fn from_slice<T: Deserialize>(alloc: Global, bytes: &[u8]) -> Result<T, Deco
     from_slice_within(alloc, bytes, &Limits::default())
 }
 
-/// What a type reads from a block, all of the bytes, where the block's tree is within the limits: see [`from_slice`]. The limits are
-/// kept while the bytes are read.
+/// Decodes a value from a block, which is all of the bytes, and whose tree is within the limits:
+/// see [`from_slice`]. The limits are checked while the bytes are read.
 ///
 /// # Errors
 ///
-/// - `Memory` where an allocation failed.
-/// - `Block` where the bytes are no block or pass a limit, with the error of [`decode_slice_within`].
-/// - `Value` where the type doesn't read the block's tree, with the error of [`from_ipld`].
+/// - `Memory` if an allocation fails.
+/// - `Block` if the bytes are not a block or exceed a limit, with the error of
+///   [`decode_slice_within`].
+/// - `Value` if the type rejects the block's tree, with the error of [`from_ipld`].
 ///
 /// `Read` is never returned.
 pub fn from_slice_within<T: Deserialize>(
@@ -69,8 +79,8 @@ pub fn from_slice_within<T: Deserialize>(
     Ok(from_ipld(alloc, tree)?)
 }
 
-// What a type reads part by part from a block that can't have more values than are allowed, since it has no more bytes; or why it isn't
-// read, where that is known without its tree.
+// Reads a value part by part from a block that has no more bytes than values are allowed, so that
+// it can't have more values. Returns the error if it is known without the block's tree.
 fn read_parts<T: Deserialize>(
     alloc: Global,
     bytes: &[u8],
@@ -104,7 +114,7 @@ fn read_parts<T: Deserialize>(
     }
 }
 
-// The error of a block behind whose tree, which ends at this byte, others follow.
+// Returns the error of a block that has bytes after its tree, which ends at this offset.
 fn trailing_error(offset: usize) -> DecodeError
     ensures { result ≡ trailing_at offset }
 {
@@ -114,12 +124,14 @@ fn trailing_error(offset: usize) -> DecodeError
     })
 }
 
-/// Reads the reader to its end, and returns what a type reads from the block that it gave, as of [`from_slice`]. The reader's bytes are
-/// held in memory, so bound these too, as by `take`.
+/// Reads the reader to its end, and decodes a value from its bytes in the same way as
+/// [`from_slice`]. The reader's bytes are held in memory, so limit these too, for example with
+/// `take`.
 ///
 /// # Errors
 ///
-/// `Read` where the reader failed or did not end, else those of [`from_slice`]. How far the reader was read isn't said.
+/// `Read` if the reader fails or does not end. Otherwise those of [`from_slice`]. After an error,
+/// the position of the reader is unspecified.
 pub fn from_reader<T: Deserialize, R: BufRead>(
     alloc: Global,
     reader: &mut R,
@@ -136,12 +148,14 @@ pub fn from_reader<T: Deserialize, R: BufRead>(
     from_reader_within(alloc, reader, &Limits::default())
 }
 
-/// Reads the reader to its end, and returns what a type reads from the block that it gave, where its tree is within the limits, as of
-/// [`from_slice_within`]. The reader's bytes are held in memory, so bound these too, as by `take`.
+/// Reads the reader to its end, and decodes a value from its bytes, whose tree is within the
+/// limits, in the same way as [`from_slice_within`]. The reader's bytes are held in memory, so
+/// limit these too, for example with `take`.
 ///
 /// # Errors
 ///
-/// `Read` where the reader failed or did not end, else those of [`from_slice_within`]. How far the reader was read isn't said.
+/// `Read` if the reader fails or does not end. Otherwise those of [`from_slice_within`]. After an
+/// error, the position of the reader is unspecified.
 pub fn from_reader_within<T: Deserialize, R: BufRead>(
     alloc: Global,
     reader: &mut R,
@@ -159,7 +173,7 @@ pub fn from_reader_within<T: Deserialize, R: BufRead>(
     from_slice_within(alloc, &block, limits)
 }
 
-// All that the reader still has.
+// Reads the reader to its end.
 fn read_block<R: BufRead>(alloc: Global, reader: &mut R) -> Result<Vec<u8>, DecodeError>
     ensures ok { IfOk result (λ bytes. IfSome (R.remaining reader.old) (λ block.
         block ≡ bytes.items)) }

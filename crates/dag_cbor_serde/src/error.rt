@@ -1,4 +1,4 @@
-//! Why a value isn't written as a block, or isn't read from one.
+//! The errors of writing a value as a block, and of reading one.
 
 ghost use Rattle.std.specs.Prelude.{◌≡◌, Some};
 ghost use Rattle.dag_cbor_serde.specs.Errors.{error_of_image, error_of_block, error_of_read, message_of_encode, message_of_decode, printed_encode, printed_decode};
@@ -7,10 +7,10 @@ use dag_cbor::{BlockError, BlockErrorKind, CborError};
 use ipld_ser::SerdeError;
 use std::{error, fmt};
 
-/// Why a value isn't written as a block of DAG-CBOR.
+/// An error of writing a value as a block of DAG-CBOR.
 ///
-/// Its `Display` is the variant's name, or that of the [`SerdeError`] where there is one; with `#`, as in `{error:#}`, it is a sentence that
-/// says what is wrong.
+/// Its `Display` is the variant's name, or for `Value` that of the [`SerdeError`]. With `#`
+/// (`{error:#}`), it is a sentence that describes the error.
 #[derive(Clone, Copy, Debug, PartialEq, Eq)]
 pub enum EncodeError {
     /// An allocation failed.
@@ -23,19 +23,20 @@ pub enum EncodeError {
     Write,
 }
 
-/// Why a value isn't read from a block of DAG-CBOR.
+/// An error of reading a value from a block of DAG-CBOR.
 ///
-/// Its `Display` is the variant's name, or that of the [`BlockError`] or the [`SerdeError`] where there is one; with `#`, as in
-/// `{error:#}`, it is a sentence that says what is wrong.
+/// Its `Display` is the variant's name, or that of the [`BlockError`] or the [`SerdeError`] if
+/// there is one. With `#` (`{error:#}`), it is a sentence that describes the error.
 #[derive(Clone, Copy, Debug, PartialEq, Eq)]
 pub enum DecodeError {
     /// An allocation failed.
     Memory,
     /// The reader failed or did not end.
     Read,
-    /// The bytes are no block, or pass a limit. The kind is never that of a failed allocation or of a reader.
+    /// The bytes are not a block, or exceed a limit. The kind is never that of a failed allocation
+    /// or of a reader.
     Block(BlockError),
-    /// The type doesn't read the block's tree. The error is never [`SerdeError::Memory`].
+    /// The type rejects the block's tree. The error is never [`SerdeError::Memory`].
     Value(SerdeError),
 }
 

@@ -1,4 +1,4 @@
-//! Why a block isn't read as a typed value, and where in its tree.
+//! The explanation why a type rejects a block, with the path in its tree.
 
 ghost use Rattle.std.specs.Prelude.{◌≡◌, ◌≢◌, option_map, IsSomeAnd, IfOk, IfErr, IfSome};
 ghost use Rattle.dag_cbor_format.specs.Block.{tree_of_block};
@@ -12,12 +12,16 @@ use ipld_explain::{Explain, Explanation};
 use ipld_tree::Limits;
 use std::alloc::{AllocError, Global};
 
-/// Where and why a type doesn't read a block, all of the bytes, where the block's tree is within the limits: the path to the value at fault,
-/// what was expected and found there, and the name that is missing. `None` exactly where the type reads the block. The error is the one of
+/// Explains why a type rejects the tree of a block, which is all of the bytes and is within the
+/// limits. The explanation has the path to the invalid value, the value that was expected there,
+/// the kind that was found, and the name that is missing. Its error is the one of
 /// [`DecodeError::Value`].
 ///
-/// It is a second look, for a block that [`from_slice_within`](crate::from_slice_within) has rejected with
-/// [`DecodeError::Value`]. It allocates the block's tree once more, what reading it takes, and the path.
+/// Returns `None` if and only if the type reads the block.
+///
+/// Call it for a block that [`from_slice_within`](crate::from_slice_within) has rejected with
+/// [`DecodeError::Value`]. It allocates the block's tree once more, the memory for reading it, and
+/// the path.
 ///
 /// ```
 /// use dag_cbor_serde::{DecodeError, explain_slice, from_slice};
@@ -33,8 +37,9 @@ use std::alloc::{AllocError, Global};
 ///
 /// # Errors
 ///
-/// - `Memory` where an allocation failed.
-/// - `Block` where the bytes are no block or pass a limit, with the error of [`decode_slice_within`].
+/// - `Memory` if an allocation fails.
+/// - `Block` if the bytes are not a block or exceed a limit, with the error of
+///   [`decode_slice_within`].
 ///
 /// `Read` and `Value` are never returned.
 pub fn explain_slice<T: Explain>(

@@ -1,4 +1,4 @@
-//! What holds of typed values in blocks.
+//! The laws of typed values in blocks.
 
 ghost use Rattle.std.specs.Prelude.{◌≡◌, ℕ, List, Some, IsSome};
 ghost use Rattle.dag_cbor_serde.specs.Read.{reads_block};
@@ -6,8 +6,11 @@ ghost use Rattle.dag_cbor_serde.specs.Written.{block_of_image};
 
 use ipld_de::Lawful;
 
-/// Values round-trip through blocks: of a value that has a block the type reads that block; what is read has the value's image; and it
-/// is the value itself, up to its contents, where the value is plain. A call does nothing.
+/// States that values round-trip through blocks. A call does nothing.
+///
+/// - If a value has a block, the type reads that block.
+/// - The value that is read has the image of the value that was written.
+/// - If the value that was written is plain, the one that is read is the same, up to its contents.
 pub fn round_trip_law<T: Lawful>()
     ensures reads { (v : T) (block : List ℕ) → block_of_image (T.image v) ≡ Some block
         → IsSome (reads_block T.reads block) }

@@ -1,7 +1,9 @@
-//! Typed values written as blocks of DAG-CBOR, and read from them, under the names of Rust's `serde_ipld_dagcbor`.
+//! Typed values as blocks of DAG-CBOR: their encoding and decoding, with the names of Rust's
+//! `serde_ipld_dagcbor`.
 //!
-//! [`to_vec`] writes a value of a type that is [`Serialize`](ipld_ser::Serialize) as the block of its image, and [`from_slice`] reads a
-//! value of a type that is [`Deserialize`](ipld_de::Deserialize) from a block:
+//! [`to_vec`] writes a value of a type that is [`Serialize`](ipld_ser::Serialize) as the block of
+//! its image. [`from_slice`] reads a value of a type that is [`Deserialize`](ipld_de::Deserialize)
+//! from a block:
 //!
 //! ```
 //! use dag_cbor_serde::{from_slice, to_vec};
@@ -10,11 +12,12 @@
 //! let copy: Person = from_slice(alloc, &block)?;
 //! ```
 //!
-//! What is read from the block of a value has the value's image, and is the value itself where it is plain:
-//! [`laws::round_trip_law`].
+//! Reading the block of a value returns a value with the same image. If the value is plain, it
+//! returns the value itself: see [`laws::round_trip_law`].
 //!
-//! [`from_slice`] and [`from_reader`] are for untrusted input: they read at most [`Limits::default`](ipld_tree::Limits) levels of lists
-//! and maps. [`from_slice_within`] and [`from_reader_within`] take limits.
+//! [`from_slice`] and [`from_reader`] are for untrusted input: they read at most
+//! [`Limits::default`](ipld_tree::Limits) levels of lists and maps. [`from_slice_within`] and
+//! [`from_reader_within`] take limits.
 #![tactic(auto)]
 
 mod block_reader;

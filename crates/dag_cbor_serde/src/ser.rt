@@ -1,4 +1,4 @@
-//! Values written as blocks.
+//! The encoding of values as blocks.
 
 ghost use Rattle.std.specs.Prelude.{◌≡◌, ◌≢◌, ◌⊎◌, Some, None, false, OnOk, OnErr, IfOk, IfErr, IfSome};
 ghost use Rattle.ipld_codec.specs.Codec.{Writes};
@@ -18,16 +18,17 @@ use ipld_tree::Ipld;
 use std::alloc::Global;
 use std::io::Write;
 
-/// The block of a value: the canonical encoding of its image, with the keys of each map in length-first order (RFC 8949, section 4.2.3).
+/// Encodes a value as the canonical encoding of its image, with the keys of every map in
+/// length-first order (RFC 8949, section 4.2.3).
 ///
-/// It allocates for the block, and for what [`Serialize::write_image`] of the type allocates. Where a part of the value isn't written, the
-/// image is made too, by which it is seen why.
+/// It allocates the block and the memory that [`Serialize::write_image`] of the type allocates. If
+/// a part of the value is not written, it also makes the image, to find the error.
 ///
 /// # Errors
 ///
-/// - `Memory` where an allocation failed.
-/// - `Value` where the value has no image, with its error.
-/// - `IntegerRange` where an integer in the image is below -2^64 or above 2^64 - 1.
+/// - `Memory` if an allocation fails.
+/// - `Value` if the value has no image, with its error.
+/// - `IntegerRange` if an integer in the image is below -2^64 or above 2^64 - 1.
 ///
 /// `Write` is never returned.
 pub fn to_vec<T: Serialize>(alloc: Global, value: &T) -> Result<Vec<u8>, EncodeError>
@@ -50,7 +51,7 @@ pub fn to_vec<T: Serialize>(alloc: Global, value: &T) -> Result<Vec<u8>, EncodeE
     }
 }
 
-// The block of a value, part by part.
+// Encodes a value part by part.
 fn written_block<T: Serialize>(alloc: Global, value: &T) -> Result<Vec<u8>, Unwritten>
     ensures { IfOk result (λ block. block_of_image (T.image value.now) ≡ Some block.items) }
 {
@@ -61,18 +62,19 @@ fn written_block<T: Serialize>(alloc: Global, value: &T) -> Result<Vec<u8>, Unwr
     Ok(block)
 }
 
-// The capacity with which the vector of a block begins, so that a small one isn't moved while it grows.
+// The initial capacity of a block's vector, in bytes, so that a small block isn't moved while it
+// grows.
 const RESERVED: usize = 128;
 
-/// Writes the block of a value, as of [`to_vec`], and nothing else. The block is held in memory before any of it is written, and it is
-/// written at once. The writer isn't flushed.
+/// Writes the block of a value, the one that [`to_vec`] returns, and nothing more. The block is
+/// held in memory before any of it is written, and it is written at once. The writer isn't flushed.
 ///
 /// # Errors
 ///
-/// - `Value` where the value has no image, with its error, and `IntegerRange` where an integer in the image is below -2^64 or above 2^64 - 1. The
-///   writer is then as it was.
-/// - `Memory` where an allocation failed, also where the writer says that it found no memory, and `Write` where the writer failed. Some
-///   bytes of the block, from the first on, may then have been written, but never all.
+/// - `Value` if the value has no image, with its error, and `IntegerRange` if an integer in the
+///   image is below -2^64 or above 2^64 - 1. The writer is then unchanged.
+/// - `Memory` if an allocation fails, also if the writer reports so, and `Write` if the writer
+///   fails. Some bytes from the front of the block may then have been written, but never all.
 pub fn to_writer<T: Serialize, W: Write>(
     alloc: Global,
     writer: &mut W,
@@ -109,7 +111,7 @@ fn write_block<W: Write>(alloc: Global, writer: &mut W, block: Vec<u8>) -> Resul
     }
 }
 
-// The error of writing a tree as a block, which is one of three.
+// Converts the error of writing a tree as a block, which is one of three.
 fn encode_error(error: CborError) -> EncodeError
     ensures { result ≡ error_of_write error }
 {

@@ -1,4 +1,4 @@
--- How the entries of a tape are written in the order of the canonical block.
+-- The order in which the entries of a tape are written as a canonical block.
 use Rattle.std.specs.Prelude.{◌≡◌, ◌⊎◌, ℕ, suc, List, [], ◌∷◌, ◌++◌, length, map, reverse, true, false, Some, None, Result, Ok, Err}
 use Rattle.std.specs.Borrow.{Bor}
 use Rattle.std.specs.List.Sorted.{IsPermutation}
@@ -17,21 +17,23 @@ use Rattle.dag_cbor_tape.specs.Entry.{kind_of, content_of, written_of}
 use Rattle.dag_cbor_tape.specs.Memory.{IsMemory}
 use Rattle.dag_cbor_tape.specs.Structure.{after_value}
 
--- ---- what a caller is told
+-- ---- the result for a caller
 
--- the canonical block of a block that passes no limit; or a length of an entry would have more than 32 bits; or why the bytes aren't read, and where
+-- True if the result is the canonical block of a block within the limits. For `TooLong`, true if
+-- the block is within the limits, and a length in its tape has more than 32 bits. For `Block`, true
+-- if reading the bytes stops with this error at this offset.
 abbrev pub Canonicalizes : {A : Type 0} → Limits → List ℕ → (A → List ℕ) → Result A TapeError → Type 0
 Canonicalizes limits block view (Ok x) = IsCanonicalOf block (view x) × (limit_passed true limits block ≡ None)
 Canonicalizes limits block view (Err TooLong) = (es : List TapeEntry) × IsTapeOf es block × (all_short es ≡ false) × (limit_passed true limits block ≡ None)
 Canonicalizes limits block view (Err (Block error)) = StopsAt true limits block error.kind error.offset
 
--- ---- what code does
+-- ---- the steps of the writer
 
 -- a key, and the entries of its pair
 abbrev pub Pair : Type 0
 Pair = List ℕ × List TapeEntry
 
--- the entries of a map are those of these pairs, one after another
+-- True if the entries of a map are those of these pairs, one after another.
 abbrev pub Splits : List ℕ → List TapeEntry → List Pair → Type 0
 Splits over es [] = es ≡ []
 Splits over es (p ∷ ps) =
@@ -42,11 +44,12 @@ Splits over es (p ∷ ps) =
 abbrev pub pairs_now : List (Bor (List ℕ) × Bor (List TapeEntry)) → List Pair
 pairs_now ps = map (λ p. (p.0.now, p.1.now)) ps
 
--- what is still to be written, the next first
+-- the entries that are still to be written, the next first
 abbrev pub to_do : List (Bor (List TapeEntry)) → List (List TapeEntry)
 to_do ranges = reverse (map (λ r. r.now) ranges)
 
--- behind the entry of a map come its pairs in order, and then what follows it
+-- True if the pairs of a map, in length-first order of their keys, are to be written next, and then
+-- the entries after the map.
 pub record Enters (over : List ℕ) (e : TapeEntry) (es : List TapeEntry) (before after : List (List TapeEntry)) : Type 0 where
   pub inner : List TapeEntry
   pub behind : List TapeEntry
@@ -59,16 +62,17 @@ pub record Enters (over : List ℕ) (e : TapeEntry) (es : List TapeEntry) (befor
   pub in_order : AreInOrder (map (λ p. p.0) ordered)
   pub next : after ≡ map (λ p. p.1) ordered ++ (behind ∷ before)
 
--- the entries behind a map aren't those of pairs
+-- True if the entries that a map spans are not those of pairs.
 abbrev pub NoPairs : List ℕ → TapeEntry → List TapeEntry → Type 0
 NoPairs over e es = (inner behind : List TapeEntry) (ps : List Pair) → es ≡ inner ++ behind → e.len ≡ suc (length inner) → Splits over inner ps → ⊥
 
--- what comes next behind an entry of the kind
+-- True if `after` are the entries to be written after an entry of this kind: for a map its pairs in
+-- order, and then the entries after it.
 abbrev pub Goes : List ℕ → EntryKind → TapeEntry → List TapeEntry → List (List TapeEntry) → List (List TapeEntry) → Type 0
 Goes over kind.Map e es before after = Enters over e es before after
 Goes over k e es before after = after ≡ es ∷ before
 
--- an entry is written, and what is to be written next comes first
+-- True if an entry was written, and `after` are the entries to be written after it.
 pub record Steps (over : List ℕ) (e : TapeEntry) (es : List TapeEntry) (out_before out_after : List ℕ) (before after : List (List TapeEntry)) : Type 0 where
   pub kind : EntryKind
   pub content : List ℕ
@@ -77,7 +81,9 @@ pub record Steps (over : List ℕ) (e : TapeEntry) (es : List TapeEntry) (out_be
   pub appended : out_after ≡ out_before ++ content
   pub goes : Goes over kind e es before after
 
--- why an entry isn't written, of a tape or of none
+-- True if the error is that of a failed allocation or of writing the entry, or the kind of the
+-- entry is unknown. Also true if the entry is that of a map, and the entries that it spans are not
+-- those of pairs.
 abbrev pub NoStep : List ℕ → TapeEntry → List TapeEntry → EncodeErrorKind → Type 0
 NoStep over e es error =
     IsMemory error ⊎ ((kind_of e.kind ≡ None) ⊎ (((k : EntryKind) × (kind_of e.kind ≡ Some k) × (written_of over k e ≡ Err error))

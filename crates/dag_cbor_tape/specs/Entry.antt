@@ -1,4 +1,4 @@
--- What an entry of a tape is by itself, and what is written of it.
+-- The entries of a tape by themselves, and their encodings.
 use Rattle.std.specs.Prelude.{ℕ, suc, ◌+◌, ◌==◌, ◌&&◌, nat_lt, if◌then◌else◌, List, ◌∷◌, ◌++◌, length, take, drop, Option, Some, None, Result, Ok, Err}
 use Rattle.std.specs.Str.{is_utf8}
 use Rattle.ipld_cid.specs.declared.error.CidError.{CidError}
@@ -14,7 +14,7 @@ use Rattle.dag_cbor_tape.specs.declared.error.EncodeErrorKind.TheVariants as wro
 use Rattle.dag_cbor_tape.specs.declared.entry.EntryKind.{EntryKind}
 use Rattle.dag_cbor_tape.specs.declared.entry.EntryKind.TheVariants as kind
 
--- the kind of a number
+-- the kind with this number, if there is one
 unfoldable pub kind_of : ℕ → Option EntryKind
 kind_of n =
     if n == 0 then Some kind.Null
@@ -31,46 +31,46 @@ kind_of n =
     else if n == 11 then Some kind.Key
     else None
 
--- the bytes of the data to which an entry refers, if they are within
+-- the bytes of the data to which an entry refers, if they are within the data
 unfoldable pub content_of : List ℕ → TapeEntry → Option (List ℕ)
 content_of bytes e = if nat_lt (length bytes) (e.value + e.len) then None else Some (take e.len (drop e.value bytes))
 
--- ---- what is written
+-- ---- the encoding of an entry
 
--- of a value that is its kind alone
+-- the encoding of null or a bool, if the entry's length and value are 0
 abbrev pub simple_of : ℕ → TapeEntry → Result (List ℕ) EncodeErrorKind
 simple_of n e = if e.len == 0 && e.value == 0 then Ok (head major.Simple n) else Err wrong.Fields
 
--- of an integer
+-- the encoding of an integer, if the entry's length is 0
 abbrev pub number_of : Major → TapeEntry → Result (List ℕ) EncodeErrorKind
 number_of m e = if e.len == 0 then Ok (head m e.value) else Err wrong.Fields
 
--- of the bytes of a float
+-- the encoding of a float with these bytes, if it is finite
 abbrev pub float_of : Option (List ℕ) → Result (List ℕ) EncodeErrorKind
 float_of None = Err wrong.Content
 float_of (Some b) = if is_finite b then Ok (251 ∷ b) else Err wrong.Float
 
--- of a string or a key
+-- the encoding of a string or a key with these bytes, if they are UTF-8
 abbrev pub text_of : Option (List ℕ) → Result (List ℕ) EncodeErrorKind
 text_of None = Err wrong.Content
 text_of (Some s) = if is_utf8 s then Ok (head major.Text (length s) ++ s) else Err wrong.Utf8
 
--- of bytes
+-- the encoding of a byte string
 abbrev pub bytes_of : Option (List ℕ) → Result (List ℕ) EncodeErrorKind
 bytes_of None = Err wrong.Content
 bytes_of (Some b) = Ok (head major.Bytes (length b) ++ b)
 
--- of the bytes of a CID, if they are
+-- the encoding of a link with these bytes, if they are a CID
 abbrev pub cid_of : List ℕ → Result Link CidError → Result (List ℕ) EncodeErrorKind
 cid_of b (Ok cid) = Ok (head major.Tag 42 ++ (head major.Bytes (suc (length b)) ++ 0 ∷ b))
 cid_of b (Err error) = Err (wrong.Cid error)
 
--- of a link
+-- the encoding of a link, if its content is a CID
 abbrev pub link_of : Option (List ℕ) → Result (List ℕ) EncodeErrorKind
 link_of None = Err wrong.Content
 link_of (Some b) = cid_of b (read_cid 64 b)
 
--- of an entry of this kind: of a list and a map their heads
+-- the encoding of an entry of this kind, and for a list or a map only its head
 unfoldable pub written_of : List ℕ → EntryKind → TapeEntry → Result (List ℕ) EncodeErrorKind
 written_of bytes kind.Null e = simple_of 22 e
 written_of bytes kind.False e = simple_of 20 e

@@ -1,4 +1,4 @@
--- What the errors print.
+-- The texts that the errors print.
 use Rattle.std.specs.Prelude.{ℕ, Bool, List, ◌++◌, codes, Some, None, if◌then◌else◌}
 use Rattle.std.specs.declared.option.Option.{Option}
 use Rattle.std.specs.Fmt.{decimal, ◌++?◌}
@@ -20,7 +20,7 @@ kind_name (Cid error) = codes "Cid"
 kind_name Float = codes "Float"
 kind_name DuplicateKey = codes "DuplicateKey"
 
--- what is wrong, in a sentence; that of bytes that are no CID isn't said
+-- the sentence of a kind, or nothing for the error of a CID
 abbrev pub kind_sentence : EncodeErrorKind → Option (List ℕ)
 kind_sentence Memory = Some (codes "out of memory")
 kind_sentence Missing = Some (codes "an entry is missing")
@@ -34,18 +34,18 @@ kind_sentence (Cid error) = None
 kind_sentence Float = Some (codes "a float is NaN or an infinity")
 kind_sentence DuplicateKey = Some (codes "a key stands in its map before")
 
--- what is printed: the sentence where `#` is among the options, as in `{kind:#}`, and else the name
+-- the sentence if `#` is among the options (`{kind:#}`), and otherwise the name
 abbrev pub printed_kind : Bool → EncodeErrorKind → Option (List ℕ)
 printed_kind alternate kind = if alternate then kind_sentence kind else Some (kind_name kind)
 
--- behind it, the entry at fault
+-- the text after it: the invalid entry
 abbrev pub place_of : ℕ → List ℕ
 place_of entry = codes " at entry " ++ decimal entry
 
--- what an error prints by `{}`
+-- the text that an error prints by `{}`
 abbrev pub error_name : EncodeError → List ℕ
 error_name error = kind_name error.kind ++ place_of error.entry
 
--- what it prints under options, by whether `#` is among them
+-- the text that an error prints, by whether `#` is among the options
 abbrev pub printed : Bool → EncodeError → Option (List ℕ)
 printed alternate error = printed_kind alternate error.kind ++? Some (place_of error.entry)

@@ -11,6 +11,6 @@ IsMemory kind = kind ≡ Memory
 abbrev pub IsMemoryFault : Fault → Type 0
 IsMemoryFault f = f.kind ≡ Memory
 
--- True if an allocation failed, and the entry that is named is at most the number of the entries.
+-- True if the error is that of a failed allocation, and its entry is at most the number of entries.
 abbrev pub IsOutOfMemory : ℕ → EncodeError → Type 0
 IsOutOfMemory len error = (error.kind ≡ Memory) × (error.entry ≤ len)

@@ -1,4 +1,4 @@
-//! A block rewritten as the canonical one.
+//! The rewriting of a block as the canonical one.
 
 ghost use Rattle.std.specs.Prelude.{◌≡◌, ℕ, [], ◌⊎◌, ◌∷◌, ◌++◌, List, IfOk, IfErr, OnOk, map, MatchResult};
 ghost use Rattle.std.specs.List.Sorted.{IsPermutation};
@@ -21,7 +21,7 @@ use std::alloc::{AllocError, Global};
 // The bytes of a key, and the entries of its pair.
 type Pair<'a> = (&'a [u8], &'a [TapeEntry]);
 
-// The pairs of a map, of the entries behind its own.
+// Returns the pairs of a map, from the entries after its own.
 fn pairs_of<'a>(
     alloc: Global,
     block: &'a [u8],
@@ -49,7 +49,7 @@ fn pairs_of<'a>(
     Ok(pairs)
 }
 
-// Puts pairs before what is still to be written, the first of them first.
+// Puts pairs before the entries that are still to be written, the first pair first.
 fn push_pairs<'a>(
     mut pairs: Vec<Pair<'a>>,
     todo: &mut Vec<&'a [TapeEntry]>,
@@ -63,7 +63,7 @@ fn push_pairs<'a>(
     Ok(())
 }
 
-// Goes into a map, whose pairs are written in order, and then what follows it.
+// Enters a map: its pairs are written in order, and then the entries after the map.
 #[inline(never)]
 fn enter_map<'a>(
     alloc: Global,
@@ -91,7 +91,7 @@ fn enter_map<'a>(
     }
 }
 
-// Writes an entry, and puts what comes next before what is still to be written.
+// Writes an entry, and puts the entries that come next before those that are still to be written.
 #[inline(always)]
 fn write_next<'a>(
     alloc: Global,
@@ -118,7 +118,7 @@ fn write_next<'a>(
     }
 }
 
-// Writes the canonical block of what these entries describe to a vector that is empty.
+// Writes the canonical block of the item that these entries describe to an empty vector.
 pub(crate) fn write_ordered(
     alloc: Global,
     mut out: Vec<u8>,
@@ -144,11 +144,11 @@ pub(crate) fn write_ordered(
     Ok(out)
 }
 
-/// The canonical block of what a block encodes, floats among it: the pairs of each map in length-first order of their keys, and all else as it
-/// stands. For untrusted input.
+/// Rewrites a block, which may have floats, in its canonical form. The pairs of every map are in
+/// length-first order of their keys, and everything else is unchanged. It is for untrusted input.
 ///
-/// It reads the bytes once, in a loop, and makes no tree. It allocates the block's tape, the canonical block, which is as long as the block, and
-/// some 32 bytes for each pair of a map.
+/// It reads the bytes as [`read_tape`] does, and makes no tree. It allocates the block's tape, the
+/// canonical block, which is as long as the block, and about 32 bytes for every pair of a map.
 ///
 /// # Errors
 ///

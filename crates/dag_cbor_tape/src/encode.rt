@@ -1,4 +1,4 @@
-//! The block of a tape.
+//! The encoding of a tape as a block.
 
 ghost use Rattle.std.specs.Prelude.{◌≡◌, ◌⊎◌, ◌<◌, ◌^◌, ℕ, List, [], suc, length, IfOk, IfErr, Ok, Err, MatchResult};
 ghost use Rattle.ipld_tokens.specs.Item.{Item};
@@ -14,10 +14,12 @@ use crate::structure::{check_spans, check_values};
 use dag_cbor_blocks::tape::TapeEntry;
 use std::alloc::Global;
 
-// How many bytes of capacity are reserved for the head of each entry. Most take one or two, and those of numbers up to nine.
+// The number of bytes of capacity that are reserved for the head of each entry. Most heads take one
+// or two bytes, and those of numbers take up to nine.
 const HEAD_SIZE: usize = 4;
 
-// Writes what is written of an entry, of so many that are left with it, before those behind it, and says whether it has its pairs in turn.
+// Writes the encoding of an entry, and returns whether its pairs are in length-first order. `left`
+// is the number of entries from this one to the end, and `following` are the entries after it.
 #[tactic(auto, unfolding(crate::specs::Encoding::encoded))]
 fn write_next(
     alloc: Global,
@@ -44,7 +46,8 @@ fn write_next(
     }
 }
 
-// An empty vector, with capacity for the block of so many entries, over data of so many bytes.
+// Returns an empty vector, with capacity for the block of `entries` entries over `contents` bytes
+// of data.
 fn with_capacity_for(alloc: Global, entries: usize, contents: usize) -> Result<Vec<u8>, EncodeError>
     ensures empty { IfOk result (λ out. out.items ≡ []) }
     ensures err { IfErr result (IsOutOfMemory entries) }
@@ -61,8 +64,8 @@ fn with_capacity_for(alloc: Global, entries: usize, contents: usize) -> Result<V
     }
 }
 
-// Writes the block of entries that are one value, which public clauses say more of: in the order of the tape, and once more where a map has
-// another than its block.
+// Writes the block of entries that are one value: in the order of the tape, and again if a map has
+// another order in its block. The public function has more clauses.
 fn write_block(
     alloc: Global,
     entries: &[TapeEntry],
@@ -101,17 +104,22 @@ fn write_block(
     }
 }
 
-/// The canonical block of the value that entries describe, over the data to which they refer. The pairs of a map may come in any order. For
-/// untrusted input.
+/// Encodes the value that the entries describe, over the data to which they refer, and returns its
+/// canonical block. The pairs of a map may come in any order. It is for untrusted input.
 ///
-/// It goes over the entries once, in a loop, looks at each once more where it stands in a list or a map, and makes no tree. It allocates
-/// the block alone, at first as many bytes as the data have and four for each entry. Where the pairs of a map don't come in length-first
-/// order of their keys, it goes over the entries again, and allocates some 32 bytes for each pair of a map beside.
+/// It reads the entries once, in a loop, and those in a list or a map once more. It makes no tree.
+/// It allocates only the block, at first as many bytes as the data have and four for every entry.
+/// If the pairs of a map are not in length-first order of their keys, it reads the entries again,
+/// and also allocates about 32 bytes for every pair of a map.
 ///
 /// # Errors
 ///
-/// The first entry at fault, and what is wrong with it: of the entries in their order, of each first what the list or the map spans that it
-/// is, and the keys of this: the first that is one of those before it. `Memory` where an allocation failed.
+/// The first error, with the index of its entry. First, the tape is checked to be one value. Then
+/// the entries are checked in their order. For a list or a map, the values or pairs that it spans
+/// are checked first. The keys of a map have to differ, and `DuplicateKey` is at the first key that
+/// repeats an earlier one.
+///
+/// `Memory` if an allocation fails.
 pub fn encode_tape(
     alloc: Global,
     entries: &[TapeEntry],

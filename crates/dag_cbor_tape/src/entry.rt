@@ -1,4 +1,4 @@
-//! An entry of a tape by itself: its kind, its content, and what is written of it.
+//! A single entry of a tape: its kind, its content, and its encoding.
 
 ghost use Rattle.std.specs.Prelude.{◌≡◌, option_map};
 ghost use Rattle.std.specs.Str.{is_utf8};
@@ -20,7 +20,7 @@ const LINK_TAG: u64 = 42;
 // The head of a float of 64 bits.
 const FLOAT: u8 = 251;
 
-// What an entry is of.
+// The kind of an entry.
 #[derive(Clone, Copy)]
 pub(crate) enum EntryKind {
     Null,
@@ -37,7 +37,7 @@ pub(crate) enum EntryKind {
     Key,
 }
 
-// The kind of a number, if there is one.
+// Returns the kind that a number represents, if there is one.
 #[tactic(auto, unfolding(crate::specs::Entry::kind_of))]
 #[inline(always)]
 pub(crate) fn kind_of(number: u32) -> Option<EntryKind>
@@ -60,7 +60,7 @@ pub(crate) fn kind_of(number: u32) -> Option<EntryKind>
     }
 }
 
-// The bytes of the data to which an entry refers, if they are within.
+// Returns the bytes of the data to which an entry refers, if they are within the data.
 #[tactic(auto, unfolding(crate::specs::Entry::content_of))]
 #[inline(always)]
 pub(crate) fn content_of<'a>(contents: &'a [u8], entry: TapeEntry) -> Option<&'a [u8]>
@@ -75,7 +75,8 @@ pub(crate) fn content_of<'a>(contents: &'a [u8], entry: TapeEntry) -> Option<&'a
     Some(&contents[offset..offset + len])
 }
 
-// Whether eight bytes are those of a float that is finite, and no NaN: the eleven bits of the exponent aren't all ones.
+// Returns whether eight bytes are those of a finite float, not of NaN or an infinity: the eleven
+// bits of the exponent aren't all ones.
 #[inline(always)]
 fn is_finite(content: &[u8]) -> bool
     ensures { result ≡ floats.is_finite content.now }
@@ -86,7 +87,7 @@ fn is_finite(content: &[u8]) -> bool
     }
 }
 
-// Writes a value that is its kind alone.
+// Writes a value that has only a kind.
 #[inline(always)]
 fn write_simple(out: &mut Vec<u8>, value: u64, entry: TapeEntry) -> Result<(), EncodeErrorKind>
     ensures { Adds IsMemory (of_entry.simple_of value entry) out.old.items result out.new.items }
@@ -144,7 +145,7 @@ fn write_text(out: &mut Vec<u8>, content: Option<&[u8]>) -> Result<(), EncodeErr
     Ok(())
 }
 
-// Whether bytes are UTF-8.
+// Returns whether bytes are UTF-8.
 #[inline(always)]
 fn is_text(content: &[u8]) -> bool
     ensures { result ≡ is_utf8 content.now }
@@ -188,8 +189,8 @@ fn write_link(out: &mut Vec<u8>, content: Option<&[u8]>) -> Result<(), EncodeErr
     Ok(())
 }
 
-// Writes what is written of an entry of this kind. Entries that are written in the order of the tape, and those that are sorted, have a copy of
-// it each, which is inlined where it is called.
+// Writes the encoding of an entry of this kind. Entries in the order of the tape and entries that
+// are sorted have a copy of this function each, which is inlined at its call.
 #[tactic(auto, unfolding(crate::specs::Entry::written_of))]
 #[inline(always)]
 pub(crate) fn write_entry<const SORTED: bool>(

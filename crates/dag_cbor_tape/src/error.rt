@@ -1,4 +1,4 @@
-//! Why no block is written of a tape.
+//! The errors of writing a block from a tape.
 
 ghost use Rattle.std.specs.Prelude.{◌≡◌};
 ghost use Rattle.std.specs.Fmt.{DisplaysStyledOnOk, WritesOnOk, WritesStyledOnOk};
@@ -10,37 +10,40 @@ use itoa::Buffer;
 use std::alloc::AllocError;
 use std::{error, fmt};
 
-/// What is wrong with an entry of a tape.
+/// The kind of an [`EncodeError`]: the error in an entry of a tape.
 ///
-/// Its `Display` is the variant's name, without its content; with `#`, as in `{error:#}`, it is a sentence that says what is wrong.
+/// Its `Display` is the variant's name, without its content. With `#` (`{error:#}`), it is a
+/// sentence that describes the error.
 #[derive(Clone, Copy, Debug, PartialEq, Eq)]
 pub enum EncodeErrorKind {
     /// An allocation failed.
     Memory,
-    /// There is no entry where a value or a key is to stand.
+    /// The entry of a value or of a key is missing.
     Missing,
     /// More entries follow than the list, the map or the tape has values or pairs.
     LeftOver,
-    /// The kind is none, or that of a key where a value is to stand, or another than that of a key where a key is to stand.
+    /// The kind is unknown, is that of a key if a value has to come, or is not that of a key if a
+    /// key has to come.
     Kind,
-    /// A list or a map spans no entry, or more than there are in what it stands in.
+    /// A list or a map spans zero entries, or more entries than the list, map or tape around it
+    /// has.
     Span,
-    /// The length or the value isn't one that an entry of its kind has.
+    /// The length or the value is invalid for the kind of the entry.
     Fields,
     /// The content isn't within the data.
     Content,
     /// A string or a key isn't UTF-8.
     Utf8,
-    /// The bytes of a link are no CID.
+    /// The bytes of a link are not a CID.
     Cid(CidError),
     /// A float is NaN or an infinity.
     Float,
-    /// A key is one of those before it in its map.
+    /// A key repeats an earlier key of its map.
     DuplicateKey,
 }
 
 impl EncodeErrorKind {
-    // What is wrong, in a sentence.
+    // Writes a sentence that describes the error.
     fn describe<W: fmt::Write>(&self, f: &mut fmt::Formatter<W>) -> fmt::Result
         ensures { DisplaysStyledOnOk W.write_str_gives f.old result (kind_sentence self.now) f.new }
     {
@@ -102,14 +105,15 @@ impl From<AllocError> for EncodeErrorKind {
     }
 }
 
-/// Why no block is written of a tape, and which entry is at fault.
+/// An error of writing a block from a tape, with the index of its entry.
 ///
-/// Its `Display` is that of the kind, also with `#`, then ` at entry `, and the index.
+/// Its `Display` is that of the kind, also with `#`, then ` at entry ` and the index.
 #[derive(Clone, Copy, Debug, PartialEq, Eq)]
 pub struct EncodeError {
-    /// Why.
+    /// The kind of the error.
     pub kind: EncodeErrorKind,
-    /// The index of the entry, or that at which one is missing. Where an allocation failed it is any, at most the number of the entries.
+    /// The index of the entry, or the index at which one is missing. If an allocation failed, it is
+    /// any index, at most the number of entries.
     pub entry: usize,
 }
 
@@ -128,7 +132,7 @@ impl fmt::Display for EncodeError {
     }
 }
 
-// Writes the entry at fault, behind what is wrong with it.
+// Writes the index of the entry, after the kind of the error.
 fn write_place<W: fmt::Write>(f: &mut fmt::Formatter<W>, entry: usize) -> fmt::Result
     ensures writes { WritesOnOk W.write_str_gives f.old result (place_of entry) f.new }
     ensures styled { WritesStyledOnOk W.write_str_gives f.old result (place_of entry) f.new }
@@ -139,7 +143,7 @@ fn write_place<W: fmt::Write>(f: &mut fmt::Formatter<W>, entry: usize) -> fmt::R
 
 impl error::Error for EncodeError {}
 
-// What is wrong, and how many entries there are from the one at fault on.
+// The kind of an error, and the number of entries from the invalid one to the end.
 #[derive(Clone, Copy)]
 pub(crate) struct Fault {
     pub(crate) kind: EncodeErrorKind,
@@ -147,7 +151,7 @@ pub(crate) struct Fault {
 }
 
 impl Fault {
-    // The error of a tape of so many entries.
+    // Returns the error of a tape of `len` entries.
     pub(crate) fn in_tape(self, len: usize) -> EncodeError
         ensures { result ≡ error_of len self }
     {

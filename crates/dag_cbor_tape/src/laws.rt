@@ -1,4 +1,4 @@
-//! What holds of every tape.
+//! The laws of every tape.
 
 ghost use Rattle.std.specs.Prelude.{◌≡◌, ℕ, true, List, Ok};
 ghost use Rattle.ipld_cid.specs.Multihash.{IsBytes};
@@ -8,9 +8,9 @@ ghost use Rattle.dag_cbor_tape.specs.Encoding.{block_of};
 ghost use Rattle.dag_cbor_format.specs.WithFloats.{EncodesIn};
 ghost use Rattle.dag_cbor_tape.specs.Describes.{Describes, AreNarrow};
 
-/// What holds of every tape. A call does nothing.
+/// States the laws of every tape. A call does nothing.
 ///
-/// - A block is written just where the entries describe an item, and is the block of that item.
+/// - A block is written if and only if the entries describe an item. It is the block of that item.
 /// - The block is one of DAG-CBOR with floats, and encodes that item.
 pub fn tape_law()
     ensures written_is_described { (over : List ℕ) (entries : List TapeEntry) (block : List ℕ)

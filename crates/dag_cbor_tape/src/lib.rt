@@ -1,8 +1,9 @@
-//! Blocks of DAG-CBOR written of a tape: of an array of entries, and of the bytes that these refer to.
+//! Blocks of DAG-CBOR, written from a tape: an array of entries, and the bytes to which they refer.
 //!
-//! A tape has an entry for each value and for each key of a map, as [`dag_cbor_blocks::tape`] lists those of a block. Here the content of a string,
-//! of bytes, a link, a float or a key stands in a buffer of data, at the offset that the entry says. [`encode_tape`] writes the canonical
-//! block of the one value that the entries describe:
+//! A tape has an entry for every value and for every key of a map, in the same way as
+//! [`dag_cbor_blocks::tape`] lists those of a block. Here the content of a string, bytes, a link, a
+//! float or a key is in a buffer of data, at the offset that the entry has. [`encode_tape`] writes
+//! the canonical block of the one value that the entries describe:
 //!
 //! ```rust
 //! use dag_cbor_tape::{EncodeError, encode_tape};
@@ -16,9 +17,10 @@
 //! }
 //! ```
 //!
-//! The pairs of a map may come in any order, and are written in length-first order of their keys (RFC 8949, section 4.2.3). An
-//! [`EncodeError`] says what is wrong, and with which entry. [`canonicalize`] rewrites a block whose pairs come in another order. No call
-//! recurses.
+//! The pairs of a map may come in any order. They are written in length-first order of their keys
+//! (RFC 8949, section 4.2.3). An [`EncodeError`] has the kind of the error, and the index of its
+//! entry. [`canonicalize`] rewrites a block whose pairs are in another order. [`encode_tape`]
+//! doesn't recurse, and [`canonicalize`] recurses for at most 32 levels.
 #![tactic(auto)]
 
 mod canonical;

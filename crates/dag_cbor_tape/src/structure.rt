@@ -1,4 +1,4 @@
-//! Which entries follow one another in a tape.
+//! The order of the entries of a tape.
 
 ghost use Rattle.std.specs.Prelude.{◌≡◌, ◌⊎◌, ◌<◌, ◌≤◌, suc, length, option_map, true, [], IfOk, IfErr, None, Ok, Err, MatchResult};
 ghost use Rattle.dag_cbor_format.specs.Canonical.{goes_first};
@@ -17,7 +17,7 @@ use std::alloc::Global;
 use std::cmp::Ordering;
 use std::collections::BTreeSet;
 
-// How many entries a list or a map spans.
+// Returns how many entries a list or a map spans.
 #[inline(always)]
 fn spanned_entries(entry: TapeEntry) -> Result<usize, EncodeErrorKind>
     ensures { result ≡ of_tape.spanned entry }
@@ -28,7 +28,7 @@ fn spanned_entries(entry: TapeEntry) -> Result<usize, EncodeErrorKind>
     Ok(entry.len as usize)
 }
 
-// How many entries a value spans.
+// Returns how many entries a value spans.
 #[inline(always)]
 fn span_of(entry: TapeEntry) -> Result<usize, EncodeErrorKind>
     ensures exact { result ≡ of_tape.span_in (of_entry.kind_of entry.kind) entry }
@@ -42,7 +42,7 @@ fn span_of(entry: TapeEntry) -> Result<usize, EncodeErrorKind>
     }
 }
 
-// The entries behind the value with which they begin.
+// Returns the entries after the value with which they begin.
 #[tactic(auto, unfolding(crate::specs::Structure::after_value))]
 #[inline(always)]
 pub(crate) fn skip_value(entries: &[TapeEntry]) -> Result<&[TapeEntry], Fault>
@@ -74,7 +74,7 @@ pub(crate) fn skip_value(entries: &[TapeEntry]) -> Result<&[TapeEntry], Fault>
     }
 }
 
-// That nothing is left.
+// Checks that no entry is left.
 #[inline(always)]
 fn check_end(entries: &[TapeEntry]) -> Result<(), Fault>
     ensures exact { result ≡ of_tape.ends entries.now }
@@ -89,7 +89,7 @@ fn check_end(entries: &[TapeEntry]) -> Result<(), Fault>
     })
 }
 
-// That the entries are so many values, one after another.
+// Checks that the entries are `count` values, one after another.
 pub(crate) fn check_values(count: u64, entries: &[TapeEntry]) -> Result<(), Fault>
     ensures exact { result ≡ of_tape.values count entries.now }
     ensures within { IfErr result (λ fault. fault.left ≤ length entries.now) }
@@ -103,7 +103,7 @@ pub(crate) fn check_values(count: u64, entries: &[TapeEntry]) -> Result<(), Faul
     check_end(rest)
 }
 
-// Whether a key comes after another in length-first order.
+// Returns whether a key comes after another in length-first order.
 #[inline(always)]
 fn comes_after(key: &[u8], other: &[u8]) -> bool
     ensures { result ≡ goes_first other.now key.now }
@@ -115,7 +115,7 @@ fn comes_after(key: &[u8], other: &[u8]) -> bool
     }
 }
 
-// Whether a key comes after the one before it, if there is one.
+// Returns whether a key comes after the one before it, if there is one.
 #[inline(always)]
 fn comes_next(last: Option<&[u8]>, key: &[u8]) -> bool
     ensures { result ≡ follows (option_map (λ last. last.now) last.entry) key.now }
@@ -126,7 +126,7 @@ fn comes_next(last: Option<&[u8]>, key: &[u8]) -> bool
     }
 }
 
-// The bytes of an entry that is a key.
+// Returns the bytes of an entry, which has to be a key.
 #[inline(always)]
 fn key_of<'a>(contents: &'a [u8], entry: TapeEntry) -> Result<&'a [u8], EncodeErrorKind>
     ensures { MatchResult result
@@ -142,7 +142,7 @@ fn key_of<'a>(contents: &'a [u8], entry: TapeEntry) -> Result<&'a [u8], EncodeEr
     }
 }
 
-// The key with which the entries begin, and those behind it.
+// Returns the key with which the entries begin, and the entries after it.
 #[tactic(auto, unfolding(crate::specs::Structure::after_key))]
 #[inline(always)]
 fn split_key<'a, 'b>(
@@ -171,7 +171,8 @@ fn split_key<'a, 'b>(
     }
 }
 
-// Whether the keys of so many pairs ascend, so that they differ: what is wrong before the first that doesn't come after the one before it.
+// Returns whether the keys of `count` pairs ascend, so that they differ. Otherwise it checks only
+// the entries before the first key that does not come after the one before it.
 fn pairs_ascend(contents: &[u8], count: u64, entries: &[TapeEntry]) -> Result<bool, Fault>
     ensures exact { result ≡ of_tape.ascending contents.now count None entries.now }
     ensures within { IfErr result (λ fault. fault.left ≤ length entries.now) }
@@ -192,7 +193,7 @@ fn pairs_ascend(contents: &[u8], count: u64, entries: &[TapeEntry]) -> Result<bo
     Ok(true)
 }
 
-// That the entries are so many pairs, whose keys differ.
+// Checks that the entries are `count` pairs whose keys differ.
 #[inline(never)]
 fn check_any_pairs(
     alloc: Global,
@@ -218,7 +219,8 @@ fn check_any_pairs(
     check_end(rest)
 }
 
-// Adds a key to those before it, none of which it is, of an entry with which so many are left.
+// Adds a key to those before it, from which it has to differ. `left` is the number of entries from
+// the key to the end.
 fn add_key<'a>(seen: &mut BTreeSet<&'a [u8]>, key: &'a [u8], left: usize) -> Result<(), Fault>
     ensures added { IfOk result (λ done. (of_tape.is_new (keys_now seen.old.keys) key.entry.now left
         ≡ Ok done) × (keys_now seen.new.keys ≡ and_key key.entry.now (keys_now seen.old.keys))) }
@@ -239,7 +241,7 @@ fn add_key<'a>(seen: &mut BTreeSet<&'a [u8]>, key: &'a [u8], left: usize) -> Res
     }
 }
 
-// That the entries are so many pairs, whose keys differ, and whether these ascend.
+// Checks that the entries are `count` pairs whose keys differ, and returns whether the keys ascend.
 fn check_pairs(
     alloc: Global,
     contents: &[u8],
@@ -260,7 +262,8 @@ fn check_pairs(
     Ok(false)
 }
 
-// How many entries follow that of a list or a map within it, of so many that follow.
+// Returns how many of the `following` entries are within the list or map of this entry, if there
+// are enough.
 #[inline(always)]
 pub(crate) fn inner_count(entry: TapeEntry, following: usize) -> Option<usize>
     ensures { result ≡ of_tape.inner_count entry following }
@@ -271,7 +274,8 @@ pub(crate) fn inner_count(entry: TapeEntry, following: usize) -> Option<usize>
     Some(entry.len as usize - 1)
 }
 
-// That a list spans what it says, of so many entries that are left with it, and of those behind it.
+// Checks the entries that a list spans. `left` is the number of entries from its own to the end,
+// and `following` are the entries after it.
 fn check_list(left: usize, entry: TapeEntry, following: &[TapeEntry]) -> Result<(), Fault>
     requires { left ≡ suc (length following.now) }
     ensures { result ≡ of_tape.within entry following.now (of_tape.values entry.value)
@@ -292,8 +296,9 @@ fn check_list(left: usize, entry: TapeEntry, following: &[TapeEntry]) -> Result<
     }
 }
 
-// That a map spans what it says, of so many entries that are left with it, and of those behind it: each key and its value. And whether its
-// keys ascend.
+// Checks the entries that a map spans, each key and its value, and returns whether the keys ascend.
+// `left` is the number of entries from its own to the end, and `following` are the entries after
+// it.
 fn check_map(
     alloc: Global,
     contents: &[u8],
@@ -323,7 +328,8 @@ fn check_map(
     }
 }
 
-// That an entry of this kind spans what it says, and whether it has its pairs in turn.
+// Checks the entries that an entry of this kind spans, and returns whether its pairs are in
+// length-first order.
 #[tactic(auto, unfolding(crate::specs::Structure::spans))]
 #[inline(always)]
 pub(crate) fn check_spans(

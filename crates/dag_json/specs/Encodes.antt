@@ -1,4 +1,5 @@
--- DAG-JSON (IPLD's DAG-JSON specification) as people type it: which trees JSON, and a text, encode.
+-- DAG-JSON (IPLD's DAG-JSON specification) as people type it: the trees that JSON, and a text,
+-- encode.
 use Rattle.std.specs.Prelude.{◌≡◌, ◌≤◌, ℕ, ℤ, suc, ◌+◌, Bool, false, List, Ok}
 use Rattle.std.specs.Str.{IsUtf8}
 use Rattle.ipld_tokens.specs.ItemTree.{has_key}
@@ -13,8 +14,8 @@ use Rattle.dag_json.specs.Objects.{object_tree}
 
 abbrev mutual
   -- True if the JSON encodes the tree. A number encodes its integer or, if floats are read, the
-  -- integer that represents the float. An object encodes what `object_tree` yields of the map of
-  -- its members, and all else encodes itself (IPLD DAG-JSON).
+  -- integer that represents the float. An object encodes the result of `object_tree` for the map of
+  -- its members. All other JSON encodes itself (IPLD DAG-JSON).
   pub EncodesIn : Bool → json.Json → Tree → Type 0
   EncodesIn floats json.null t = t ≡ null
   EncodesIn floats (json.boolean b) t = t ≡ boolean b
@@ -23,18 +24,19 @@ abbrev mutual
   EncodesIn floats (json.array js) t = (ts : Items) × EncodesItemsIn floats js ts × (t ≡ list ts)
   EncodesIn floats (json.object os) t = (ms : Members) × EncodesMembersIn floats os no_members ms × (object_tree ms ≡ Ok t)
 
-  -- True if each item encodes its tree in turn.
+  -- True if the items encode the trees, one by one in order.
   pub EncodesItemsIn : Bool → json.Items → Items → Type 0
   EncodesItemsIn floats json.no_items ts = ts ≡ no_items
   EncodesItemsIn floats (json.item j js) ts = (t : Tree) × (us : Items) × EncodesIn floats j t × EncodesItemsIn floats js us × (ts ≡ item t us)
 
-  -- True if the members of an object, in any order, are put into the map, each of which encodes its
-  -- tree. The map doesn't have the key of a member yet, so no key comes twice.
+  -- True if the map `all` is `ms` with the members of an object, which are in any order. The value
+  -- of a member encodes its tree. The map doesn't have the key of a member yet, so no key comes
+  -- twice.
   pub EncodesMembersIn : Bool → json.Members → Members → Members → Type 0
   EncodesMembersIn floats json.no_members ms all = all ≡ ms
   EncodesMembersIn floats (json.member k j os) ms all = (t : Tree) × (has_key k ms ≡ false) × EncodesIn floats j t × EncodesMembersIn floats os (put k t ms) all
 
--- how many values the JSON has: itself, and each item and each member's value in it
+-- the number of values in the JSON: itself, and the items and the members' values in it
 abbrev mutual
   pub count : json.Json → ℕ
   count json.null = 1
@@ -52,14 +54,14 @@ abbrev mutual
   members_count json.no_members = 0
   members_count (json.member k j os) = count j + members_count os
 
--- True if the limits of a reader hold for the JSON: how deep arrays and objects nest, and how many
--- values there are. A link is two values one level deep, and bytes are three values two levels
+-- True if the JSON is within the limits of a reader: the depth of arrays and objects, and the
+-- number of values. A link is two values one level deep, and bytes are three values two levels
 -- deep.
 pub record JsonWithin (limits : Limits) (j : json.Json) : Type 0 where
   pub levels : depth j ≤ limits.levels
   pub values : count j ≤ limits.values
 
--- True if by the grammar of the toolchain's `json` the tokens of the text are those of the JSON,
+-- True if, by the grammar of the toolchain's `json`, the tokens of the text are those of the JSON,
 -- however deep it nests (RFC 8259).
 abbrev pub IsJson : json.Json → List ℕ → Type 0
 IsJson j s = lex.tokens s ≡ json_tokens j

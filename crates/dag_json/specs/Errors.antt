@@ -1,4 +1,4 @@
--- What the errors print.
+-- The texts that the errors print.
 use Rattle.std.specs.Prelude.{ℕ, Bool, List, ◌++◌, codes, Some, if◌then◌else◌}
 use Rattle.std.specs.declared.option.Option.{Option}
 use Rattle.std.specs.Fmt.{decimal}
@@ -24,7 +24,7 @@ kind_name TooDeep = codes "TooDeep"
 kind_name TooMany = codes "TooMany"
 kind_name NotCanonical = codes "NotCanonical"
 
--- what is wrong, in a sentence
+-- the sentence of a kind
 abbrev pub kind_sentence : ReadErrorKind → List ℕ
 kind_sentence Memory = codes "out of memory"
 kind_sentence Utf8 = codes "the bytes are not UTF-8"
@@ -40,33 +40,35 @@ kind_sentence TooDeep = codes "arrays and objects nest deeper than the limit"
 kind_sentence TooMany = codes "there are more values than the limit"
 kind_sentence NotCanonical = codes "the text is not the canonical one"
 
--- what is wrong with a text that may have floats, in a sentence
+-- the sentence of a kind, for a text that may have floats
 abbrev pub float_sentence : ReadErrorKind → List ℕ
 float_sentence Float = codes "the number is beyond the floats of 64 bits"
 float_sentence IntegerRange = codes "the integer is below -2^64 or above 2^64 - 1"
 float_sentence kind = kind_sentence kind
 
--- what is printed: the sentence where `#` is among the options, as in `{kind:#}`, and else the name
+-- the printed text of a kind: the sentence if the options have `#`, for example in `{kind:#}`, and
+-- otherwise the name
 abbrev pub printed_kind : Bool → ReadErrorKind → List ℕ
 printed_kind alternate kind = if alternate then kind_sentence kind else kind_name kind
 
--- behind it, the byte at which reading stopped
+-- the text after it, with the byte at which reading stopped
 abbrev pub place_of : ℕ → List ℕ
 place_of offset = codes " at byte " ++ decimal offset
 
--- what an error of reading prints by `{}`
+-- the text that an error of reading prints with `{}`
 abbrev pub error_name : ReadError → List ℕ
 error_name error = kind_name error.kind ++ place_of error.offset
 
--- what it prints under options, by whether `#` is among them
+-- the text that an error of reading prints, by whether the options have `#`
 abbrev pub printed : Bool → ReadError → List ℕ
 printed alternate error = printed_kind alternate error.kind ++ place_of error.offset
 
--- which value of a tree has no DAG-JSON
+-- the sentence for the value of a tree that has no DAG-JSON
 abbrev pub reserved_value : ℕ → List ℕ
 reserved_value place = codes "value " ++ (decimal place ++ codes " is a map that DAG-JSON reads as a link or as bytes")
 
--- what an error of writing or of the codec prints by `{}`, where `text` is what the error of a text prints
+-- the text that an error of writing or of the codec prints with `{}`; `text` is the printed text of
+-- an error of reading
 abbrev pub write_name : (ReadError → Option (List ℕ)) → DagJsonError → Option (List ℕ)
 write_name text tree.Memory = Some (codes "Memory")
 write_name text tree.Read = Some (codes "Read")
@@ -74,7 +76,7 @@ write_name text tree.Write = Some (codes "Write")
 write_name text (tree.Text error) = text error
 write_name text (tree.Reserved place) = Some (codes "Reserved")
 
--- what it prints under options, by whether `#` is among them
+-- the text that such an error prints, by whether the options have `#`
 abbrev pub printed_write : (ReadError → Option (List ℕ)) → Bool → DagJsonError → Option (List ℕ)
 printed_write text alternate tree.Memory = Some (if alternate then codes "out of memory" else codes "Memory")
 printed_write text alternate tree.Read = Some (if alternate then codes "the reader failed" else codes "Read")

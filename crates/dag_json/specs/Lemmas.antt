@@ -1,4 +1,5 @@
--- Proofs that the source cites, of laws that a trait asks for, and lemmas that they rest on: no definitions.
+-- Proofs that the source cites, of laws that a trait requires, and the lemmas that they use.
+-- Contracts use no definition of these modules.
 pub mod Completing
 pub mod Standing
 pub mod Reading

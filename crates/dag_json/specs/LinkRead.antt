@@ -11,7 +11,7 @@ use Rattle.ipld_cid_text.specs.declared.base.Base.TheVariants.{Base58Btc}
 use Rattle.ipld_cid_text.specs.Base.{alphabet}
 use Rattle.ipld_cid_text.specs.UsualText.{usual_text}
 
--- the digit that a letter of base58btc stands for
+-- the digit that a letter of base58btc represents
 abbrev pub value58 : ℕ → ℕ
 value58 letter = position_or_len (λ c. c == letter) (alphabet Base58Btc)
 
@@ -19,20 +19,20 @@ value58 letter = position_or_len (λ c. c == letter) (alphabet Base58Btc)
 abbrev pub v0_of_number : ℕ → Link
 v0_of_number n = record { version = V0; codec = 0x70; code = 0x12; digest = drop 2 (digits_of 256 n) }
 
--- the CID, where it has 32 bytes of a digest and is written as the text
+-- the CID, if its digest has 32 bytes and its text is this one, or nothing
 abbrev pub if_written : Link → List ℕ → Option Link
 if_written link text = if length link.digest == 32 && bytes_eq (usual_text link) text then Some link else None
 
--- of version 0: the text of a CID is its number in base58btc
+-- the CID of version 0 with this text, which is its number in base58btc, or nothing
 unfoldable pub v0_of : List ℕ → Option Link
 v0_of text = if_written (v0_of_number (number_from_digits 58 (map value58 text))) text
 
--- the text begins with `b`
+-- whether the text begins with `b`
 abbrev pub begins_b : List ℕ → Bool
 begins_b [] = false
 begins_b (first ∷ text) = first == 98
 
--- The CID whose text in DAG-JSON this is, or nothing. Of version 1 it begins with `b`, the prefix
--- of base32 (IPLD DAG-JSON, links).
+-- The CID whose text in DAG-JSON this is, or nothing. The text of a CID of version 1 begins with
+-- `b`, the prefix of base32 (IPLD DAG-JSON, links).
 unfoldable pub cid_of : List ℕ → Option Link
 cid_of text = if begins_b text then result_ok (read_text 64 text) else v0_of text

@@ -1,4 +1,5 @@
--- What a map that was read as JSON is: a link or bytes where it has their form, else itself (IPLD's DAG-JSON specification, "Links", "Bytes",
+-- The value of a map that was read as JSON: a link or bytes if it has their form, an error if it is
+-- another reserved map, or the map itself (IPLD's DAG-JSON specification, "Links", "Bytes",
 -- "Reserved namespace").
 use Rattle.std.specs.Prelude.{ℕ, if◌then◌else◌, List, Option, Some, None, Result, Ok, Err}
 use Rattle.base64.specs.GeneralPurpose.{decoded_of}
@@ -18,7 +19,7 @@ abbrev pub bytes_or_error : Option (List ℕ) → Result Tree ReadErrorKind
 bytes_or_error None = Err error.Bytes
 bytes_or_error (Some b) = Ok (bytes b)
 
--- the value of a map that has one entry
+-- the value of a map that has exactly one entry, or nothing
 abbrev pub only_tree : Members → Option Tree
 only_tree no_members = None
 only_tree (member k t no_members) = Some t
@@ -33,9 +34,9 @@ reserved_value (Some (text s)) = link_or_error (cid_of s)
 reserved_value (Some (entries ms)) = reserved_bytes (only_tree ms)
 reserved_value _ = Err error.Reserved
 
--- The value of a map that was read as JSON: itself if it is not reserved. Otherwise it is a link if
--- it is one entry with the text of a CID, and bytes if it is one entry with one entry in turn, with
--- base64 without padding. Otherwise it is the error why it is neither (IPLD DAG-JSON, links, bytes,
--- reserved namespace).
+-- The value of a map that was read as JSON: the map itself if it is not reserved. A reserved map is
+-- a link if its only value is the text of a CID. It is bytes if its only value is a map whose only
+-- value is base64 without padding. Otherwise it is the error why it is neither (IPLD DAG-JSON,
+-- links, bytes, reserved namespace).
 abbrev pub object_tree : Members → Result Tree ReadErrorKind
 object_tree ms = if is_reserved (entries ms) then reserved_value (only_tree ms) else Ok (entries ms)

@@ -1,4 +1,5 @@
--- Reading a tree from the tokens of JSON as a machine: which state a token leads to, and what tokens come to.
+-- The machine that reads a tree from the tokens of JSON: the state after a token, and the result of
+-- tokens.
 use Rattle.std.specs.Prelude.{ℕ, ℤ, ◌+◌, ◌-◌, Bool, true, false, nat_lt, if◌then◌else◌, List, [], ◌∷◌, Result, Ok, Err}
 use Rattle.ipld_tokens.specs.ItemTree.{has_key}
 use Rattle.ipld_tokens.specs.ReadMachine as reading
@@ -14,12 +15,14 @@ use Rattle.dag_json.specs.Objects.{object_tree}
 use Rattle.dag_json.specs.declared.read_error.ReadErrorKind.{ReadErrorKind}
 use Rattle.dag_json.specs.declared.read_error.ReadErrorKind.TheVariants.{Syntax, End, DuplicateKey, TooDeep, TooMany}
 
--- what is open: a list, by what it holds so far; a map, before a key or its end; a map after a key
+-- an open list with its items so far, an open map before a key or its end, or an open map after a
+-- key
 abbrev pub Level : Type 0
 Level = reading.Container
 
 pub data State : Type 0 where
-  -- These are open, the innermost first. So many levels are open, and so many values have begun.
+  -- The value is not complete. The list has the open lists and maps, the innermost first. The
+  -- numbers are the open levels and the values that have begun.
   going : List Level → ℕ → ℕ → State
   done : Tree → State
   failed : ReadErrorKind → State
@@ -27,7 +30,7 @@ pub data State : Type 0 where
 abbrev pub start : State
 start = going [] 0 0
 
--- a value is complete
+-- the state after a value is complete
 abbrev pub completed : Tree → ℕ → ℕ → List Level → State
 completed t d n [] = done t
 completed t d n (in_list ts ∷ ls) = going (in_list (and_item ts t) ∷ ls) d n
@@ -38,14 +41,14 @@ abbrev pub completed_if : Result Tree ReadErrorKind → ℕ → ℕ → List Lev
 completed_if (Ok t) d n ls = completed t d n ls
 completed_if (Err e) d n ls = failed e
 
--- a value may come
+-- whether a value may come
 abbrev pub takes_value : List Level → Bool
 takes_value [] = true
 takes_value (in_list ts ∷ ls) = true
 takes_value (in_key ms ∷ ls) = false
 takes_value (in_value ms k ∷ ls) = true
 
--- a value that is no list and no map, or why the token is none
+-- the state after a value that is not a list or a map, or after the error of its token
 abbrev pub scalar_step : Limits → Result Tree ReadErrorKind → List Level → ℕ → ℕ → State
 scalar_step limits (Ok t) ls d n = if nat_lt n limits.values then completed t d (n + 1) ls else failed TooMany
 scalar_step limits (Err e) ls d n = failed e
@@ -53,7 +56,7 @@ scalar_step limits (Err e) ls d n = failed e
 abbrev pub value_step : Limits → Result Tree ReadErrorKind → List Level → ℕ → ℕ → State
 value_step limits r ls d n = if takes_value ls then scalar_step limits r ls d n else failed Syntax
 
--- a list or a map begins
+-- the state after the beginning of a list or a map
 abbrev pub begin_step : Limits → Level → List Level → ℕ → ℕ → State
 begin_step limits l ls d n =
     if takes_value ls then (if nat_lt d limits.levels then (if nat_lt n limits.values then going (l ∷ ls) (d + 1) (n + 1) else failed TooMany) else failed TooDeep)
@@ -63,7 +66,7 @@ abbrev pub end_list_step : List Level → ℕ → ℕ → State
 end_list_step (in_list ts ∷ ls) d n = completed (tree.list ts) (d - 1) n ls
 end_list_step ls d n = failed Syntax
 
--- a map ends, which may be a link or bytes
+-- the state after the end of a map, which may be a link or bytes
 abbrev pub end_map_step : List Level → ℕ → ℕ → State
 end_map_step (in_key ms ∷ ls) d n = completed_if (object_tree ms) (d - 1) n ls
 end_map_step ls d n = failed Syntax
@@ -76,7 +79,8 @@ abbrev pub as_integer : Result ℤ ReadErrorKind → Result Tree ReadErrorKind
 as_integer (Ok n) = Ok (tree.integer n)
 as_integer (Err e) = Err e
 
--- where floats are read, or none
+-- the state after a token if the value is not complete; the first argument is whether floats are
+-- read
 abbrev pub open_step : Bool → Limits → List Level → ℕ → ℕ → json.Token → State
 open_step floats limits ls d n json.begin_object = begin_step limits (in_key no_members) ls d n
 open_step floats limits ls d n json.end_object = end_map_step ls d n
@@ -98,7 +102,7 @@ abbrev pub run : Bool → Limits → State → List json.Token → State
 run floats limits s [] = s
 run floats limits s (t ∷ ts) = run floats limits (step floats limits s t) ts
 
--- what a state comes to where the text ends
+-- the result of a state at the end of the text
 abbrev pub outcome : State → Result Tree ReadErrorKind
 outcome (going ls d n) = Err End
 outcome (done t) = Ok t

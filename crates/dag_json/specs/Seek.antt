@@ -1,4 +1,4 @@
--- How the place of a token is found, byte by byte. Only the crate's private clauses cite it.
+-- The search for the place of a token, byte by byte. Only the crate's private clauses cite it.
 use Rattle.std.specs.Prelude.{ℕ, suc, ◌-◌, Bool, true, false, cond, ◌&&◌, ◌||◌, ◌==◌, nat_lt, List, [], ◌∷◌, Option, Some, None}
 use Rattle.json.specs.Ascii as ascii
 use Rattle.json.specs.Lex as lex
@@ -87,7 +87,7 @@ passed_start may start.Comma m before left = cond (ends_value before && (may || 
 passed_start may start.Colon m before left = cond (is_string before) (Some (record { mode = m; last = last.Opening; left = left })) None
 passed_start may (start.Token this) m before left = cond (nat_lt 0 left) (Some (record { mode = m; last = this; left = left - 1 })) None
 
--- a byte is passed, or nothing from it on
+-- the state after a byte is passed, or nothing if the search ends before the byte
 abbrev pub passed : Bool → Walk → ℕ → Option Walk
 passed may w x =
     passed_start may (start_in w.mode (to_class (lex.class x)) x) (mode_behind w.mode (to_class (lex.class x))) w.last w.left
@@ -96,7 +96,7 @@ abbrev pub seek_next : Option Walk → (Walk → ℕ) → ℕ
 seek_next None k = 0
 seek_next (Some w) k = suc (k w)
 
--- how many bytes are passed
+-- the number of bytes that are passed
 unfoldable pub seek : Bool → Walk → List ℕ → ℕ
 seek may w [] = 0
 seek may w (x ∷ s) = seek_next (passed may w x) (λ v. seek may v s)

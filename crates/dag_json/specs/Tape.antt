@@ -1,4 +1,5 @@
--- The tape of a tree in which integers stand for floats: an entry for each value and each key, over the bytes that they hold.
+-- The tape of a tree whose integers may represent floats: an entry for every value and key, over
+-- the bytes that they hold.
 use Rattle.std.specs.Prelude.{◌≡◌, ℕ, suc, true, false, List, [], ◌∷◌, ◌++◌, length, Option, Some, None}
 use Rattle.std.specs.Int.{w64, to_be_bytes}
 use Rattle.ipld_cid.specs.Bytes.{bytes_of}
@@ -17,15 +18,14 @@ abbrev pub member_count : Members → ℕ
 member_count no_members = 0
 member_count (member k t ms) = suc (member_count ms)
 
--- True if the entry is of the kind, and the content is in the data at the place and of the length
--- that it has.
+-- True if the entry has this kind, and its offset and length are those of the content in the data.
 pub record IsContent (over : List ℕ) (kind : ℕ) (content : List ℕ) (e : TapeEntry) : Type 0 where
   pub before : List ℕ
   pub after : List ℕ
   pub stands : over ≡ before ++ (content ++ after)
   pub is : e ≡ entry kind (length content) (length before)
 
--- one entry, and no others
+-- True if there is only one entry, which has this kind and this content.
 abbrev pub HasContent : List ℕ → ℕ → List ℕ → List TapeEntry → Type 0
 HasContent over kind content es = (e : TapeEntry) × IsContent over kind content e × (es ≡ e ∷ [])
 
@@ -38,10 +38,11 @@ IsNumberTape over (Some (Float bits)) es = HasContent over 5 (to_be_bytes w64 bi
 
 abbrev mutual
   -- True if these are the entries of a tree over the data. Null, false and true are the kinds 0 to
-  -- 2. The integers n and -1 - n are 3 and 4, each with n as its value. An integer that represents
-  -- a float is one entry (5), whose eight bytes are in the data, the highest first. The bytes of a
-  -- string (6), of bytes (7) and of a link's CID (8) are in the data too. A list (9) and a map (10)
-  -- have how many entries they span, their own included, and how many items or pairs they have.
+  -- 2. The integers n and -1 - n are the kinds 3 and 4, with n as the value. An integer that
+  -- represents a float is one entry (5), whose eight bytes are in the data, the highest first. The
+  -- bytes of a string (6), of bytes (7) and of a link's CID (8) are in the data too. A list (9) and
+  -- a map (10) have the number of entries that they span, including their own, and the number of
+  -- their items or pairs.
   pub IsTape : List ℕ → Tree → List TapeEntry → Type 0
   IsTape over null es = es ≡ entry 0 0 0 ∷ []
   IsTape over (boolean false) es = es ≡ entry 1 0 0 ∷ []
@@ -58,8 +59,8 @@ abbrev mutual
   AreTapes over no_items es = es ≡ []
   AreTapes over (item t ts) es = (here : List TapeEntry) × (others : List TapeEntry) × IsTape over t here × AreTapes over ts others × (es ≡ here ++ others)
 
-  -- True if these are the entries of the pairs of a map, each key (11) before its value, in the
-  -- order of the bytes of the keys.
+  -- True if these are the entries of the pairs of a map, a key (11) before its value, in the order
+  -- of the map, which is by the bytes of the keys.
   pub ArePairs : List ℕ → Members → List TapeEntry → Type 0
   ArePairs over no_members es = es ≡ []
   ArePairs over (member k t ms) es =

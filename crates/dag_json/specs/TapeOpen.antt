@@ -1,4 +1,5 @@
--- Lists and maps of which the last values are written. Only private clauses cite it.
+-- Lists and maps that are written to a tape from their last value to their first. Only private
+-- clauses cite it.
 use Rattle.std.specs.Prelude.{◌≡◌, ℕ, suc, ◌+◌, ◌*◌, ◌<◌, Bool, true, false, List, [], ◌∷◌, ◌++◌, map, length, reverse, Option, Some, None, option_map, string_bytes}
 use Rattle.ipld_tree.specs.Size.{total}
 use Rattle.ipld_tree.specs.TreeOf.{tree_of}
@@ -9,11 +10,11 @@ use Rattle.dag_json.specs.declared.tape.open.Rest.{Rest}
 use Rattle.dag_json.specs.declared.tape.open.Rest.TheVariants as rest
 use Rattle.dag_json.specs.declared.tape.write.TapeWriter.{TapeWriter}
 
--- what a writer has written
+-- the entries of a writer, the last written one first, and its contents
 abbrev pub view : TapeWriter → Written
 view w = record { entries = reverse w.entries.items; contents = w.contents.items }
 
--- a value, and its key in a map
+-- a value, with its key if it is in a map
 abbrev pub Pending : Type 0
 Pending = Option (List ℕ) × Ipld
 
@@ -21,31 +22,33 @@ abbrev pub left_of : Rest → List Pending
 left_of (rest.Items v) = map (λ x. (None, x)) v.items
 left_of (rest.Members m) = map (λ e. (Some (string_bytes e.0), e.1)) m.entries
 
--- the kind of a list and of a map
+-- the kind of the entry of a list (9) or a map (10)
 abbrev pub kind_of : Rest → ℕ
 kind_of (rest.Items v) = 9
 kind_of (rest.Members m) = 10
 
--- what is written of values, the last first
+-- the output after values and their keys are written, the last value first
 abbrev pub all_written : List Pending → Written → Written
 all_written [] w = w
 all_written (p ∷ ps) w = keyed p.0 (written (tree_of p.1) (all_written ps w))
 
--- of what is left of a list or a map, and of it and its key
+-- the output after the remaining values of a list or a map, the list or map, and its key are
+-- written
 abbrev pub closed_container : OpenContainer → Written → Written
 closed_container c w = keyed (option_map string_bytes c.key) (closed (kind_of c.rest) c.count c.behind (all_written (left_of c.rest) w))
 
--- of all that are open, the outermost first
+-- the output after all open lists and maps are written, which are ordered from the outermost
 abbrev pub finish : List OpenContainer → Written → Written
 finish [] w = w
 finish (c ∷ cs) w = closed_container c (finish cs w)
 
--- how often the loop goes on at most
+-- a bound on the remaining iterations of the loop
 abbrev pub load : List OpenContainer → ℕ
 load [] = 0
 load (c ∷ cs) = suc (2 * total (map (λ p. p.1) (left_of c.rest))) + load cs
 
--- a list or a map of so many values is open inside the others, at its end
+-- True if `os'` is `os` with a list or a map at its end, and nothing was written. It has this key
+-- and count, its remaining values are `inner`, and all entries of `before` come after it.
 pub record Enters (key : Option (List ℕ)) (inner : Rest) (count : ℕ) (before after : Written) (os os' : List OpenContainer) : Type 0 where
   pub container : OpenContainer
   pub opened : os' ≡ os ++ container ∷ []
@@ -55,7 +58,8 @@ pub record Enters (key : Option (List ℕ)) (inner : Rest) (count : ℕ) (before
   pub count_is : container.count ≡ count
   pub behind_is : container.behind ≡ length before.entries
 
--- an iteration went on, or found nothing open
+-- True if an iteration kept the final output and decreased the load. If the bool is false, nothing
+-- was open and nothing was written.
 abbrev pub Steps : Bool → List OpenContainer → Written → List OpenContainer → Written → Type 0
 Steps false os before os' after = (os ≡ []) × (after ≡ before)
 Steps true os before os' after = (finish os' after ≡ finish os before) × (load os' < load os)

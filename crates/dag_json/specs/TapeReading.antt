@@ -1,4 +1,4 @@
--- What reading a text as a tape returns.
+-- The result of reading a text as a tape.
 use Rattle.std.specs.Prelude.{◌≡◌, ◌⊎◌, ℕ, true, List, Result, Ok, Err, IsErrAnd}
 use Rattle.std.specs.Str.{IsUtf8, IsValidUpTo}
 use Rattle.ipld_tree.specs.Tree.{Tree}
@@ -14,18 +14,19 @@ use Rattle.dag_json.specs.declared.tape.Tape.{Tape}
 abbrev pub IsTapeOf : Tree → Tape → Type 0
 IsTapeOf t tape = IsTape tape.contents.items t tape.entries.items
 
--- the tape of what the text comes to, or why it comes to nothing; or an allocation failed
+-- True if the result is the tape of the tree that the text encodes, or the kind of the first error,
+-- or if an allocation failed.
 abbrev pub TapeOfText : Limits → List ℕ → Result Tape ReadError → Type 0
 TapeOfText limits s (Ok tape) = (t : Tree) × (read_tokens true limits (tokens s) ≡ Ok t) × IsTapeOf t tape
 TapeOfText limits s (Err e) = (e.kind ≡ Memory) ⊎ (read_tokens true limits (tokens s) ≡ Err e.kind)
 
--- True if the result, of a text that is UTF-8, is the tape of the tree that its tokens come to
--- within the limits, or why they come to none. Otherwise the error reports that the text is not
--- UTF-8, and at which byte. Or an allocation failed.
+-- True if the result is the reading of the text as a tape. If the text is UTF-8, it is the tape of
+-- the tree that the tokens are within the limits, or the error, or a failed allocation. Otherwise
+-- it is the error that the text is not UTF-8, with the offset.
 abbrev pub ReadsTape : Limits → List ℕ → Result Tape ReadError → Type 0
 ReadsTape limits s r = (IsUtf8 s × TapeOfText limits s r) ⊎ ((IsUtf8 s → ⊥) × IsErrAnd r (λ e. (e.kind ≡ Utf8) × IsValidUpTo s e.offset))
 
--- True if P is true of the tape, or an allocation failed.
+-- True if `P` is true of the tape, or an allocation failed.
 abbrev pub UnlessMemory : Result Tape ReadError → (Tape → Type 0) → Type 0
 UnlessMemory (Ok tape) P = P tape
 UnlessMemory (Err e) P = e.kind ≡ Memory

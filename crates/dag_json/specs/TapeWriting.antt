@@ -1,4 +1,5 @@
--- What is written of a tree before what is written of others, from its end. Only private clauses cite it.
+-- The entries and the data that are written for a tree from its end, before those of others. Only
+-- private clauses cite it.
 use Rattle.std.specs.Prelude.{ℕ, ◌+◌, ◌-◌, true, false, List, [], ◌∷◌, ◌++◌, length, Option, Some, None}
 use Rattle.std.specs.Int.{w64, to_be_bytes}
 use Rattle.ipld_cid.specs.Bytes.{bytes_of}
@@ -22,20 +23,21 @@ tape_view t = record { entries = t.entries.items; contents = t.contents.items }
 abbrev pub nothing : Written
 nothing = record { entries = []; contents = [] }
 
--- an entry before the others
+-- the output with an entry before the others
 abbrev pub front : TapeEntry → Written → Written
 front e w = record { entries = e ∷ w.entries; contents = w.contents }
 
--- one whose content comes behind that of the others
+-- the output with an entry before the others, whose content comes after theirs
 abbrev pub with_content : ℕ → List ℕ → Written → Written
 with_content kind content w = record { entries = entry kind (length content) (length w.contents) ∷ w.entries; contents = w.contents ++ content }
 
--- a key before its value, if there is one
+-- the output with the entry of a key before its value, if there is a key
 abbrev pub keyed : Option (List ℕ) → Written → Written
 keyed None w = w
 keyed (Some k) w = with_content 11 k w
 
--- a list or a map, before which so many entries come behind it
+-- the output with the entry of a list or a map before the others; the third number is that of the
+-- entries after the list or map
 abbrev pub closed : ℕ → ℕ → ℕ → Written → Written
 closed kind count behind w = front (entry kind (length w.entries - behind + 1) count) w
 
@@ -57,7 +59,7 @@ abbrev mutual
   written (entries ms) w = closed 10 (member_count ms) (length w.entries) (members_written ms w)
   written (link l) w = with_content 8 (bytes_of l) w
 
-  -- the last of them first
+  -- the output after the items are written, the last item first
   pub items_written : Items → Written → Written
   items_written no_items w = w
   items_written (item t ts) w = written t (items_written ts w)

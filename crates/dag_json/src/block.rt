@@ -1,4 +1,4 @@
-//! Blocks, read within no limits but their length.
+//! The reading of blocks without limits other than their length.
 
 ghost use Rattle.std.specs.Prelude.{◌≡◌, ◌⊎◌, Some, IfOk, IfErr, map};
 ghost use Rattle.ipld_cid.specs.LinkOf.{link_of};
@@ -10,7 +10,8 @@ use ipld_cid::Cid;
 use ipld_tree::{Ipld, Limits};
 use std::alloc::Global;
 
-/// Returns limits that no block of these bytes passes: as many levels and values as there are bytes, and at least one value.
+/// Returns limits that no block of these bytes exceeds: as many levels and values as there are
+/// bytes, and at least one value.
 pub fn block_limits(bytes: &[u8]) -> Limits
     ensures { result ≡ limits_of bytes.now }
 {
@@ -20,7 +21,7 @@ pub fn block_limits(bytes: &[u8]) -> Limits
     }
 }
 
-// The tree of a block, where floats are read or none.
+// Decodes a block as a tree, with or without floats.
 pub(crate) fn decode_block(alloc: Global, bytes: &[u8], floats: bool) -> Result<Ipld, ReadError>
     ensures ok { IfOk result (λ tree. decoded_in floats bytes.now ≡ Some (tree_of tree)) }
     ensures err { IfErr result (λ error. (error.kind ≡ ReadErrorKind.Memory)
@@ -34,7 +35,7 @@ pub(crate) fn decode_block(alloc: Global, bytes: &[u8], floats: bool) -> Result<
     }
 }
 
-// The links of a block, where floats are read or none.
+// Returns the links of a block, read with or without floats.
 pub(crate) fn find_links(alloc: Global, bytes: &[u8], floats: bool) -> Result<Vec<Cid>, ReadError>
     ensures ok { IfOk result (λ links. links_in floats bytes.now ≡ Some (map link_of links.items)) }
     ensures err { IfErr result (λ error. (error.kind ≡ ReadErrorKind.Memory)

@@ -15,16 +15,17 @@ use ipld_tree::Ipld;
 use std::alloc::Global;
 use std::io::{BufRead, ErrorKind, Write};
 
-/// DAG-JSON, of which trees are written and read, and blocks have links.
+/// DAG-JSON as a codec, which writes and reads trees and finds the links of blocks.
 ///
-/// A block is read as people type it, with blanks, escapes and the keys of an object in any order, and written in the one form that a tree has,
-/// as `dag_json` does both. A block within no limits is read: of untrusted input use `from_slice` of `dag_json`, which has them.
+/// A block is read with blanks, escapes and the keys of an object in any order. It is written in
+/// the one form that a tree has. Both are as in the calls of `dag_json`. Reading has no limits. For
+/// untrusted input, use `from_slice` of `dag_json`, which has limits.
 ///
 /// Its number, 0x0129, is that of `dag-json` in the table of multicodecs.
 #[derive(Clone, Copy, Debug, PartialEq, Eq)]
 pub struct DagJsonCodec;
 
-// The tree of a block.
+// Decodes a block as a tree.
 fn decode_tree(alloc: Global, bytes: &[u8]) -> Result<Ipld, DagJsonError>
     ensures ok { IfOk result (λ tree. decoded bytes.now ≡ Some (tree_of tree)) }
     ensures err { IfErr result (λ error. (error ≡ DagJsonError.Memory)
@@ -35,7 +36,7 @@ fn decode_tree(alloc: Global, bytes: &[u8]) -> Result<Ipld, DagJsonError>
     Ok(decode_block(alloc, bytes, false)?)
 }
 
-// The block of a tree.
+// Encodes a tree as a block.
 fn encode_block(alloc: Global, value: &Ipld) -> Result<Vec<u8>, DagJsonError>
     ensures ok { IfOk result (λ text. codec_text (tree_of value.now) ≡ Some text.items) }
     ensures err { IfErr result (λ error. (error ≡ DagJsonError.Memory)
@@ -43,12 +44,12 @@ fn encode_block(alloc: Global, value: &Ipld) -> Result<Vec<u8>, DagJsonError>
     ensures errors { IfErr result (λ error. (error ≡ DagJsonError.Memory)
         ⊎ IsReserved (tree_of value.now) error) }
 {
-    // For the proof alone: the keys of each map ascend.
+    // Only for the proof: the keys of every map ascend.
     value.try_nesting(alloc)?;
     to_vec(alloc, value)
 }
 
-// All that the reader still has.
+// Reads the reader to its end.
 fn read_block<R: BufRead>(alloc: Global, reader: &mut R) -> Result<Vec<u8>, DagJsonError>
     ensures ok { IfOk result (λ bytes. IfSome (R.remaining reader.old) (λ block.
         block ≡ bytes.items)) }
@@ -70,11 +71,13 @@ impl Links for DagJsonCodec {
 
     ghost links_failure_of = { codec_failure };
 
-    /// The links of a block, in the order of a walk of its tree. The tree is read for them.
+    /// Returns the links of a block, in the order of a walk of its tree. It decodes the tree to
+    /// find them.
     ///
     /// # Errors
     ///
-    /// `Memory` where an allocation failed, else `Text`, as of [`Codec::decode_from_slice`].
+    /// `Memory` if an allocation fails. Otherwise `Text`, the same error as in
+    /// [`Codec::decode_from_slice`].
     fn links(alloc: Global, bytes: &[u8]) -> Result<LinkIter, DagJsonError>
         ensures ok { IfOk result (λ links. links_found bytes.now ≡ Some (links_left links)) }
         ensures err { IfErr result (λ error. MatchOption (codec_failure error)
@@ -109,13 +112,15 @@ impl Codec<Ipld> for DagJsonCodec {
 
     ghost failure_of = { codec_failure };
 
-    /// Reads the reader to its end, and decodes the block that it gave.
+    /// Reads the reader to its end, and decodes its bytes as a block.
     ///
     /// # Errors
     ///
-    /// - `Read` where the reader failed or did not end.
-    /// - `Memory` where an allocation failed.
-    /// - Else `Text`, the first error of the block. `Write` and `Reserved` are never returned.
+    /// - `Read` if the reader fails or does not end.
+    /// - `Memory` if an allocation fails.
+    /// - Otherwise `Text`, the first error of the block.
+    ///
+    /// `Write` and `Reserved` are never returned.
     fn decode<R: BufRead>(alloc: Global, reader: &mut R) -> Result<Ipld, DagJsonError>
         ensures ok { IfOk result (λ value. IfSome (R.remaining reader.old) (λ block.
             decoded block ≡ Some (tree_of value))) }
@@ -132,13 +137,15 @@ impl Codec<Ipld> for DagJsonCodec {
         }
     }
 
-    /// Writes the text of a tree. It is held in memory before any of it is written, and it is written at once.
+    /// Writes the text of a tree. The text is held in memory before any of it is written, and it is
+    /// written at once.
     ///
     /// # Errors
     ///
-    /// - `Reserved` where a map would be read as a link or as bytes, or `Memory`. The writer is then as it was.
-    /// - Of any other tree `Memory`, also where the writer says that it found none, or `Write` where the writer failed. How much was written is
-    ///   then not said.
+    /// - If a map would be read as a link or as bytes, `Reserved`, or `Memory` if an allocation
+    ///   fails. The writer is then unchanged.
+    /// - For any other tree, `Memory` if an allocation fails, also if the writer reports so, or
+    ///   `Write` if the writer fails. How much was written is then unspecified.
     fn encode<W: Write>(alloc: Global, writer: &mut W, value: &Ipld) -> Result<(), DagJsonError>
         ensures ok { OnOk result (Writes (codec_text (tree_of value.now)) (W.contents writer.old)
             (W.contents writer.new)) }
@@ -161,11 +168,11 @@ impl Codec<Ipld> for DagJsonCodec {
         }
     }
 
-    /// Decodes a block, all of the bytes.
+    /// Decodes a block, which is all of the bytes.
     ///
     /// # Errors
     ///
-    /// `Memory` where an allocation failed, else `Text`.
+    /// `Memory` if an allocation fails. Otherwise `Text`.
     fn decode_from_slice(alloc: Global, bytes: &[u8]) -> Result<Ipld, DagJsonError>
         ensures ok { IfOk result (λ value. decoded bytes.now ≡ Some (tree_of value)) }
         ensures err { IfErr result (λ error. MatchOption (codec_failure error)
@@ -176,11 +183,11 @@ impl Codec<Ipld> for DagJsonCodec {
         decode_tree(alloc, bytes)
     }
 
-    /// The text of a tree.
+    /// Returns the text of a tree.
     ///
     /// # Errors
     ///
-    /// `Memory` where an allocation failed, else `Reserved`.
+    /// `Memory` if an allocation fails. Otherwise `Reserved`.
     fn encode_to_vec(alloc: Global, value: &Ipld) -> Result<Vec<u8>, DagJsonError>
         ensures ok { IfOk result (λ text. codec_text (tree_of value.now) ≡ Some text.items) }
         ensures err { IfErr result (λ error. MatchOption (codec_failure error)

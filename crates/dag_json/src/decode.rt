@@ -1,4 +1,4 @@
-//! Trees from their texts.
+//! The decoding of trees from their texts.
 
 ghost use Rattle.std.specs.Prelude.{◌≡◌, ◌⊎◌, ◌≤◌, ◌<◌, ◌^◌, ℕ, Some, None, IfOk, IfErr, MatchResult, MatchOption, false, length, slice_index, ◌≢◌};
 ghost use Rattle.std.specs.Str.{IsUtf8};
@@ -23,7 +23,8 @@ use json::{Reader, Scratch};
 use std::alloc::Global;
 use std::str;
 
-// Why tokens are those of no tree, behind how many of them, and whether the value was still unfinished there.
+// Why tokens are not those of a tree, after how many tokens, and whether the value was still
+// unfinished there.
 #[derive(Clone, Copy, Drop)]
 struct Stop {
     kind: ReadErrorKind,
@@ -31,7 +32,7 @@ struct Stop {
     unfinished: bool,
 }
 
-// The tree of the tokens that a reader has left, where floats are read or none.
+// Reads the tree of the tokens that a reader has left, with or without floats.
 fn read_tokens(
     alloc: Global,
     reader: &mut Reader<'_>,
@@ -65,7 +66,7 @@ fn read_tokens(
     }
 }
 
-// The tree of a text, where floats are read or none.
+// Reads the tree of a text, with or without floats.
 pub(crate) fn read_text(
     alloc: Global,
     text: &str,
@@ -91,22 +92,30 @@ pub(crate) fn read_text(
     }
 }
 
-/// The tree of a text in DAG-JSON, as people type it: with blanks, escapes, and the keys of an object in any order.
+/// Decodes a text in DAG-JSON, which may have blanks, escapes, and the keys of an object in any
+/// order.
 ///
-/// A link is an object of the one key `/` with the text of a CID behind it, as [`to_vec`] writes it, and bytes are one with an object of the one
-/// key `bytes` behind it, and behind that base64 without padding. No other object may have the first key `/`, in byte order, with a string or
-/// with such an object behind it. A number is an integer of 128 bits: it has no fraction and no exponent.
+/// A link is an object whose only key is `/`, with the text of a CID as its value, in the form that
+/// [`to_vec`] writes. Bytes are an object whose only key is `/`, with an object as its value. The
+/// only key of that object is `bytes`, with base64 without padding as its value.
 ///
-/// The limits hold for the text: [`Limits::levels`] is how deep its arrays and objects nest, and [`Limits::values`] how many values it has. A
-/// link is two values, one level deep, and bytes are three values, two levels deep.
+/// No other object may have `/` as its first key, in byte order, with one of these values: a
+/// string, or an object whose first key is `bytes` with a string as its value. A number is an
+/// integer of 128 bits: it has no fraction and no exponent.
 ///
-/// It doesn't recurse, and neither does the drop of what was read where an error is returned. Beside the tree it allocates as many bytes as the
-/// text has, and a slot for each array or object that is open.
+/// The limits apply to the text. [`Limits::levels`] is how deep its arrays and objects nest, and
+/// [`Limits::values`] is how many values it has. A link is two values and one level deep. Bytes are
+/// three values and two levels deep.
+///
+/// It reads in a loop, and drops a part of the tree as [`Ipld::discard`](ipld_tree::Ipld::discard)
+/// does, for example if an error is returned.
+/// Besides the tree, it allocates as many bytes as the text has, and a slot for every open array or
+/// object.
 ///
 /// # Errors
 ///
-/// The first from the left, and where: [`ReadErrorKind`] says which there are, and which it is if one token has several faults. `Utf8` and
-/// `NotCanonical` are never returned.
+/// The first error from the left, with its offset. [`ReadErrorKind`] lists the errors, and which
+/// one is returned if a token has several. `Utf8` and `NotCanonical` are never returned.
 pub fn from_str(alloc: Global, text: &str, limits: &Limits) -> Result<Ipld, ReadError>
     ensures found { IfOk result (λ tree. EncodesWithin limits.now (tree_of tree) text.now) }
     ensures only { (t : Tree) → EncodesWithin limits.now t text.now
@@ -117,11 +126,13 @@ pub fn from_str(alloc: Global, text: &str, limits: &Limits) -> Result<Ipld, Read
     read_text(alloc, text, limits, false)
 }
 
-/// The same of bytes, which have to be UTF-8.
+/// Decodes a text in DAG-JSON from bytes, which have to be UTF-8. Otherwise it is the same as
+/// [`from_str`].
 ///
 /// # Errors
 ///
-/// `Utf8` where the bytes aren't UTF-8, at the first byte that is no part of a character; else those of [`from_str`].
+/// `Utf8` if the bytes aren't UTF-8, at the first byte that isn't part of a character. Otherwise
+/// those of [`from_str`].
 pub fn from_slice(alloc: Global, bytes: &[u8], limits: &Limits) -> Result<Ipld, ReadError>
     ensures found { IfOk result (λ tree. EncodesWithin limits.now (tree_of tree) bytes.now) }
     ensures only { (t : Tree) → EncodesWithin limits.now t bytes.now
@@ -138,7 +149,7 @@ pub fn from_slice(alloc: Global, bytes: &[u8], limits: &Limits) -> Result<Ipld, 
     }
 }
 
-// How many bytes two lists have in common, from the first on.
+// Returns how many bytes at the front of two slices are the same.
 fn common_len(a: &[u8], b: &[u8]) -> usize
     ensures within { (result ≤ length a.now) × (result ≤ length b.now) }
     ensures same { (k : ℕ) → k < result → slice_index a.now k ≡ slice_index b.now k }
@@ -154,7 +165,7 @@ fn common_len(a: &[u8], b: &[u8]) -> usize
     len
 }
 
-// Where a text differs from that which is written of a tree, if it does.
+// Returns the first byte at which a text differs from the one that is written of a tree, if any.
 fn first_difference(
     alloc: Global,
     tree: &Ipld,
@@ -169,18 +180,21 @@ fn first_difference(
         Ok(text) if text.as_slice() == bytes => Ok(None),
         Ok(text) => Ok(Some(common_len(&text, bytes))),
         Err(DagJsonError::Memory) => Err(ReadErrorKind::Memory),
+        // The only other error of `to_vec` is `Reserved`.
         Err(_) => Err(ReadErrorKind::Reserved),
     }
 }
 
-/// The tree of a text that is the one that [`to_vec`] writes of it.
+/// Decodes a text in DAG-JSON, which has to be the one that [`to_vec`] writes of its tree.
 ///
-/// The text is read as [`from_slice`] reads it, and compared to what is written of its tree, for which as many bytes are allocated again.
+/// The text is read as in [`from_slice`], and compared with the one that is written of its tree.
+/// For this one, as many bytes are allocated again.
 ///
 /// # Errors
 ///
-/// `NotCanonical` where the text is that of a tree, and another than the one that is written, at the first byte that differs, or where one of
-/// the two ends; else those of [`from_slice`].
+/// `NotCanonical` if the text encodes a tree, but differs from the one that is written. The offset
+/// is the first byte that differs, or the end of the shorter of the two. Otherwise those of
+/// [`from_slice`].
 pub fn from_canonical(alloc: Global, bytes: &[u8], limits: &Limits) -> Result<Ipld, ReadError>
     ensures canonical { IfOk result (λ tree. written (tree_of tree) ≡ Some bytes.now) }
     ensures found { IfOk result (λ tree. EncodesWithin limits.now (tree_of tree) bytes.now) }

@@ -1,4 +1,4 @@
-//! Why a tree isn't written, or a call of the codec failed.
+//! The error of writing a tree, and of the calls of the codec.
 
 ghost use Rattle.std.specs.Fmt.{WritesStyledOnOk};
 ghost use Rattle.dag_json.specs.declared.error.DagJsonError.TheVariants.{Memory};
@@ -9,22 +9,27 @@ use itoa::Buffer;
 use std::alloc::{AllocError, AllocFailed};
 use std::{error, fmt};
 
-/// Why a tree isn't written as DAG-JSON, or a call of [`DagJsonCodec`](crate::DagJsonCodec) failed.
+/// An error of writing a tree as DAG-JSON, or of a call of [`DagJsonCodec`](crate::DagJsonCodec).
 ///
-/// Its `Display` is the variant's name, of a text that of its error; with `#`, as in `{error:#}`, it is a sentence that says what is wrong.
+/// Its `Display` is the variant's name, or for `Text` that of its [`ReadError`]. With `#`
+/// (`{error:#}`), it is a sentence that describes the error.
 #[derive(Clone, Copy, Debug, PartialEq, Eq)]
 pub enum DagJsonError {
-    /// An allocation failed, here or, as it reports, in the writer.
+    /// An allocation failed, here or in the writer, if the writer reports so.
     Memory,
     /// The reader failed, or did not end.
     Read,
     /// The writer failed.
     Write,
-    /// The block is no DAG-JSON, and where. Its kind is never `Memory`, `TooDeep`, `TooMany` or `NotCanonical`.
+    /// The block isn't DAG-JSON, with the error and its offset. Its kind is never `Memory`,
+    /// `TooDeep`, `TooMany` or `NotCanonical`.
     Text(ReadError),
-    /// A map has the first key `/`, and behind it a string, or a map with the first key `bytes` and a string behind that. DAG-JSON reserves
-    /// these maps for links and bytes. The number says which value of the tree the first such map is, from 0 for the tree itself, in the
-    /// order of [`Ipld::iter`](ipld_tree::Ipld::iter); where that is no number of a `usize`, it is `usize::MAX`.
+    /// A map has the first key `/`. Its value is a string, or a map with the first key `bytes` and
+    /// a string as its value. DAG-JSON reserves these maps for links and bytes.
+    ///
+    /// The number is the index of the first such map in the order of
+    /// [`Ipld::iter`](ipld_tree::Ipld::iter), from 0 for the tree itself. If that exceeds
+    /// `usize::MAX`, it is `usize::MAX`.
     Reserved(usize),
 }
 
@@ -98,7 +103,7 @@ impl fmt::Display for DagJsonError {
     }
 }
 
-// Writes which value has no DAG-JSON.
+// Writes which value is a map that DAG-JSON reserves.
 fn write_reserved<W: fmt::Write>(f: &mut fmt::Formatter<W>, place: usize) -> fmt::Result
     ensures { WritesStyledOnOk W.write_str_gives f.old result (reserved_value place) f.new }
 {

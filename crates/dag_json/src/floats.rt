@@ -1,8 +1,9 @@
-//! Texts with floats, as trees that have an integer in place of each.
+//! Texts with floats, and their trees, which have an integer instead of each float.
 //!
-//! A tree of the data model has no floats here. [`from_slice`] reads a text that may have some, and leaves an integer of the tree for each: one that
-//! no integer of DAG-CBOR is, since these go from -2^64 to 2^64 - 1. [`Number::from_integer`] tells which number of a text an integer of the
-//! tree stands for:
+//! A tree of the data model has no floats here. [`from_slice`] reads a text that may have floats,
+//! and represents each by an integer of the tree. That integer is not one of DAG-CBOR, whose
+//! integers are from -2^64 to 2^64 - 1. [`Number::from_integer`] returns the number of the text
+//! that an integer of the tree represents:
 //!
 //! ```rust
 //! use dag_json::ReadError;
@@ -47,10 +48,10 @@ use ipld_tree::{Ipld, Limits};
 use std::alloc::Global;
 use std::str;
 
-// One more than the greatest integer of DAG-CBOR: the integer that stands for the float of no bits.
+// One more than the greatest integer of DAG-CBOR. It represents the float whose bits are all 0.
 const FIRST_FLOAT: i128 = 1 << 64;
 
-/// A number of a text, as the integer of a tree that [`from_slice`] returns stands for it.
+/// A number of a text. An integer of a tree that [`from_slice`] returns represents it.
 #[derive(Clone, Copy, Debug, PartialEq, Eq)]
 pub enum Number {
     /// The integer n, from 0 to 2^64 - 1.
@@ -62,8 +63,11 @@ pub enum Number {
 }
 
 impl Number {
-    /// The number that an integer of a tree stands for: one from -2^64 to 2^64 - 1 for itself, and one from 2^64 to 2^65 - 1 for the float
-    /// whose bits are the number by which it is greater than 2^64. Others stand for none.
+    /// Returns the number that an integer of a tree represents, or `None` if it represents no
+    /// number.
+    ///
+    /// An integer from -2^64 to 2^64 - 1 represents itself. An integer from 2^64 to 2^65 - 1
+    /// represents the float whose bits are the integer minus 2^64.
     pub fn from_integer(number: i128) -> Option<Self>
         ensures { result ≡ number_as number }
     {
@@ -86,7 +90,7 @@ impl Number {
     }
 }
 
-// The integer that stands for the float of a text.
+// Returns the integer that represents the float of a text.
 fn read_float(text: &str) -> Result<i128, ReadErrorKind>
     ensures { result ≡ finite_number (parse_float binary64 text.now) }
 {
@@ -96,7 +100,7 @@ fn read_float(text: &str) -> Result<i128, ReadErrorKind>
     }
 }
 
-// The integer that stands for the number of a text.
+// Returns the integer that represents the number of a text.
 #[tactic(auto, unfolding(crate::specs::Floats::float_read))]
 fn read_any_number(text: &str) -> Result<i128, ReadErrorKind>
     ensures { result ≡ float_read text.now }
@@ -109,7 +113,7 @@ fn read_any_number(text: &str) -> Result<i128, ReadErrorKind>
     }
 }
 
-// What is read of a number, where floats are read or none.
+// Reads a number, with or without floats.
 #[inline(always)]
 pub(crate) fn read_number_in(text: &str, floats: bool) -> Result<i128, ReadErrorKind>
     ensures { result ≡ number_in floats text.now }
@@ -121,17 +125,23 @@ pub(crate) fn read_number_in(text: &str, floats: bool) -> Result<i128, ReadError
     }
 }
 
-/// The tree of a text in DAG-JSON that may have floats, with an integer in place of each.
+/// Decodes a text in DAG-JSON that may have floats. The tree has an integer instead of each float.
 ///
-/// A number with a fraction or an exponent is the float nearest to it (IEEE 754, binary64; of two that are as near the one with an even
-/// significand), `-0.0` the negative zero. A number without is an integer, from -2^64 to 2^64 - 1. All else is read as by
-/// [`from_slice`](crate::from_slice), within the same limits and with the same allocations.
+/// A number with a fraction or an exponent is the float nearest to it (IEEE 754, binary64). If two
+/// floats are equally near, it is the one with an even significand. `-0.0` is the negative zero. A
+/// number without a fraction or an exponent is an integer, from -2^64 to 2^64 - 1. Everything else
+/// is read as in [`from_slice`](crate::from_slice), within the same limits and with the same
+/// allocations.
 ///
 /// # Errors
 ///
-/// Those of [`from_slice`](crate::from_slice), but for two: `Float` where a number with a fraction or an exponent is beyond the greatest float, so
-/// that an infinity would be nearest, and `IntegerRange` where an integer is below -2^64 or above 2^64 - 1. With a limit of 0 values
-/// `1e999` is `Float`, and `1e2` is `TooMany`.
+/// Those of [`from_slice`](crate::from_slice), except for two:
+///
+/// - `Float` if a number with a fraction or an exponent is beyond the greatest float, so that an
+///   infinity would be nearest.
+/// - `IntegerRange` if an integer is below -2^64 or above 2^64 - 1.
+///
+/// With a limit of 0 values, `1e999` is `Float`, and `1e2` is `TooMany`.
 pub fn from_slice(alloc: Global, bytes: &[u8], limits: &Limits) -> Result<Ipld, ReadError>
     ensures found { IfOk result (λ tree. EncodesWithinIn true limits.now (tree_of tree) bytes.now) }
     ensures only { (t : Tree) → EncodesWithinIn true limits.now t bytes.now
@@ -148,7 +158,8 @@ pub fn from_slice(alloc: Global, bytes: &[u8], limits: &Limits) -> Result<Ipld, 
     }
 }
 
-/// Returns what an error of a text that may have floats reports, in a sentence: as the error's `Display` with `#`, but for numbers.
+/// Returns a sentence that describes an error of a text that may have floats. It is the `Display`
+/// of the kind with `#`, except for `Float` and `IntegerRange`.
 pub fn describe(kind: ReadErrorKind) -> &'static str
     ensures { result.now ≡ float_sentence kind }
 {
@@ -159,9 +170,11 @@ pub fn describe(kind: ReadErrorKind) -> &'static str
     }
 }
 
-/// Returns the links of a block of DAG-JSON that may have floats, in the order of a walk of its tree.
+/// Returns the links of a block of DAG-JSON that may have floats, in the order of a walk of its
+/// tree.
 ///
-/// The block is read as by [`from_slice`], within no limits but its length: it doesn't recurse, and allocates the tree of the block.
+/// The block is read as in [`from_slice`], without limits other than its length. The call allocates
+/// the tree of the block, and recurses over it for at most 32 levels.
 ///
 /// # Errors
 ///

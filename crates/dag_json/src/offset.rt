@@ -1,10 +1,10 @@
-//! Where in a text a token begins.
+//! The byte of a text at which a token begins.
 
 ghost use Rattle.std.specs.Prelude.{◌≡◌, ◌≤◌, length};
 ghost use Rattle.json.specs.Lex.{class};
 ghost use Rattle.dag_json.specs.Seek.{class_of, start_in, mode_behind, passed, seek, first_walk};
 
-// What a byte is to the lexer of JSON.
+// The class of a byte for the lexer of JSON.
 #[derive(Clone, Copy, Drop)]
 enum Class {
     Quote,
@@ -26,7 +26,7 @@ fn classify(byte: u8) -> Class
     }
 }
 
-// Within what a byte stands.
+// The place of a byte: between tokens, or in a word, a string or an escape.
 #[derive(Clone, Copy, Drop)]
 enum Mode {
     Between,
@@ -36,7 +36,7 @@ enum Mode {
 }
 
 impl Mode {
-    // Within what the next byte stands.
+    // Returns the place of the next byte.
     fn after(self, class: Class) -> Mode
         ensures { result ≡ mode_behind self class }
     {
@@ -53,7 +53,7 @@ impl Mode {
     }
 }
 
-// What was passed last: whether a comma or a colon may follow depends on it.
+// The last token or comma that was passed. A comma or a colon may follow only some of them.
 #[derive(Clone, Copy, Drop)]
 enum Last {
     Opening,
@@ -62,7 +62,7 @@ enum Last {
     String,
 }
 
-// What begins at a byte.
+// The token, comma or colon that begins at a byte, if any.
 #[derive(Clone, Copy, Drop)]
 enum Start {
     Nothing,
@@ -87,7 +87,7 @@ fn token_start(mode: Mode, class: Class, byte: u8) -> Start
     }
 }
 
-// How far a text was passed: so many tokens are left to pass.
+// The progress in a text. `left` is the number of tokens that are still to be passed.
 #[derive(Clone, Copy, Drop)]
 struct Walk {
     mode: Mode,
@@ -96,8 +96,9 @@ struct Walk {
 }
 
 impl Walk {
-    // Passes a byte, unless a token begins there and none is left to pass, or a comma or a colon that can't stand there. A comma behind the last
-    // token is passed where an array or an object is open.
+    // Passes a byte. Returns `None` if a token begins there and no token is left to pass, or if it
+    // is a comma or a colon that can't be there. A comma after the last token is passed if an array
+    // or an object is open.
     fn pass(self, byte: u8, may_pass: bool) -> Option<Walk>
         ensures { result ≡ passed may_pass self byte }
     {
@@ -120,7 +121,8 @@ impl Walk {
     }
 }
 
-// Where the token behind so many others begins, or the comma or colon that stands in its place; the end of the text where there is none.
+// Returns the start of the token after `taken` others, or of the comma or colon in its place. If
+// there is no such token, it is the end of the text.
 pub(crate) fn token_offset(text: &[u8], taken: usize, may_pass: bool) -> usize
     ensures value { result ≡ seek may_pass (first_walk taken) text.now }
     ensures within { result ≤ length text.now }

@@ -1,4 +1,4 @@
-//! Why a text isn't read as a tree, and where.
+//! The errors of reading a text as a tree, with their offsets.
 
 ghost use Rattle.std.specs.Prelude.{◌≡◌};
 ghost use Rattle.std.specs.Fmt.{WritesOnOk, WritesStyledOnOk};
@@ -7,56 +7,67 @@ ghost use Rattle.dag_json.specs.Errors.{kind_name, kind_sentence, place_of};
 use itoa::Buffer;
 use std::{error, fmt};
 
-/// Why a text isn't read as DAG-JSON.
+/// The kind of a [`ReadError`]: the reason why a text isn't read as DAG-JSON.
 ///
-/// The error is that of the first token at fault. If one token has several faults, it is the first of these:
+/// The error is that of the first token that has one. If a token has several errors, the first of
+/// these is returned:
 ///
-/// 1. `Syntax`: the token isn't one of JSON, or can't come there.
-/// 2. Of a number `Float` or `IntegerRange`. Of a key `DuplicateKey`. Of the brace that closes an object `Reserved`, and then `Link` or `Bytes`.
+/// 1. `Syntax`: the token isn't a token of JSON, or can't come there.
+/// 2. For a number, `Float` or `IntegerRange`. For a key, `DuplicateKey`. For the brace that closes
+///    an object, `Reserved`, and then `Link` or `Bytes`.
 /// 3. `TooDeep`.
 /// 4. `TooMany`.
 ///
-/// So with a limit of 0 values `1e2` is `Float` in [`from_slice`](crate::from_slice), and `TooMany` in
-/// [`floats::from_slice`](crate::floats::from_slice), which reads floats. With limits of 0 levels and 0 values `[]` is `TooDeep`. Bytes that aren't
-/// UTF-8 are `Utf8`, also if a token before them is at fault, and any call may return `Memory`.
+/// For example, with a limit of 0 values, `1e2` is `Float` in [`from_slice`](crate::from_slice). It
+/// is `TooMany` in [`floats::from_slice`](crate::floats::from_slice), which reads floats. With
+/// limits of 0 levels and 0 values, `[]` is `TooDeep`. Bytes that aren't UTF-8 are `Utf8`, even if
+/// a token before them has an error. Any call may return `Memory`.
 ///
-/// A number or a word, such as `true`, goes on to the next blank (space, tab, line feed or carriage return), to one of `{`, `}`, `[`, `]`, `:` and `,`,
-/// or to the end of the text. So `1"a"` is one word, and `Syntax` at byte 0. A string ends with its quote, so in `"a"1` the `1` is at fault, at byte 3.
+/// A number or a word, such as `true`, ends before the next blank, before one of `{`, `}`, `[`,
+/// `]`, `:` and `,`, or at the end of the text. A blank is a space, a tab, a line feed or a
+/// carriage return. So `1"a"` is one word, and `Syntax` at byte 0. A string ends with its quote, so
+/// in `"a"1` the error is the `1`, at byte 3.
 ///
-/// Its `Display` is the variant's name; with `#`, as in `{error:#}`, it is a sentence that says what is wrong.
+/// Its `Display` is the variant's name. With `#` (`{error:#}`), it is a sentence that describes the
+/// error.
 #[derive(Clone, Copy, Debug, PartialEq, Eq)]
 pub enum ReadErrorKind {
     /// An allocation failed.
     Memory,
     /// The bytes aren't UTF-8.
     Utf8,
-    /// The text is no JSON (RFC 8259), or goes on behind its value. A text that ends within a token, or behind a comma, is such, too.
+    /// The text isn't JSON (RFC 8259), or continues after its value. This includes a text that ends
+    /// within a token or after a comma.
     Syntax,
     /// The text ends before its value does.
     End,
-    /// A number has a fraction or an exponent: trees have no floats. Where [`floats`](crate::floats) are read, one that is beyond the greatest of these.
+    /// A number has a fraction or an exponent: trees have no floats. If [`floats`](crate::floats)
+    /// are read, such a number is an error only if it is beyond the greatest float.
     Float,
-    /// An integer is below -2^127 or above 2^127 - 1, or where [`floats`](crate::floats) are read below -2^64 or above 2^64 - 1.
+    /// An integer is below -2^127 or above 2^127 - 1. If [`floats`](crate::floats) are read, it is
+    /// below -2^64 or above 2^64 - 1.
     IntegerRange,
-    /// An object has the key already.
+    /// A key repeats an earlier key of its object.
     DuplicateKey,
-    /// A link whose text is none of a CID in DAG-JSON: base58btc of version 0, and `b` and base32 of version 1.
+    /// The text of a link isn't that of a CID in DAG-JSON: base58btc for version 0, and `b`
+    /// followed by base32 for version 1.
     Link,
-    /// Bytes whose text is no base64 without padding (RFC 4648, section 4).
+    /// The text of bytes isn't base64 without padding (RFC 4648, section 4).
     Bytes,
-    /// An object is reserved for links and bytes, and is neither: its first key in byte order is `/`, with a string behind it, or with an object
-    /// behind it whose first key is `bytes`, with a string behind that; and one of them has other keys too.
+    /// An object is reserved for links and bytes, and is neither. Its first key in byte order is
+    /// `/`. The value of that key is a string, or an object whose first key is `bytes`, with a
+    /// string as its value. One of these objects has other keys too.
     Reserved,
-    /// An array or an object stands deeper than the limit allows.
+    /// An array or an object nests deeper than the limit allows.
     TooDeep,
-    /// More values stand in the text than the limit allows.
+    /// The text has more values than the limit allows.
     TooMany,
-    /// The text is another than that which is written of its tree.
+    /// The text differs from the one that is written of its tree.
     NotCanonical,
 }
 
 impl ReadErrorKind {
-    // What is wrong, in a sentence.
+    // Returns a sentence that describes the error.
     pub(crate) fn describe(&self) -> &'static str
         ensures { result.now ≡ kind_sentence self.now }
     {
@@ -77,7 +88,7 @@ impl ReadErrorKind {
         }
     }
 
-    // The name of the variant.
+    // Returns the name of the variant.
     fn name(&self) -> &'static str
         ensures { result.now ≡ kind_name self.now }
     {
@@ -117,20 +128,24 @@ impl fmt::Display for ReadErrorKind {
     }
 }
 
-/// Why a text isn't read as DAG-JSON, and where.
+/// An error of reading a text as DAG-JSON, with its offset.
 ///
-/// Its `Display` is that of the kind, also with `#`, then ` at byte `, and the offset.
+/// Its `Display` is that of the kind, also with `#`, then ` at byte ` and the offset.
 #[derive(Clone, Copy, Debug, PartialEq, Eq)]
 pub struct ReadError {
-    /// Why.
+    /// The kind of the error.
     pub kind: ReadErrorKind,
-    /// The byte of the text at which reading stopped, from 0: where the first token begins that can't stand there, or the length of the text
-    /// where more would have to follow.
+    /// The byte of the text at which reading stopped, from 0. It is the start of the first token
+    /// that can't be there, or the length of the text if more has to follow.
     ///
-    /// A string with the colon behind it is one token, a key; so a string that lacks its colon is at fault itself. A number, a word or a string
-    /// that is none begins where its first byte is, and [`ReadErrorKind`] says how far it goes. Of an object that ought to be a link or bytes the
-    /// token is the brace that closes it. Of bytes that aren't UTF-8 it is the first that is no part of a character, and of a text that isn't
-    /// canonical the first that differs. Where an allocation failed it is any, at most the length.
+    /// A string and the colon after it are one token, a key. So if a string lacks its colon, the
+    /// offset is that of the string. An invalid number, word or string begins at its first byte,
+    /// and [`ReadErrorKind`] describes where it ends. For an object that has to be a link or bytes,
+    /// the token is the brace that closes it.
+    ///
+    /// For bytes that aren't UTF-8, the offset is the first byte that isn't part of a character.
+    /// For a text that isn't canonical, it is the first byte that differs. If an allocation failed,
+    /// it is any offset, at most the length.
     pub offset: usize,
 }
 
@@ -149,7 +164,7 @@ impl fmt::Display for ReadError {
     }
 }
 
-// Writes the byte at which reading stopped, behind why it did.
+// Writes the byte at which reading stopped, after the kind of the error.
 fn write_place<W: fmt::Write>(f: &mut fmt::Formatter<W>, offset: usize) -> fmt::Result
     ensures writes { WritesOnOk W.write_str_gives f.old result (place_of offset) f.new }
     ensures styled { WritesStyledOnOk W.write_str_gives f.old result (place_of offset) f.new }

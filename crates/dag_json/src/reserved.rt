@@ -11,7 +11,7 @@ use ipld_tree::{Ipld, IpldIter};
 use std::alloc::{AllocError, Global};
 use std::collections::BTreeMap;
 
-// The first value of a map, where it stands under this key.
+// Returns the first value of a map, if its key is `name`.
 fn first_value<'a>(members: &'a BTreeMap<String, Ipld>, name: &str) -> Option<&'a Ipld>
     ensures { option_map (λ value. tree_of value.now) result ≡ first_under name.now
         (members_of members.now.entries) }
@@ -24,7 +24,7 @@ fn first_value<'a>(members: &'a BTreeMap<String, Ipld>, name: &str) -> Option<&'
     }
 }
 
-// Whether a value behind the key `/` is read as the content of a link or of bytes.
+// Returns whether a value of the key `/` is read as the content of a link or of bytes.
 fn reads_as_content(value: &Ipld) -> bool
     ensures { result ≡ reads_as_content (Some (tree_of value.now)) }
 {
@@ -35,7 +35,7 @@ fn reads_as_content(value: &Ipld) -> bool
     }
 }
 
-/// Whether a map is reserved for links and bytes.
+/// Returns whether a map is reserved for links and bytes.
 pub(crate) fn is_reserved(members: &BTreeMap<String, Ipld>) -> bool
     ensures { result ≡ is_reserved (entries (members_of members.now.entries)) }
 {
@@ -45,7 +45,7 @@ pub(crate) fn is_reserved(members: &BTreeMap<String, Ipld>) -> bool
     }
 }
 
-// Whether a value is such a map.
+// Returns whether a value is a reserved map.
 fn is_reserved_map(value: &Ipld) -> bool
     ensures { result ≡ is_reserved (tree_of value.now) }
 {
@@ -55,7 +55,7 @@ fn is_reserved_map(value: &Ipld) -> bool
     }
 }
 
-// The next value of a walk.
+// Returns the next value of a walk.
 #[inline(always)]
 fn next_value<'a>(walk: &mut IpldIter<'a>) -> Option<&'a Ipld>
     ensures { MatchOption result (rest walk.old ≡ []) (λ value.
@@ -64,7 +64,7 @@ fn next_value<'a>(walk: &mut IpldIter<'a>) -> Option<&'a Ipld>
     walk.next()
 }
 
-// Which value of a tree is the first reserved map, in the order of its walk.
+// Returns the index of the first reserved map of a tree, in the order of its walk.
 pub(crate) fn find_reserved(alloc: Global, tree: &Ipld) -> Result<Option<usize>, AllocError>
     ensures { IfOk result (λ place. Counts (first_reserved (preorder (tree_of tree.now))) place) }
 {

@@ -1,4 +1,4 @@
-//! Numbers, links and bytes from their texts.
+//! The decoding of numbers, links and bytes from their texts.
 
 ghost use Rattle.std.specs.Prelude.{◌≡◌, ◌⊎◌, ◌==◌, Some, None, Ok, Err, MatchResult, IfOk, option_map};
 ghost use Rattle.base64.specs.GeneralPurpose.{decoded_of};
@@ -20,7 +20,7 @@ use ipld_tree::Ipld;
 use std::alloc::{AllocError, Global};
 use std::collections::BTreeMap;
 
-// Whether a number is a minus sign and digits alone.
+// Returns whether a number has only digits and minus signs.
 fn is_integral(text: &str) -> bool
     ensures { result ≡ is_integral text.now }
 {
@@ -29,7 +29,7 @@ fn is_integral(text: &str) -> bool
         .all(|c| *c == b'-' || c.is_ascii_digit())
 }
 
-// The integer that a number is.
+// Decodes a number as an integer.
 #[inline(always)]
 pub(crate) fn read_number(text: &str) -> Result<i128, ReadErrorKind>
     ensures { result ≡ number_read text.now }
@@ -41,7 +41,7 @@ pub(crate) fn read_number(text: &str) -> Result<i128, ReadErrorKind>
     }
 }
 
-// The CID of version 0 whose text this is.
+// Decodes the text of a CID of version 0.
 fn read_v0(alloc: Global, text: &str) -> Result<Option<Cid>, AllocError>
     ensures { IfOk result (λ found. option_map link_of found ≡ v0_of text.now) }
 {
@@ -61,7 +61,7 @@ fn read_v0(alloc: Global, text: &str) -> Result<Option<Cid>, AllocError>
     }
 }
 
-// Whether a text begins with the prefix of base32.
+// Returns whether a text begins with the prefix of base32.
 #[inline(always)]
 fn begins_with_b(text: &[u8]) -> bool
     ensures { result ≡ begins_b text.now }
@@ -72,7 +72,7 @@ fn begins_with_b(text: &[u8]) -> bool
     }
 }
 
-// The CID whose text this is.
+// Decodes the text of a CID.
 fn read_cid(alloc: Global, text: &str) -> Result<Option<Cid>, AllocError>
     ensures { IfOk result (λ found. option_map link_of found ≡ cid_of text.now) }
 {
@@ -86,7 +86,7 @@ fn read_cid(alloc: Global, text: &str) -> Result<Option<Cid>, AllocError>
     }
 }
 
-// The link whose text this is.
+// Decodes the text of a link.
 fn read_link(alloc: Global, text: &str) -> Result<Ipld, ReadErrorKind>
     ensures { Makes (link_or_error (cid_of text.now)) result }
 {
@@ -97,7 +97,7 @@ fn read_link(alloc: Global, text: &str) -> Result<Ipld, ReadErrorKind>
     }
 }
 
-// The bytes whose text this is.
+// Decodes the text of bytes.
 fn read_bytes(alloc: Global, text: &str) -> Result<Ipld, ReadErrorKind>
     ensures { Makes (bytes_or_error (decoded_of standard_no_pad text.now)) result }
 {
@@ -108,7 +108,7 @@ fn read_bytes(alloc: Global, text: &str) -> Result<Ipld, ReadErrorKind>
     }
 }
 
-// The value of a map that has one entry.
+// Returns the value of a map that has one entry.
 fn only_value(members: &BTreeMap<String, Ipld>) -> Option<&Ipld>
     ensures { option_map (λ value. tree_of value.now) result ≡ only_tree
         (members_of members.now.entries) }
@@ -121,7 +121,7 @@ fn only_value(members: &BTreeMap<String, Ipld>) -> Option<&Ipld>
     }
 }
 
-// The bytes that the map behind the key `/` of a reserved map is.
+// Decodes bytes from the map that a reserved map has as the value of `/`.
 fn read_bytes_object(alloc: Global, members: &BTreeMap<String, Ipld>) -> Result<Ipld, ReadErrorKind>
     ensures { Makes (reserved_bytes (only_tree (members_of members.now.entries))) result }
 {
@@ -131,7 +131,7 @@ fn read_bytes_object(alloc: Global, members: &BTreeMap<String, Ipld>) -> Result<
     }
 }
 
-// The link or the bytes that a reserved map is.
+// Decodes a reserved map, which is a link or bytes.
 fn read_reserved(alloc: Global, members: &BTreeMap<String, Ipld>) -> Result<Ipld, ReadErrorKind>
     ensures { Makes (reserved_value (only_tree (members_of members.now.entries))) result }
 {
@@ -142,7 +142,7 @@ fn read_reserved(alloc: Global, members: &BTreeMap<String, Ipld>) -> Result<Ipld
     }
 }
 
-// What an object is: a link, bytes or a map.
+// Decodes an object, which is a link, bytes or a map.
 #[inline(always)]
 pub(crate) fn read_object(
     alloc: Global,

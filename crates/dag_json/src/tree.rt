@@ -1,4 +1,4 @@
-//! A tree, built from the tokens of a text.
+//! The building of a tree from the tokens of a text.
 
 ghost use Rattle.std.specs.Prelude.{◌≡◌, false, nat_lt, Ok, Err, OnOk, IfErr, MatchResult};
 ghost use Rattle.ipld_tree.specs.Tree.{no_items, no_members};
@@ -20,18 +20,18 @@ use json::Token;
 use std::alloc::{AllocError, Global};
 use std::collections::BTreeMap;
 
-// The tree of a text, as far as its tokens have come.
+// The tree of the tokens that have come so far.
 #[derive(Drop)]
 pub(crate) struct TreeBuilder {
     alloc: Global,
     tree: OpenTree,
-    // How many lists and maps are open.
+    // The number of open lists and maps.
     depth: usize,
-    // How many values have begun.
+    // The number of values that have begun.
     values: usize,
 }
 
-// What putting a part in returned, as an error of reading.
+// Converts the result of adding a part to an error of reading.
 #[inline(always)]
 fn read_error_of(built: Result<(), BuildError>) -> Result<(), ReadErrorKind>
     ensures { result ≡ as_read built }
@@ -56,7 +56,7 @@ impl TreeBuilder {
         }
     }
 
-    // Whether more tokens have to come.
+    // Returns whether more tokens have to come.
     #[inline(always)]
     pub(crate) fn is_unfinished(&self) -> bool
         ensures { result ≡ is_going (state_of self.now) }
@@ -64,7 +64,7 @@ impl TreeBuilder {
         self.tree.is_open()
     }
 
-    // The tree, where the tokens were those of one.
+    // Returns the tree, if the tokens were those of one.
     pub(crate) fn finish(self) -> Result<Ipld, ReadErrorKind>
         ensures { MatchResult result
             (λ value. outcome (state_of self) ≡ Ok (tree_of value))
@@ -103,7 +103,7 @@ impl TreeBuilder {
         read_error_of(self.tree.put(value))
     }
 
-    // Adds a value that is no list and no map.
+    // Adds a value that is not a list or a map.
     #[inline(always)]
     fn add(&mut self, value: Ipld, limits: &Limits) -> Result<(), ReadErrorKind>
         ensures { Reaches (added limits.now (state_of self.old) (Ok (tree_of value))) result
@@ -127,7 +127,7 @@ impl TreeBuilder {
         }
     }
 
-    // Adds a number, where floats are read or none.
+    // Adds a number, with or without floats.
     fn add_number(&mut self, text: &str, limits: &Limits, floats: bool) -> Result<(), ReadErrorKind>
         ensures { Reaches (added limits.now (state_of self.old)
             (as_integer (number_in floats text.now))) result (state_of self.new) }
@@ -199,7 +199,7 @@ impl TreeBuilder {
         read_error_of(self.tree.begin_map())
     }
 
-    // Puts what a map stands for: a link, bytes, or itself.
+    // Puts the value of a map: a link, bytes, or the map itself.
     fn put_object(&mut self, members: BTreeMap<String, Ipld>) -> Result<(), ReadErrorKind>
         ensures { Reaches (completed_if (object_tree (members_of members.entries)) self.old.depth
             self.old.values (levels_of self.old)) result (state_of self.new) }
@@ -220,7 +220,7 @@ impl TreeBuilder {
         }
     }
 
-    // Takes the next token, where floats are read or none.
+    // Takes the next token, with or without floats.
     pub(crate) fn take_token(
         &mut self,
         token: &Token<'_>,

@@ -8,12 +8,12 @@ use Rattle.dag_pb.specs.declared.error.PbError.{PbError}
 use Rattle.dag_pb.specs.declared.error.PbErrorKind.{PbErrorKind}
 use Rattle.dag_pb.specs.declared.error.PbErrorKind.TheVariants.{Memory, End, VarintTooLarge, UnknownField, FieldOrder, NoHash, Cid, Utf8}
 
--- The links of the node that a block encodes, or nothing if the bytes encode none (DAG-PB
+-- The links of the node that a block encodes, or nothing if the bytes are not a node (DAG-PB
 -- specification; multicodec table, 0x70).
 abbrev pub pb_found : List ℕ → Option (List Link)
 pb_found bytes = result_ok (links_found bytes)
 
--- the failure that a kind of error reports, if it is not an error in the block
+-- the failure that a kind of error reports, or nothing if it is an error in the block
 abbrev pub kind_failure : PbErrorKind → Option Failure
 kind_failure Memory = Some memory
 kind_failure End = None

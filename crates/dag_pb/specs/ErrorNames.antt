@@ -1,4 +1,4 @@
--- What the errors print.
+-- The texts that the errors print.
 use Rattle.std.specs.Prelude.{ℕ, List, ◌++◌, ◌/◌, ◌%◌, codes, Bool, Some, None, if◌then◌else◌}
 use Rattle.std.specs.declared.option.Option.{Option}
 use Rattle.std.specs.Fmt.{decimal, ◌++?◌}
@@ -17,7 +17,7 @@ name_of NoHash = codes "NoHash"
 name_of (Cid error) = codes "Cid"
 name_of Utf8 = codes "Utf8"
 
--- what is wrong, in a sentence; that of bytes that are no CID isn't said
+-- the sentence of a kind, or nothing for the error of a CID
 abbrev pub sentence_of : PbErrorKind → Option (List ℕ)
 sentence_of Memory = Some (codes "out of memory")
 sentence_of End = Some (codes "the bytes end before the field does")
@@ -28,18 +28,18 @@ sentence_of NoHash = Some (codes "a link does not begin with its hash")
 sentence_of (Cid error) = None
 sentence_of Utf8 = Some (codes "the name of a link is not UTF-8")
 
--- the sentence where `#` is among the options, as in `{kind:#}`, and else the name
+-- the sentence if `#` is among the options (`{kind:#}`), and otherwise the name
 abbrev pub printed : Bool → PbErrorKind → Option (List ℕ)
 printed alternate kind = if alternate then sentence_of kind else Some (name_of kind)
 
--- behind that, the byte at which the error is
+-- the text after that: the offset of the error
 abbrev pub place_of : ℕ → List ℕ
 place_of offset = codes " at byte " ++ decimal offset
 
--- what an error prints by `{}`
+-- the text that an error prints by `{}`
 abbrev pub error_name : PbError → List ℕ
 error_name error = name_of error.kind ++ place_of error.offset
 
--- what it prints under options, by whether `#` is among them
+-- the text that an error prints, by whether `#` is among the options
 abbrev pub printed_error : Bool → PbError → Option (List ℕ)
 printed_error alternate error = printed alternate error.kind ++? Some (place_of error.offset)

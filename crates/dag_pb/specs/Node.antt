@@ -1,6 +1,7 @@
--- What a block of DAG-PB is (IPLD's DAG-PB specification). `PBLink` has Hash = 1, Name = 2 and Tsize = 3, each at most once and in this
--- order; here Hash is always there, and is the bytes of a CID. `PBNode` has Links = 2, any number, and Data = 1, at most once; the data
--- stands before all links or after all of them.
+-- The blocks of DAG-PB (IPLD's DAG-PB specification). `PBLink` has Hash = 1, Name = 2 and Tsize =
+-- 3, at most once and in this order. Here a link always has Hash, and it is the bytes of a CID.
+-- `PBNode` has Links = 2, any number, and Data = 1, at most once. The data is before all links or
+-- after all of them.
 use Rattle.std.specs.Prelude.{◌≡◌, ◌⊎◌, ℕ, List, [], ◌∷◌, ◌++◌, Option, Some, None, IsUtf8}
 use Rattle.ipld_cid.specs.Cid.{Link}
 use Rattle.ipld_cid.specs.Bytes.{IsCid}
@@ -12,22 +13,22 @@ pub record LinkParts : Type 0 where
   pub name : Option (List ℕ)
   pub tsize : Option ℕ
 
--- a node: its links, and its data
+-- a node: its links, and its data if it has any
 pub record NodeParts : Type 0 where
   pub links : List LinkParts
   pub content : Option (List ℕ)
 
--- the bytes are the field Name, or none where there is no name
+-- True if the bytes are the field Name, or are empty without a name.
 abbrev pub IsName : Option (List ℕ) → List ℕ → Type 0
 IsName None bytes = bytes ≡ []
 IsName (Some name) bytes = IsUtf8 name × IsContent 2 name bytes
 
--- the bytes are the field Tsize, or none where there is no size
+-- True if the bytes are the field Tsize, or are empty without a size.
 abbrev pub IsTsize : Option ℕ → List ℕ → Type 0
 IsTsize None bytes = bytes ≡ []
 IsTsize (Some n) bytes = IsNumber 3 n bytes
 
--- the bytes are the message `PBLink` of this link
+-- True if the bytes are the message `PBLink` of this link.
 pub record IsLink (link : LinkParts) (bytes : List ℕ) : Type 0 where
   pub cid : List ℕ
   pub hash : List ℕ
@@ -39,7 +40,7 @@ pub record IsLink (link : LinkParts) (bytes : List ℕ) : Type 0 where
   pub tsize_encoded : IsTsize link.tsize tsize
   pub encoded : bytes ≡ hash ++ (name ++ tsize)
 
--- the bytes begin with a field Links of this link, and go on with the rest
+-- True if the bytes begin with a field Links of this link, and `rest` follows.
 pub record BeginsWithLink (link : LinkParts) (bytes rest : List ℕ) : Type 0 where
   pub message : List ℕ
   pub field : List ℕ
@@ -47,12 +48,12 @@ pub record BeginsWithLink (link : LinkParts) (bytes rest : List ℕ) : Type 0 wh
   pub field_encoded : IsContent 2 message field
   pub encoded : bytes ≡ field ++ rest
 
--- the bytes are fields Links, one for each link in their order
+-- True if the bytes are fields Links, one for every link, in order.
 abbrev pub IsLinks : List LinkParts → List ℕ → Type 0
 IsLinks [] bytes = bytes ≡ []
 IsLinks (link ∷ links) bytes = (rest : List ℕ) × BeginsWithLink link bytes rest × IsLinks links rest
 
--- the bytes are the field Data, or none where there is no data
+-- True if the bytes are the field Data, or are empty without data.
 abbrev pub IsData : Option (List ℕ) → List ℕ → Type 0
 IsData None bytes = bytes ≡ []
 IsData (Some content) bytes = IsContent 1 content bytes

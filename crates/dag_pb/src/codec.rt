@@ -12,7 +12,7 @@ use crate::node::links_of_block;
 use ipld_codec::{LinkIter, Links};
 use std::alloc::Global;
 
-/// DAG-PB, whose blocks have links. No values are written or read by it.
+/// DAG-PB as a codec that finds the links of blocks. It doesn't read or write values.
 ///
 /// The number of the format in the table of multicodecs is 0x70, `dag-pb`.
 #[derive(Clone, Copy, Debug, PartialEq, Eq)]
@@ -29,7 +29,7 @@ impl Links for DagPbCodec {
     ///
     /// # Errors
     ///
-    /// `Memory` if an allocation fails. Otherwise the first error of the block, and where.
+    /// `Memory` if an allocation fails. Otherwise the first error of the block, with its offset.
     fn links(alloc: Global, bytes: &[u8]) -> Result<LinkIter, PbError>
         ensures ok { IfOk result (λ links. pb_found bytes.now ≡ Some (links_left links)) }
         ensures err { IfErr result (λ error. MatchOption (pb_failure error)

@@ -1,4 +1,4 @@
-//! Why bytes are no block of DAG-PB.
+//! The errors of reading a block of DAG-PB.
 
 ghost use Rattle.std.specs.Prelude.{◌≡◌};
 ghost use Rattle.std.specs.Fmt.{DisplaysStyledOnOk, WritesOnOk, WritesStyledOnOk};
@@ -11,31 +11,33 @@ use itoa::Buffer;
 use std::alloc::AllocError;
 use std::{error, fmt};
 
-/// What is wrong with a field of a block of DAG-PB.
+/// The kind of a [`PbError`]: the error in a field of a block of DAG-PB.
 ///
-/// Its `Display` is the variant's name, without its content; with `#`, as in `{error:#}`, it is a sentence that says what is wrong.
+/// Its `Display` is the variant's name, without its content. With `#` (`{error:#}`), it is a
+/// sentence that describes the error.
 #[derive(Clone, Copy, Debug, PartialEq, Eq)]
 pub enum PbErrorKind {
     /// An allocation failed.
     Memory,
-    /// The bytes end before the field does, those of the block or those of a link.
+    /// The bytes of the block or of a link end before the field does.
     End,
     /// A varint encodes a number of 2^64 or more, or has more than ten bytes.
     VarintTooLarge,
-    /// The key of a field that DAG-PB doesn't have there: 8 times the number of the field, and its wire type.
+    /// The key of a field that DAG-PB does not have there: 8 times the number of the field, plus
+    /// its wire type.
     UnknownField(u64),
-    /// A field comes for the second time or out of order, or links stand before the data and after it.
+    /// A field appears twice or out of order, or there are links before the data and after it.
     FieldOrder,
     /// A link doesn't begin with its hash.
     NoHash,
-    /// The hash of a link is no CID.
+    /// The hash of a link is not a CID.
     Cid(CidError),
     /// The name of a link isn't UTF-8.
     Utf8,
 }
 
 impl PbErrorKind {
-    // What is wrong, in a sentence.
+    // Writes a sentence that describes the error.
     fn describe<W: fmt::Write>(&self, f: &mut fmt::Formatter<W>) -> fmt::Result
         ensures { DisplaysStyledOnOk W.write_str_gives f.old result (sentence_of self.now) f.new }
     {
@@ -88,16 +90,19 @@ impl fmt::Display for PbErrorKind {
     }
 }
 
-/// Why bytes are no block of DAG-PB, and where: the first error from the left.
+/// An error of reading a block of DAG-PB, with its offset. It is the first error from the left.
 ///
-/// Its `Display` is that of the kind, also with `#`, then ` at byte `, and the offset.
+/// Its `Display` is that of the kind, also with `#`, then ` at byte ` and the offset.
 #[derive(Clone, Copy, Debug, PartialEq, Eq)]
 pub struct PbError {
-    /// Why.
+    /// The kind of the error.
     pub kind: PbErrorKind,
-    /// The byte of the block at which the field begins that is at fault: a field of a link where its content is wrong, else a field of the
-    /// node. Of a link that has no hash it is where the link's content begins; where that is empty, it is the byte just behind the link,
-    /// and may be the block's length. It is 0 where an allocation failed.
+    /// The byte of the block at which the invalid field begins. It is a field of a link if the
+    /// link's content is invalid, and otherwise a field of the node.
+    ///
+    /// For a link without a hash, it is the byte at which the link's content begins. If that
+    /// content is empty, it is the byte after the link, which may be the block's length. If an
+    /// allocation failed, it is 0.
     pub offset: usize,
 }
 
@@ -116,7 +121,7 @@ impl fmt::Display for PbError {
     }
 }
 
-// Writes the byte at which an error is, behind what it is.
+// Writes the byte of the error, after its kind.
 fn write_place<W: fmt::Write>(f: &mut fmt::Formatter<W>, offset: usize) -> fmt::Result
     ensures writes { WritesOnOk W.write_str_gives f.old result (place_of offset) f.new }
     ensures styled { WritesStyledOnOk W.write_str_gives f.old result (place_of offset) f.new }
@@ -140,7 +145,7 @@ impl From<AllocError> for PbError {
     }
 }
 
-// What is wrong, and how many bytes are left where the field begins.
+// The kind of an error, and the number of bytes that are left where its field begins.
 #[derive(Clone, Copy)]
 pub(crate) struct Fault {
     pub(crate) kind: PbErrorKind,
@@ -148,7 +153,7 @@ pub(crate) struct Fault {
 }
 
 impl Fault {
-    // The error of a block of so many bytes.
+    // Returns the error of a block of `len` bytes.
     #[inline(always)]
     pub(crate) fn in_block(self, len: usize) -> PbError
         ensures { result ≡ error_in len self }

@@ -1,14 +1,15 @@
-//! What holds of every block of DAG-PB.
+//! The laws of every block of DAG-PB.
 
 ghost use Rattle.std.specs.Prelude.{◌≡◌, ℕ, List, Ok};
 ghost use Rattle.ipld_cid.specs.Multihash.{IsBytes};
 ghost use Rattle.dag_pb.specs.Node.{NodeParts, IsNode};
 ghost use Rattle.dag_pb.specs.NodeReading.{read_node};
 
-/// What holds of every block of DAG-PB. A call does nothing.
+/// States the laws of every block of DAG-PB. A call does nothing.
 ///
-/// - Reading returns a node just where the bytes are one.
-/// - Bytes are at most one node. A node may be more than one block: its data before its links or after them, and varints longer than need be.
+/// - Reading returns a node if and only if the bytes are one.
+/// - Bytes are at most one node. A node may have more than one block: its data may come before its
+///   links or after them, and its varints may be longer than necessary.
 pub fn node_law()
     ensures read_is_encoded { (bytes : List ℕ) (node : NodeParts) → IsBytes bytes
         → read_node bytes ≡ Ok node → IsNode node bytes }

@@ -1,4 +1,5 @@
-//! Blocks of DAG-PB: Protocol Buffers whose nodes have links, as files and folders in IPFS are kept (IPLD's DAG-PB specification).
+//! Blocks of DAG-PB (IPLD's DAG-PB specification): Protocol Buffers whose nodes have links. Files
+//! and folders in IPFS are kept in such blocks.
 //!
 //! ```rust
 //! use dag_pb::{links_of_block, node_spans, read_node};
@@ -11,8 +12,9 @@
 //! let spans = node_spans(alloc, &block)?;
 //! ```
 //!
-//! Reading is as strict as the specification: fields other than those of a node and of a link, a field that stands twice or out of order,
-//! and another wire type are errors. A [`PbError`] says what is wrong, and at which byte of the block its field begins. No call recurses.
+//! Reading is as strict as the specification. It rejects fields other than those of a node and of a
+//! link, a field that appears twice or out of order, and another wire type. A [`PbError`] has the
+//! kind of the error, and the byte of the block at which its field begins. No call recurses.
 //!
 //! [`DagPbCodec`] has the trait `Links` of `ipld_codec`.
 #![tactic(auto)]

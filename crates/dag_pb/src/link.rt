@@ -18,18 +18,19 @@ const NAME: u64 = 18;
 
 const TSIZE: u64 = 24;
 
-/// A link of a node of DAG-PB. Its name is lent from the block.
+/// A link of a node of DAG-PB. Its name is borrowed from the block.
 #[derive(Clone, Copy)]
 pub struct PbLink<'a> {
-    /// What the link leads to.
+    /// The CID to which the link leads.
     pub hash: Cid,
-    /// The name of the link, where it has one. An empty name isn't the same as none.
+    /// The name of the link, if it has one. An empty name is not the same as no name.
     pub name: Option<&'a str>,
-    /// The size of what the link leads to, with all below it, as the block's author says it, where it has one. Nothing checks it.
+    /// The size of the block to which the link leads, with all blocks below it, if the link has a
+    /// size. It is the claim of the block's author. Nothing checks it.
     pub tsize: Option<u64>,
 }
 
-// A link, and how many bytes follow its hash and its name.
+// A link, and the number of bytes after its hash and after its name.
 #[derive(Clone, Copy)]
 pub(crate) struct PlacedLink<'a> {
     pub(crate) link: PbLink<'a>,
@@ -37,7 +38,7 @@ pub(crate) struct PlacedLink<'a> {
     pub(crate) behind_name: usize,
 }
 
-// The hash that a link begins with, and what follows it.
+// Reads the hash with which a link begins, and returns it with the bytes after it.
 #[tactic(auto, unfolding(crate::specs::LinkReading::read_hash))]
 #[inline(always)]
 fn read_hash(bytes: &[u8]) -> Result<(Cid, &[u8]), PbErrorKind>
@@ -56,7 +57,7 @@ fn read_hash(bytes: &[u8]) -> Result<(Cid, &[u8]), PbErrorKind>
     }
 }
 
-// The text that a name is.
+// Reads the string of a name.
 #[inline(always)]
 fn read_text(content: &[u8]) -> Result<&str, PbErrorKind>
     ensures { MatchResult result
@@ -69,7 +70,7 @@ fn read_text(content: &[u8]) -> Result<&str, PbErrorKind>
     }
 }
 
-// The name, where one comes, and what follows it.
+// Reads the name, if one comes, and returns it with the bytes after it.
 #[tactic(auto, unfolding(crate::specs::LinkReading::read_name))]
 #[inline(always)]
 fn read_name(bytes: &[u8]) -> Result<(Option<&str>, &[u8]), PbErrorKind>
@@ -87,7 +88,7 @@ fn read_name(bytes: &[u8]) -> Result<(Option<&str>, &[u8]), PbErrorKind>
     Ok((Some(name), rest))
 }
 
-// The size, where one comes, and what follows it.
+// Reads the size, if one comes, and returns it with the bytes after it.
 #[tactic(auto, unfolding(crate::specs::LinkReading::read_tsize))]
 #[inline(always)]
 fn read_tsize(bytes: &[u8]) -> Result<(Option<u64>, &[u8]), PbErrorKind>
@@ -105,7 +106,7 @@ fn read_tsize(bytes: &[u8]) -> Result<(Option<u64>, &[u8]), PbErrorKind>
     }
 }
 
-// That a link ends here; else what is wrong with the field that comes.
+// Checks that a link ends here. Otherwise returns the error of the field that comes.
 #[tactic(auto, unfolding(crate::specs::LinkReading::read_end))]
 #[inline(always)]
 fn read_end(bytes: &[u8]) -> Result<(), PbErrorKind>
@@ -121,7 +122,7 @@ fn read_end(bytes: &[u8]) -> Result<(), PbErrorKind>
     }
 }
 
-// The link whose message the bytes are, all of them.
+// Reads a link, whose message is all of the bytes.
 #[tactic(auto, unfolding(crate::specs::LinkReading::read_link))]
 #[inline(always)]
 pub(crate) fn read_link(bytes: &[u8]) -> Result<PlacedLink<'_>, Fault>

@@ -12,12 +12,14 @@ use crate::reader::{NodeField, Stage, read_part};
 use ipld_cid::Cid;
 use std::alloc::{AllocError, Global};
 
-/// A node of DAG-PB: the links of a block, and its data. Names and data are lent from the block.
+/// A node of DAG-PB: the links of a block, and its data. Names and data are borrowed from the
+/// block.
 #[derive(Drop)]
 pub struct PbNode<'a> {
     /// The links, in the order of the block.
     pub links: Vec<PbLink<'a>>,
-    /// The data, where the block has them. No data aren't the same as data of no bytes. The codec says nothing of what they mean.
+    /// The data, if the block has data. Data of no bytes are not the same as no data. The codec
+    /// does not define their meaning.
     pub data: Option<&'a [u8]>,
 }
 
@@ -50,7 +52,7 @@ impl<'a> PbNode<'a> {
     }
 }
 
-// The node that a block is, which public clauses say more of.
+// Reads the node of a block. The public function has more clauses.
 fn collect_node<'a>(alloc: Global, bytes: &'a [u8]) -> Result<PbNode<'a>, PbError>
     ensures exact { MatchResult result
         (λ node. read_node bytes.entry.now ≡ Ok (parts_of_node node))
@@ -77,13 +79,14 @@ fn collect_node<'a>(alloc: Global, bytes: &'a [u8]) -> Result<PbNode<'a>, PbErro
     Ok(node)
 }
 
-/// The node that a block is, all of its bytes.
+/// Decodes the node of a block, which is all of the bytes.
 ///
-/// It reads the bytes once, by a loop. It allocates for the vector of the links alone.
+/// It reads the bytes once, in a loop. It allocates only the vector of the links.
 ///
 /// # Errors
 ///
-/// `Memory` where an allocation failed, which of a node without links none does. Else the first error from the left: what is wrong with a field, and where it begins.
+/// `Memory` if an allocation fails. It is never returned for a node without links. Otherwise the
+/// first error from the left, with the offset of its field.
 pub fn read_node<'a>(alloc: Global, bytes: &'a [u8]) -> Result<PbNode<'a>, PbError>
     ensures found { IfOk result (λ node. IsNode (parts_of_node node) bytes.entry.now) }
     ensures only { (n : NodeParts) → IsNode n bytes.entry.now
@@ -97,7 +100,7 @@ pub fn read_node<'a>(alloc: Global, bytes: &'a [u8]) -> Result<PbNode<'a>, PbErr
     collect_node(alloc, bytes)
 }
 
-// Adds the hash of a field that is a link.
+// Adds the hash of a field, if it is a link.
 #[inline(always)]
 fn push_hash(links: &mut Vec<Cid>, part: &NodeField<'_>) -> Result<(), AllocError>
     ensures added { OnOk result ((rest : NodeParts) → map link_of links.old.items ++ hashes
@@ -114,7 +117,7 @@ fn push_hash(links: &mut Vec<Cid>, part: &NodeField<'_>) -> Result<(), AllocErro
     }
 }
 
-// The links of a block, which public clauses say more of.
+// Reads the links of a block. The public function has more clauses.
 fn collect_links(alloc: Global, bytes: &[u8]) -> Result<Vec<Cid>, PbError>
     ensures exact { MatchResult result
         (λ links. links_found bytes.now ≡ Ok (map link_of links.items))
@@ -137,13 +140,14 @@ fn collect_links(alloc: Global, bytes: &[u8]) -> Result<Vec<Cid>, PbError>
     Ok(links)
 }
 
-/// The links of a block, in its order, each as often as it stands there. Names and data are read and not kept.
+/// Returns the links of a block, in its order and with repeats. Names and data are read, and not
+/// kept.
 ///
-/// It reads the bytes once, by a loop, and allocates for the vector of the links alone.
+/// It reads the bytes once, in a loop, and allocates only the vector of the links.
 ///
 /// # Errors
 ///
-/// Those of [`read_node`]: the same error of the same bytes, unless an allocation fails.
+/// Those of [`read_node`]: the same error for the same bytes, unless an allocation fails.
 pub fn links_of_block(alloc: Global, bytes: &[u8]) -> Result<Vec<Cid>, PbError>
     ensures found { IfOk result (λ links. (n : NodeParts) × IsNode n bytes.now
         × (map link_of links.items ≡ hashes n)) }

@@ -1,4 +1,4 @@
-//! A field of a node.
+//! The fields of a node.
 
 ghost use Rattle.std.specs.Prelude.{◌≡◌, ◌<◌, ◌≤◌, ◌+◌, length, IfOk, Ok, Err, MatchResult};
 ghost use Rattle.dag_pb.specs.NodeReading as reading;
@@ -14,7 +14,7 @@ const DATA: u64 = 10;
 
 const LINKS: u64 = 18;
 
-// What came so far of a node.
+// The fields of a node that have come so far.
 #[derive(Clone, Copy)]
 pub(crate) enum Stage {
     Nothing,
@@ -26,7 +26,7 @@ pub(crate) enum Stage {
 }
 
 impl Stage {
-    // After another link, where one may come.
+    // Returns the stage after another link, if one may come.
     #[inline(always)]
     fn after_link(self) -> Option<Stage>
         ensures { result ≡ reading.after_link self }
@@ -38,7 +38,7 @@ impl Stage {
         }
     }
 
-    // After the data, where they may come.
+    // Returns the stage after the data, if they may come.
     #[inline(always)]
     fn after_data(self) -> Option<Stage>
         ensures { result ≡ reading.after_data self }
@@ -58,7 +58,7 @@ pub(crate) enum NodeField<'a> {
     Data(&'a [u8]),
 }
 
-// The link whose message stands behind its length, and what follows it.
+// Reads the link whose message is after its length, and returns it with the bytes after it.
 #[tactic(auto, unfolding(crate::specs::NodeReading::link_field))]
 #[inline(always)]
 fn read_link_field(left: usize, bytes: &[u8]) -> Result<(PlacedLink<'_>, &[u8]), Fault>
@@ -90,7 +90,7 @@ fn read_link_field(left: usize, bytes: &[u8]) -> Result<(PlacedLink<'_>, &[u8]),
     }
 }
 
-// The data behind their length, and what follows them.
+// Reads the data after their length, and returns them with the bytes after them.
 #[tactic(auto, unfolding(crate::specs::NodeReading::data_field))]
 #[inline(always)]
 fn read_data_field(left: usize, bytes: &[u8]) -> Result<(&[u8], &[u8]), Fault>
@@ -107,7 +107,7 @@ fn read_data_field(left: usize, bytes: &[u8]) -> Result<(&[u8], &[u8]), Fault>
     }
 }
 
-// A link, where one may come.
+// Reads a link, if one may come.
 #[inline(always)]
 fn take_link(
     stage: Stage,
@@ -134,7 +134,7 @@ fn take_link(
     }
 }
 
-// The data, where they may come.
+// Reads the data, if they may come.
 #[inline(always)]
 fn take_data(
     stage: Stage,
@@ -158,7 +158,7 @@ fn take_data(
     Ok((NodeField::Data(content), next, rest))
 }
 
-// The next field, what came then, and what follows it.
+// Reads the next field, and returns it with the stage after it and the bytes after it.
 #[tactic(auto, unfolding(crate::specs::NodeReading::read_part))]
 #[inline(always)]
 pub(crate) fn read_part(stage: Stage, bytes: &[u8]) -> Result<(NodeField<'_>, Stage, &[u8]), Fault>

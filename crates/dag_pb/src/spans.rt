@@ -1,4 +1,4 @@
-//! Where the parts of a node stand in its block.
+//! The spans of a node's parts in its block.
 
 ghost use Rattle.std.specs.Prelude.{◌≡◌, ◌⊎◌, ◌≤◌, [], length, option_map, IfOk, IfErr, IsOk, OnOk, OnErr, Ok, Err, MatchResult};
 ghost use Rattle.dag_pb.specs.Node.{NodeParts, IsNode};
@@ -11,17 +11,17 @@ use crate::link::PlacedLink;
 use crate::reader::{NodeField, Stage, read_part};
 use std::alloc::{AllocError, Global};
 
-/// Where content stands in a block.
+/// A span of bytes in a block.
 #[derive(Clone, Copy, Debug, PartialEq, Eq)]
 pub struct PbSpan {
     /// The byte of the block at which it begins.
     pub offset: usize,
-    /// How many bytes it has.
+    /// The number of its bytes.
     pub len: usize,
 }
 
 impl PbSpan {
-    // The span of so many bytes of a block, behind which so many follow.
+    // Returns the span of `len` bytes in a block of `size` bytes, with `behind` bytes after it.
     #[inline(always)]
     fn ending(size: usize, behind: usize, len: usize) -> Self
         ensures { result ≡ span_before size behind len }
@@ -33,7 +33,8 @@ impl PbSpan {
     }
 }
 
-// The span of a name, behind which so many bytes of a block of `size` bytes follow, where there is one.
+// Returns the span of a name, if there is one, in a block of `size` bytes, with `behind` bytes
+// after it.
 #[inline(always)]
 fn name_span(size: usize, behind: usize, name: Option<&str>) -> Option<PbSpan>
     ensures { result ≡ option_map (λ name. span_before size behind (length name.now)) name.entry }
@@ -44,19 +45,19 @@ fn name_span(size: usize, behind: usize, name: Option<&str>) -> Option<PbSpan>
     }
 }
 
-/// Where the parts of a link stand in a block.
+/// The spans of a link's parts in a block.
 #[derive(Clone, Copy, Debug, PartialEq, Eq)]
 pub struct PbLinkSpans {
     /// The bytes of its CID.
     pub hash: PbSpan,
-    /// Its name, which is UTF-8, where it has one.
+    /// Its name, which is UTF-8, if it has one.
     pub name: Option<PbSpan>,
-    /// Its size, where it has one.
+    /// Its size, if it has one.
     pub tsize: Option<u64>,
 }
 
 impl PbLinkSpans {
-    // In a block of so many bytes.
+    // Returns the spans of a link in a block of `size` bytes.
     #[inline(always)]
     fn of(size: usize, placed: &PlacedLink<'_>) -> Self
         ensures spans { result ≡ spans_of_link size placed.now }
@@ -70,17 +71,17 @@ impl PbLinkSpans {
     }
 }
 
-/// Where the parts of a node stand in its block.
+/// The spans of a node's parts in its block.
 #[derive(Debug, Drop)]
 pub struct PbNodeSpans {
     /// The links, in the order of the block.
     pub links: Vec<PbLinkSpans>,
-    /// The data, where the block has them.
+    /// The data, if the block has data.
     pub data: Option<PbSpan>,
 }
 
 impl PbNodeSpans {
-    // Adds a field of a block of so many bytes, behind which so many follow.
+    // Adds a field of a block of `size` bytes, with `behind` bytes after it.
     #[inline(always)]
     fn add(&mut self, size: usize, behind: usize, part: &NodeField<'_>) -> Result<(), AllocError>
         ensures added { OnOk result (Spans size behind part.now self.old self.new) }
@@ -99,7 +100,7 @@ impl PbNodeSpans {
     }
 }
 
-// The spans of a block, which public clauses say more of.
+// Reads the spans of a block. The public function has more clauses.
 fn collect_spans(alloc: Global, bytes: &[u8]) -> Result<PbNodeSpans, PbError>
     ensures exact { MatchResult result
         (λ spans. ((n : NodeParts) × (read_node bytes.now ≡ Ok n) × NodeStandsAt n bytes.now spans)
@@ -126,13 +127,15 @@ fn collect_spans(alloc: Global, bytes: &[u8]) -> Result<PbNodeSpans, PbError>
     Ok(spans)
 }
 
-/// Where the parts of the node stand that a block is, all of its bytes. For callers to which nothing can be lent, as in another language.
+/// Decodes the node of a block, which is all of the bytes, and returns the spans of its parts. It
+/// is for callers that can't borrow from the block, for example in another language.
 ///
-/// It reads the bytes once, by a loop. It allocates for the vector of the links alone.
+/// It reads the bytes once, in a loop. It allocates only the vector of the links.
 ///
 /// # Errors
 ///
-/// Those of [`read_node`](crate::read_node): the same error of the same bytes, unless an allocation fails.
+/// Those of [`read_node`](crate::read_node): the same error for the same bytes, unless an
+/// allocation fails.
 pub fn node_spans(alloc: Global, bytes: &[u8]) -> Result<PbNodeSpans, PbError>
     ensures found { IfOk result (λ spans. (n : NodeParts) × IsNode n bytes.now
         × NodeStandsAt n bytes.now spans) }

@@ -1,11 +1,11 @@
-//! The wire format of Protocol Buffers: varints, keys of fields, and contents behind their length.
+//! The wire format of Protocol Buffers: varints, keys of fields, and contents after their length.
 
 ghost use Rattle.std.specs.Prelude.{◌≡◌, ◌<◌, ◌≤◌, ◌+◌, length, option_map, IfOk, IfSome, Ok, Err, MatchResult};
 ghost use Rattle.dag_pb.specs.WireReading as reading;
 
 use crate::error::PbErrorKind;
 
-// Whether a byte behind `place` bytes of a varint is too much: ten bytes hold 64 bits.
+// Returns whether a byte is too great after `place` bytes of a varint: ten bytes hold 64 bits.
 #[inline(always)]
 fn overflows(place: usize, byte: u8) -> bool
     ensures { result ≡ reading.exceeds place byte }
@@ -13,8 +13,8 @@ fn overflows(place: usize, byte: u8) -> bool
     place == 9 && byte > 1
 }
 
-// The varint at the front, and the bytes after it. It isn't that of `ipld_cid`: a varint of Protocol Buffers may have more bytes than
-// its number needs.
+// Reads the varint at the front, and returns it with the bytes after it. Unlike a varint of
+// `ipld_cid`, a varint of Protocol Buffers may have more bytes than its number needs.
 #[inline(always)]
 pub(crate) fn read_varint(bytes: &[u8]) -> Result<(u64, &[u8]), PbErrorKind>
     ensures exact { MatchResult result
@@ -35,7 +35,7 @@ pub(crate) fn read_varint(bytes: &[u8]) -> Result<(u64, &[u8]), PbErrorKind>
     Err(PbErrorKind::End)
 }
 
-// The content behind its length, and the bytes after it.
+// Reads the content after its length, and returns it with the bytes after it.
 #[tactic(auto, unfolding(crate::specs::WireReading::read_content))]
 #[inline(always)]
 pub(crate) fn read_content(bytes: &[u8]) -> Result<(&[u8], &[u8]), PbErrorKind>
@@ -52,7 +52,7 @@ pub(crate) fn read_content(bytes: &[u8]) -> Result<(&[u8], &[u8]), PbErrorKind>
     }
 }
 
-// What stands after this key of a field, where the bytes begin with it.
+// Returns the bytes after this key of a field, if the bytes begin with the key.
 #[tactic(auto, unfolding(crate::specs::WireReading::after_key))]
 #[inline(always)]
 pub(crate) fn strip_key(key: u64, bytes: &[u8]) -> Result<Option<&[u8]>, PbErrorKind>

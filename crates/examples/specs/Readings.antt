@@ -8,7 +8,7 @@ use Rattle.examples.specs.declared.own_source.NextToken.TheVariants.{Begin, Item
 abbrev pub token_of_reading : ℤ → TokenModel
 token_of_reading n = atom (integer n)
 
--- the items of a list and its end
+-- the tokens of the items of a list and of its end
 abbrev pub items_of_readings : List ℤ → List TokenModel
 items_of_readings readings = map token_of_reading readings ++ seq_end ∷ []
 
@@ -21,6 +21,6 @@ tokens_from Begin rest = tokens_of_readings rest
 tokens_from Item rest = items_of_readings rest
 tokens_from Nothing rest = []
 
--- the tokens that are still to come
+-- the tokens that the source has left
 abbrev pub tokens_left : Readings → List TokenModel
 tokens_left source = tokens_from source.next source.rest.now

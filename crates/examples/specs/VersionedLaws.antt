@@ -1,4 +1,4 @@
--- The laws of the codec of contents behind a version.
+-- The laws of the codec whose blocks are a version and a content.
 use Rattle.std.specs.Prelude.{◌≡◌, ℕ, Bool, true, false, if◌then◌else◌, List, [], ◌∷◌, Some, None}
 use Rattle.std.proofs.Common.{refl, sym, ap, ◌∙◌, eqb}
 use Rattle.std.proofs.lemmas.Bool.{eqb-true}
@@ -14,7 +14,7 @@ pub versioned_encoded_once : EncodedOnce EncodesVersioned
 unfolding after_first
 versioned_encoded_once v w block p q = ap after_first (sym p ∙ q)
 
--- a byte before a content that is decoded is the version
+-- If a byte and the bytes after it decode as a content, they are the block of that content.
 version_encodes : (v : List ℕ) (byte : ℕ) (rest : List ℕ) (one : Bool) → eqb byte 1 ≡ one
     → (if one then Some rest else None) ≡ Some v → EncodesVersioned v (byte ∷ rest)
 version_encodes v byte rest true is_one e = ap (λ x. x ∷ rest) (eqb-true byte 1 is_one) ∙ ap (λ xs. 1 ∷ xs) (same_Some _ _ e)

@@ -1,4 +1,4 @@
-//! The bytes of a CID become its text.
+//! The text of a CID, from its bytes.
 
 // [begin: bytes_to_text]
 ghost use Rattle.std.specs.Prelude.{◌≡◌, IfOk, string_bytes};
@@ -9,7 +9,7 @@ ghost use Rattle.ipld_cid.specs.Text.{text_of};
 use ipld_cid::{Cid, CidError};
 use std::alloc::Global;
 
-/// The text of the CID that the bytes encode, all of them.
+/// Returns the text of the CID that the bytes encode, with nothing after it.
 pub fn text_of_bytes(alloc: Global, bytes: &[u8]) -> Result<String, CidError>
     ensures { IfOk result (λ text. (cid : Link) × IsCid 64 bytes.now cid
         × (string_bytes text ≡ text_of cid)) }

@@ -5,7 +5,8 @@ use ipld_car::{CarReader, DEFAULT_LIMIT, section_at};
 use ipld_cid::Cid;
 use std::alloc::Global;
 
-/// Prints where the section of each block begins, the CID, and how many bytes the block has. No block is copied.
+/// Prints the beginning of each block's section, its CID and the size of the block in bytes. No
+/// block is copied.
 pub fn list_blocks(rt: &impl Print, alloc: Global, car: &[u8]) -> anyhow::Result<()> {
     let reader = CarReader::new(alloc, car, DEFAULT_LIMIT)?;
     let start = reader.start() as usize;
@@ -21,19 +22,21 @@ pub fn list_blocks(rt: &impl Print, alloc: Global, car: &[u8]) -> anyhow::Result
 }
 // [end: car_in_memory]
 
-// Version 1: a header without roots, and two sections. Each is its length, a CID under the identity hash, and the block.
+// Version 1: a header without roots, and two sections. Each section is its length, a CID with the
+// identity hash, and the block.
 const VERSION_1: &[u8] =
     b"\x11\xa2eroots\x80gversion\x01\x0a\x01\x55\x00\x03oneone\x0e\x01\x55\x00\x05threethree";
 
-// What stands before that as the payload of version 2: the pragma, 16 bytes of characteristics, where the payload begins, how many bytes it
-// has, and where the index begins.
+// The bytes before it if it is the payload of version 2. They are the pragma, 16 bytes of
+// characteristics, the beginning and the size of the payload, and the beginning of the index.
 const BEFORE_PAYLOAD: &[u8] =
     b"\x0a\xa1gversion\x02\0\0\0\0\0\0\0\0\0\0\0\0\0\0\0\0\x33\0\0\0\0\0\0\0\x2c\0\0\0\0\0\0\0\x5f\0\0\0\0\0\0\0";
 
-// An index without entries, which stands behind the payload and is no section.
+// An index without entries, which follows the payload and is not a section.
 const INDEX: &[u8] = b"\x81\x08\0\0\0\0";
 
-/// Lists the blocks of a CAR of version 1, of one of version 2, and of that without its last bytes.
+/// Lists the blocks of a CAR of version 1, of one of version 2, and of the latter without its last
+/// bytes.
 pub fn show(rt: &impl Print, alloc: Global) -> anyhow::Result<()> {
     list_blocks(rt, alloc, VERSION_1)?;
     let mut version_2 = Vec::new(alloc);

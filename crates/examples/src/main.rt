@@ -1,6 +1,6 @@
 //! Examples of each way to use the libraries: one module each, called in turn.
 //!
-//! Each prints a line for each step, and `stdout` has what they have to print.
+//! An example prints a line for each step. The file `stdout` has the expected output.
 #![tactic(auto)]
 
 mod bytes_to_text;

@@ -1,4 +1,4 @@
-//! A codec of one's own: a block is the byte 1, for the version of the format, and then the content.
+//! A custom codec: a block is the byte 1, for the version of the format, and then the content.
 
 // [begin: codec]
 ghost use Rattle.std.specs.Prelude.{◌≡◌, ℕ, List, Some, None, MatchOption};
@@ -9,10 +9,10 @@ use std::alloc::Global;
 use std::io::{BufRead, ErrorKind, Write};
 use std::{error, fmt};
 
-/// The codec of bytes behind a byte for the version, which is 1.
+/// The codec of bytes after a byte for the version, which is 1.
 pub struct VersionedCodec;
 
-/// Why a content isn't read or written.
+/// The reason why a content can't be read or written.
 #[derive(Debug, PartialEq, Eq, Drop)]
 pub enum VersionedError {
     /// An allocation failed.
@@ -38,7 +38,7 @@ impl fmt::Display for VersionedError {
 
 impl error::Error for VersionedError {}
 
-/// The content of a block.
+/// Returns the content of a block, or `None` if it does not begin with the byte 1.
 fn content(block: &[u8]) -> Option<&[u8]>
     ensures { MatchOption result
         (versioned_content block.now ≡ None)
@@ -59,7 +59,7 @@ impl Links for VersionedCodec {
 
     ghost links_failure_of = { versioned_failure };
 
-    /// No links: the content is not looked into.
+    /// Returns no links, because the content is not searched.
     fn links(alloc: Global, bytes: &[u8]) -> Result<LinkIter, VersionedError> {
         match content(bytes) {
             Some(_) => Ok(LinkIter::new(Vec::new(alloc))),
@@ -69,7 +69,7 @@ impl Links for VersionedCodec {
 }
 
 impl Codec<Vec<u8>> for VersionedCodec {
-    // In the range that the table of multicodecs leaves to anyone.
+    // In the multicodec table's range for private use.
     const CODE: u64 = 0x300001;
 
     type Error = VersionedError;
@@ -133,7 +133,7 @@ impl Codec<Vec<u8>> for VersionedCodec {
 // [end: codec]
 
 // [begin: generic]
-/// A value after it went through a block of any codec.
+/// Encodes a value as a block of any codec, and decodes the block.
 pub fn through_block<C, T>(alloc: Global, value: &T) -> Result<T, C::Error>
 where
     C: Codec<T>,
@@ -143,7 +143,7 @@ where
 }
 // [end: generic]
 
-/// Prints a block, the content after it went through one, and the error of a block of another version.
+/// Prints a block, the content that it decodes to, and the error of a block of another version.
 pub fn show(rt: &impl Print, alloc: Global) -> anyhow::Result<()> {
     let content = Vec::from_slice(alloc, b"\xca\xfe")?;
     let block = VersionedCodec::encode_to_vec(alloc, &content)?;

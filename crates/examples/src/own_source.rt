@@ -1,4 +1,4 @@
-//! A token source of one's own: numbers in memory, as the tokens of a list.
+//! A custom token source: numbers in memory as the tokens of a list.
 
 // [begin: source]
 ghost use Rattle.std.specs.Prelude.{◌≡◌, [], false};
@@ -13,7 +13,7 @@ pub struct Readings<'a> {
     rest: &'a [i128],
 }
 
-/// Which token comes next.
+/// The next token.
 #[derive(Clone, Copy)]
 enum NextToken {
     Begin,
@@ -22,7 +22,7 @@ enum NextToken {
 }
 
 impl<'a> Readings<'a> {
-    /// The tokens of these readings, which are borrowed.
+    /// Creates a source of the tokens of these readings, which it borrows.
     pub fn new(readings: &'a [i128]) -> Self
         ensures { tokens_left result ≡ tokens_of_readings readings.now }
     {
@@ -77,7 +77,7 @@ use ipld_tokens::{TokenError, read_ipld};
 use ipld_tree::Ipld;
 use std::alloc::Global;
 
-/// The tree of some readings: a List of Integers.
+/// Returns the tree of some readings: a List of Integers.
 pub fn tree_of_readings(alloc: Global, readings: &[i128]) -> Result<Ipld, TokenError<Stopped>> {
     read_ipld(alloc, &mut Readings::new(readings))
 }

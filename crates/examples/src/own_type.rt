@@ -1,4 +1,4 @@
-//! A value of a type of one's own is written as a block and read from it.
+//! A value of a custom type, written as a block and read from it.
 
 ghost use Rattle.std.specs.Prelude.{[], ◌∷◌, false, codes};
 ghost use Rattle.ipld_de.specs.Described.{refl, structure, field, string, u64, option, cid};
@@ -19,11 +19,11 @@ use std::alloc::{AllocError, Global};
 /// A photo in an album.
 #[derive(Debug, PartialEq, Eq, Drop)]
 pub struct Photo {
-    /// What is seen.
+    /// The subject of the photo.
     pub title: String,
-    /// When it was taken, in seconds since 1970.
+    /// The time when it was taken, in seconds since 1970.
     pub taken: u64,
-    /// Where it was taken.
+    /// The place where it was taken.
     pub place: Option<String>,
     /// The block of its pixels.
     pub pixels: Cid,
@@ -31,7 +31,7 @@ pub struct Photo {
 // [end: photo]
 
 // [begin: describe]
-/// A Map of the four fields; other names are ignored.
+/// A Map of the four fields. Other names are ignored.
 impl Described for Photo {
     ghost known = { structure (field (codes "title") (λ p. p.title) string
         ∷ field (codes "taken") (λ p. p.taken) u64
@@ -85,7 +85,7 @@ impl Deserialize for Photo {
 // [end: read]
 
 // [begin: law]
-/// Plain where the place is.
+/// Plain if the place is.
 impl Lawful for Photo {
     ghost plain = { ⟦<Photo as Described>⟧.known.plain };
 
@@ -110,7 +110,7 @@ impl Explain for Photo {
 // [end: explain]
 
 // [begin: block]
-/// The photo that is read from the block of a photo.
+/// Writes a photo as a block, and reads the photo from it.
 pub fn through_block(alloc: Global, photo: &Photo) -> anyhow::Result<Photo> {
     let block = to_vec(alloc, photo)?;
     let same: Photo = from_slice(alloc, &block)?;
@@ -128,7 +128,7 @@ fn ferry(alloc: Global) -> anyhow::Result<Photo> {
 }
 
 // [begin: why]
-/// Prints where and why a block is no photo.
+/// Prints why a block is not a photo, and the place of the error.
 fn show_why(rt: &impl Print, alloc: Global, block: &[u8]) -> anyhow::Result<()> {
     match explain_slice::<Photo>(alloc, block, &Limits::default())? {
         Some(explanation) => println!(rt; "{explanation}")?,
@@ -138,7 +138,8 @@ fn show_why(rt: &impl Print, alloc: Global, block: &[u8]) -> anyhow::Result<()> 
 }
 // [end: why]
 
-/// Prints the block of a photo, whether the photo that is read from it is the same, and why another block is none.
+/// Prints the block of a photo, whether the photo read from it is the same, and why another block
+/// is not a photo.
 pub fn show(rt: &impl Print, alloc: Global) -> anyhow::Result<()> {
     let photo = ferry(alloc)?;
     println!(rt; "{}", hex::encode(alloc, &to_vec(alloc, &photo)?)?)?;

@@ -1,4 +1,4 @@
-//! A tree is built, encoded as a block, and the block is named by its CID.
+//! A tree that is built and encoded as a block, and the CID of the block.
 
 ghost use Rattle.std.specs.Prelude.{◌≡◌, Some, IfOk};
 ghost use Rattle.dag_cbor_format.specs.Canonical.{canonical};
@@ -11,7 +11,7 @@ use ipld_cid::Cid;
 use ipld_tree::{Ipld, ipld};
 use std::alloc::{AllocError, Global};
 
-/// An album with two pages, one of which isn't there yet.
+/// Returns an album with two pages, one of which is still missing.
 pub fn album(alloc: Global, page: Cid) -> Result<Ipld, AllocError> {
     ipld!(alloc, {"title": "Summer", "year": 2024u16, "pages": [page, null]})
 }
@@ -21,7 +21,7 @@ pub fn album(alloc: Global, page: Cid) -> Result<Ipld, AllocError> {
 use dag_cbor::{CborError, DagCborCodec};
 use ipld_codec::Codec;
 
-/// The block of a tree: the only one in which the keys of each map are sorted.
+/// Returns the block of a tree: the only one in which the keys of each map are sorted.
 pub fn block_of(alloc: Global, tree: &Ipld) -> Result<Vec<u8>, CborError>
     ensures { IfOk result (λ block. canonical (tree_of tree.now) ≡ Some block.items) }
 {
@@ -33,7 +33,7 @@ pub fn block_of(alloc: Global, tree: &Ipld) -> Result<Vec<u8>, CborError>
 use ipld_block::cid_of;
 use ipld_cid::DAG_CBOR;
 
-/// The CID of a block of DAG-CBOR, by its SHA2-256 digest.
+/// Returns the CID of a block of DAG-CBOR, by its SHA2-256 digest.
 pub fn name_of(block: &[u8]) -> Cid
     ensures { (link_of result).digest ≡ sha256 block.now }
 {
@@ -41,7 +41,8 @@ pub fn name_of(block: &[u8]) -> Cid
 }
 // [end: name]
 
-/// Prints the block of an empty map, that of an album with this map's CID on a page, their CIDs, and the album's links.
+/// Prints the block of an empty map, the block of an album with this map's CID on a page, their
+/// CIDs, and the album's links.
 pub fn show(rt: &impl Print, alloc: Global) -> anyhow::Result<()> {
     let empty = block_of(alloc, &ipld!(alloc, {})?)?;
     let page = name_of(&empty);

@@ -1,4 +1,4 @@
-//! The links of an untrusted block, where it has not too many.
+//! The links of an untrusted block, up to a limit.
 
 // [begin: untrusted_links]
 ghost use Rattle.std.specs.Prelude.{◌≡◌, ◌≤◌, true, Some, map, IfOk, vec_len};
@@ -10,12 +10,12 @@ use ipld_cid::Cid;
 use std::alloc::Global;
 use std::{error, fmt};
 
-/// Why the links of a block aren't returned.
+/// The reason why the links of a block aren't returned.
 #[derive(Debug, PartialEq, Eq, Drop)]
 pub enum LinksError {
     /// The block has more links than the limit.
     TooMany,
-    /// The bytes are no block or pass a limit, or an allocation failed.
+    /// The bytes are not a block or exceed a limit, or an allocation failed.
     Block(BlockError),
 }
 
@@ -36,9 +36,11 @@ impl From<BlockError> for LinksError {
     }
 }
 
-/// The links of a block, in the order of its bytes, where there are no more than `limit`. The block may have floats.
+/// Returns the links of a block, in the order of its bytes, if there are at most `limit`. The block
+/// may have floats.
 ///
-/// The links are counted before the first is stored. Neither pass builds a tree, and both end where a limit is passed.
+/// The links are counted before the first is stored. Neither pass builds a tree, and both stop if a
+/// limit is exceeded.
 pub fn links_within(alloc: Global, block: &[u8], limit: usize) -> Result<Vec<Cid>, LinksError>
     ensures few { IfOk result (λ links. vec_len links ≤ limit) }
     ensures found { IfOk result (λ links. links_read true block.now ≡ Some
@@ -55,10 +57,11 @@ pub fn links_within(alloc: Global, block: &[u8], limit: usize) -> Result<Vec<Cid
 }
 // [end: untrusted_links]
 
-// A list of twice the same link, a CID of no bytes: tag 42 before a zero byte and the four bytes of the CID.
+// A list of the same link twice, the CID of an empty block. Tag 42 is followed by a zero byte and
+// the four bytes of the CID.
 const BLOCK: &[u8] = b"\x82\xd8\x2a\x45\x00\x01\x55\x00\x00\xd8\x2a\x45\x00\x01\x55\x00\x00";
 
-/// Prints the links of a block, with the limits 2 and 1, and why a cut block has none.
+/// Prints the links of a block, with the limits 2 and 1, and the error of a cut block.
 pub fn show(rt: &impl Print, alloc: Global) -> anyhow::Result<()> {
     for link in &links_within(alloc, BLOCK, 2)? {
         println!(rt; "{link}")?;

@@ -1,4 +1,4 @@
-//! What the arguments of several commands have in common.
+//! The arguments that several commands share.
 
 use clap::ArgMatches;
 use clap::parser::ValueSource;
@@ -6,7 +6,7 @@ use ipld_block::BlockCodec;
 use ipld_car::DEFAULT_LIMIT;
 use ipld_cli::{Outcome, report_out_of_memory, report_wrong_arguments};
 
-/// The codec that `--codec` names, DAG-CBOR where it isn't given.
+/// Returns the codec that `--codec` names. DAG-CBOR is the default.
 pub fn codec_of(matches: &ArgMatches<'_>) -> BlockCodec {
     matches
         .get_str("codec")
@@ -14,13 +14,13 @@ pub fn codec_of(matches: &ArgMatches<'_>) -> BlockCodec {
         .unwrap_or(BlockCodec::DagCbor)
 }
 
-/// Whether `--codec` is given.
+/// Returns whether `--codec` is given.
 pub fn names_codec(matches: &ArgMatches<'_>) -> bool {
     matches.value_source("codec") == Some(ValueSource::CommandLine)
 }
 
-/// The number of bytes that a text says: digits, and behind them nothing, or K, M or G for 2^10, 2^20 or 2^30 bytes; `None` of other texts, of
-/// 0, and of what has more than 64 bits.
+/// Parses a number of bytes: digits, and after them nothing, or K, M or G for units of 2^10, 2^20
+/// or 2^30 bytes. Returns `None` for any other text, for 0, and for numbers of more than 64 bits.
 pub fn parse_size(text: &str) -> Option<u64> {
     let (digits, unit) = if let Some(digits) = text.strip_suffix('K') {
         (digits, 1 << 10)
@@ -38,7 +38,8 @@ pub fn parse_size(text: &str) -> Option<u64> {
     if size == 0 { None } else { Some(size) }
 }
 
-/// The size that an option says, or `None` where it isn't given. What is no size is said as of other wrong arguments.
+/// Returns the size that an option has, or `None` if it is not given. Reports wrong arguments if
+/// its value is not a size.
 pub fn size_of(
     rt: &HostRuntime,
     matches: &ArgMatches<'_>,
@@ -62,7 +63,8 @@ fn report_wrong_size(rt: &HostRuntime, option: &str, text: &str) -> Outcome {
     }
 }
 
-/// The longest section that is read, as `--limit` says, 8 MiB where it isn't given.
+/// Returns the size of the longest section that is read: the value of `--limit`, or 8 MiB by
+/// default.
 pub fn limit_of(rt: &HostRuntime, matches: &ArgMatches<'_>) -> Result<u64, Outcome> {
     Ok(size_of(rt, matches, "limit")?.unwrap_or(DEFAULT_LIMIT))
 }

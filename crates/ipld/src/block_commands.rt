@@ -1,7 +1,8 @@
-//! The commands of the program `ipld` on blocks and CIDs: `show`, `links`, `check`, `cid` and `encode`.
+//! The commands of the program `ipld` on blocks and CIDs: `show`, `links`, `check`, `cid` and
+//! `encode`.
 //!
-//! Each takes the arguments of its command as `clap` found them, reads its files, writes standard output and standard error, and returns how it
-//! ended.
+//! Each takes the arguments of its command that `clap` parsed, reads its files, writes standard
+//! output and standard error, and returns how it ended.
 
 mod check;
 mod cid;

@@ -1,7 +1,8 @@
-//! The commands of the program `ipld` on CAR files: `car`, which lists and checks them, `car extract` and `car create`.
+//! The commands of the program `ipld` on CAR files: `car`, which lists and checks them,
+//! `car extract` and `car create`.
 //!
-//! [`run_car`] takes the arguments as `clap` found them, reads the files, writes standard output, files and standard error, and returns how it
-//! ended.
+//! [`run_car`] takes the arguments that `clap` parsed, reads the files, writes standard output,
+//! files and standard error, and returns how it ended.
 
 mod create;
 mod extract;

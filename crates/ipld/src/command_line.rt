@@ -1,4 +1,4 @@
-//! The arguments that `ipld` takes, and its help.
+//! The arguments of `ipld`, and its help.
 
 mod commands;
 
@@ -8,11 +8,11 @@ use crate::command_line::commands::{
 use clap::{Arg, ArgAction, ArgGroup, Command};
 use std::alloc::{AllocError, Global};
 
-// A command, without those below it.
+// A command, without its subcommands.
 #[derive(Clone, Copy)]
 struct Description {
     name: &'static str,
-    // What it does, on a line, and what help says behind its arguments.
+    // A line about the command, and the help after its arguments.
     about: &'static str,
     more: Option<&'static str>,
     arguments: &'static [Argument],
@@ -25,37 +25,37 @@ struct Argument {
     short: Option<char>,
     kind: Kind,
     help: &'static str,
-    // The arguments that have to be given with it, and those that may not be.
+    // The arguments that are required with it, and those that are not allowed with it.
     needs: &'static [&'static str],
     excludes: &'static [&'static str],
-    // The groups that it is in, of each of which one argument is given at a time.
+    // The groups that it is in. Only one argument of a group can be given at a time.
     groups: &'static [&'static str],
 }
 
-// What an argument is. A value's name is what help calls it.
+// The kind of an argument. The name of a value is the one in the help.
 #[derive(Clone, Copy)]
 enum Kind {
     // An option without a value.
     Flag,
     // An option with a value of this name.
     Value(&'static str),
-    // One that has to be given.
+    // An option that is required.
     Required(&'static str),
-    // One whose value may begin with a hyphen.
+    // An option whose value may begin with a hyphen.
     Hyphened(&'static str),
-    // One that may be given several times.
+    // An option that may be given several times.
     Repeated(&'static str),
-    // One whose value is one of these.
+    // An option whose value is one of these.
     OneOf(&'static str, &'static [&'static str]),
-    // One that names one of these codecs, DAG-CBOR where it isn't given.
+    // An option that names one of these codecs. DAG-CBOR is the default.
     Codec(&'static [&'static str]),
-    // A word that has to be there.
+    // A word that is required.
     Word(&'static str),
-    // Words, one or more.
+    // One or more words.
     Words(&'static [&'static str]),
 }
 
-// An option, by its name.
+// Creates an option by its name.
 fn option_without_value<'a>(alloc: Global, argument: &Argument) -> Arg<'a> {
     let option = Arg::new(alloc, argument.name).long(argument.name);
     match argument.short {
@@ -64,12 +64,12 @@ fn option_without_value<'a>(alloc: Global, argument: &Argument) -> Arg<'a> {
     }
 }
 
-// An option with a value of this name.
+// Creates an option with a value of this name.
 fn option_with_value<'a>(alloc: Global, argument: &Argument, value: &'a str) -> Arg<'a> {
     option_without_value(alloc, argument).value_name(value)
 }
 
-// An argument, without its help.
+// Creates an argument, without its help.
 fn argument_of_kind<'a>(alloc: Global, argument: &Argument) -> Arg<'a> {
     match argument.kind {
         Kind::Flag => option_without_value(alloc, argument).action(ArgAction::SetTrue),
@@ -117,7 +117,7 @@ fn with_arguments<'a>(
     Ok(command)
 }
 
-// A command of a name, without its arguments.
+// Creates a command of this name, without its arguments.
 fn bare_command<'a>(alloc: Global, description: &Description) -> Command<'a> {
     let command = Command::new(alloc, description.name).about(description.about);
     match description.more {
@@ -146,7 +146,7 @@ fn with_commands<'a>(
     Ok(command)
 }
 
-// The program, without its commands.
+// Creates the program, without its commands.
 fn program_command<'a>(alloc: Global) -> Result<Command<'a>, AllocError> {
     Command::new(alloc, "ipld")
         .about(ABOUT)
@@ -157,7 +157,7 @@ fn program_command<'a>(alloc: Global) -> Result<Command<'a>, AllocError> {
         .bin_name("ipld")
 }
 
-// What is asked of a CAR, without the commands that read or write its blocks.
+// Creates the command that lists a CAR, without the subcommands that read or write its blocks.
 fn car_list_command<'a>(alloc: Global) -> Result<Command<'a>, AllocError> {
     command_of(alloc, &LIST)?
         .args_conflicts_with_subcommands(true)
@@ -169,17 +169,17 @@ fn car_command<'a>(alloc: Global) -> Result<Command<'a>, AllocError> {
     with_commands(alloc, car_list_command(alloc)?, CAR_COMMANDS)
 }
 
-// The program, with the commands on blocks.
+// Creates the program, with the commands on blocks.
 fn block_commands<'a>(alloc: Global) -> Result<Command<'a>, AllocError> {
     with_commands(alloc, program_command(alloc)?, BLOCK_COMMANDS)
 }
 
-// The program, with the commands on blocks and CARs.
+// Creates the program, with the commands on blocks and CARs.
 fn file_commands<'a>(alloc: Global) -> Result<Command<'a>, AllocError> {
     block_commands(alloc)?.subcommand(car_command(alloc)?)
 }
 
-/// The command line of `ipld`.
+/// Creates the command line of `ipld`.
 pub fn command<'a>(alloc: Global) -> Result<Command<'a>, AllocError> {
     file_commands(alloc)?.subcommand(command_of(alloc, &ENCODE)?)
 }

@@ -1,4 +1,4 @@
-//! `ipld` reads IPLD blocks, CIDs and CAR files. `ipld --help` says how.
+//! `ipld` reads IPLD blocks, CIDs and CAR files. `ipld --help` prints its usage.
 #![tactic(auto)]
 
 mod arguments;
@@ -28,11 +28,11 @@ fn exit_code(outcome: Outcome) -> ExitCode
     ExitCode::from(outcome.status())
 }
 
-// Does what the arguments say.
+// Runs the command in the arguments.
 fn run(rt: &HostRuntime) -> Outcome {
     match argument_words(rt) {
         Ok(words) => run_words(rt, words.as_slice()),
-        // Where a message can't be written, the status says it.
+        // If a message can't be written, the exit status still shows the failure.
         Err(error) if error.kind() == ErrorKind::OutOfMemory => report_no_memory(rt),
         Err(_) => {
             let _ = eprintln!(rt;
@@ -48,7 +48,7 @@ fn report_no_memory(rt: &HostRuntime) -> Outcome {
     Outcome::Failed
 }
 
-// The arguments, the program's name first.
+// Returns the arguments, the program's name first.
 fn argument_words(rt: &HostRuntime) -> io::Result<Vec<String>> {
     let words = env::args(rt)?.collect(rt.alloc())?;
     Ok(words)
@@ -83,7 +83,7 @@ fn run_command(rt: &HostRuntime, name: &str, matches: &ArgMatches<'_>) -> Outcom
     }
 }
 
-// How it ends where help was printed, or a mistake in the arguments.
+// Returns the outcome after printing help or a usage error.
 fn outcome_of_printing(printed: io::Result<()>, is_help: bool) -> Outcome {
     match printed {
         Ok(()) if is_help => Outcome::Done,

@@ -1,4 +1,4 @@
--- What is read of blocks of the codecs that are known.
+-- The blocks of the known codecs: their links and their errors.
 use Rattle.std.specs.Prelude.{◌≡◌, ◌≢◌, ⊤, ℕ, List, [], Some, None, Ok, Err, true, false}
 use Rattle.ipld_cid.specs.Cid.{Link}
 use Rattle.dag_cbor_blocks.specs.declared.block_error.BlockError.{BlockError}
@@ -23,9 +23,9 @@ use Rattle.ipld_block.specs.declared.error.CheckError.TheVariants.{Memory, Inval
 use Rattle.ipld_block.specs.declared.error.InvalidBlock.{InvalidBlock}
 use Rattle.ipld_block.specs.declared.error.InvalidBlock.TheVariants.{Cbor, Pb, Json, NotCanonical}
 
--- True if these are the links of a block of this codec: all of DAG-CBOR, floats allowed; those of
--- the node of DAG-PB; those of the tree of DAG-JSON, floats allowed; and none of plain bytes
--- (DAG-CBOR, DAG-PB and DAG-JSON specifications).
+-- True if `bytes` are a block of this codec and `links` are its links. DAG-CBOR has all links of
+-- the block, DAG-PB those of the node, and DAG-JSON those of the tree. DAG-CBOR and DAG-JSON may
+-- have floats. Raw bytes have no links (DAG-CBOR, DAG-PB and DAG-JSON specifications).
 abbrev pub HasLinks : BlockCodec → List ℕ → List Link → Type 0
 HasLinks DagCbor bytes links = links_read true bytes ≡ Some links
 HasLinks DagPb bytes links = links_found bytes ≡ Ok links
@@ -33,19 +33,22 @@ HasLinks DagJson bytes links = links_in true bytes ≡ Some links
 HasLinks Raw bytes links = links ≡ []
 
 -- True if the bytes are a block of this codec (DAG-CBOR, DAG-PB and DAG-JSON specifications).
+-- DAG-CBOR and DAG-JSON may have floats. Any bytes are a block of raw.
 abbrev pub IsBlock : BlockCodec → List ℕ → Type 0
 IsBlock DagCbor bytes = error_in true bytes ≡ None
 IsBlock DagPb bytes = (links : List Link) × (links_found bytes ≡ Ok links)
 IsBlock DagJson bytes = (t : Tree) × EncodesTreeIn true t bytes
 IsBlock Raw bytes = ⊤
 
--- the first error of bytes that are no block of DAG-CBOR, and at which byte it lies
+-- True if the bytes are not a block of DAG-CBOR, with floats allowed, and `error` is their first
+-- error, with its offset.
 abbrev pub IsNoCbor : List ℕ → BlockError → Type 0
 IsNoCbor bytes error =
     (first : CborError) × (error.kind ≡ OfFormat first) × (error_in true bytes ≡ Some first) × (error.offset ≡ error_offset true bytes)
 
--- True if the bytes are not a block of the codec, for this reason and at this place; no allocation
--- failed (DAG-CBOR, DAG-PB and DAG-JSON specifications).
+-- True if the bytes are not a block of the codec, for this reason and at this offset (DAG-CBOR,
+-- DAG-PB and DAG-JSON specifications). The reason is not a failed allocation. No bytes are invalid
+-- for raw.
 abbrev pub IsInvalid : BlockCodec → List ℕ → InvalidBlock → Type 0
 IsInvalid DagCbor bytes (Cbor error) = IsNoCbor bytes error
 IsInvalid DagCbor bytes (Pb error) = ⊥
@@ -61,36 +64,40 @@ IsInvalid DagJson bytes (Json error) = IsBlockError true bytes error
 IsInvalid DagJson bytes NotCanonical = ⊥
 IsInvalid Raw bytes why = ⊥
 
--- True if the bytes are not a block of DAG-CBOR, for this reason and at this place, or are a block
--- in which the keys of a map are not sorted (DAG-CBOR specification).
+-- True if the bytes are not a block of DAG-CBOR, for this reason and at this offset, or are a block
+-- that has a map with unsorted keys (DAG-CBOR specification).
 abbrev pub IsNotCanonical : List ℕ → InvalidBlock → Type 0
 IsNotCanonical bytes (Cbor error) = IsNoCbor bytes error
 IsNotCanonical bytes (Pb error) = ⊥
 IsNotCanonical bytes (Json error) = ⊥
 IsNotCanonical bytes NotCanonical = is_sorted true bytes ≡ Some false
 
--- True if an allocation failed, or `P` is true of why the bytes are invalid.
+-- True if an allocation failed, or if `P` is true of the reason why the bytes are invalid.
 abbrev pub IfInvalid : CheckError → (InvalidBlock → Type 0) → Type 0
 IfInvalid Memory P = Unit {0}
 IfInvalid (Invalid why) P = P why
 
--- an allocation failed, or the block passes a limit of which no memory has room for so much
+-- True if an error of this kind counts as out of memory: a failed allocation, `TooDeep` or
+-- `TooMany`.
 abbrev pub IsOutOfMemory : BlockErrorKind → Type 0
 IsOutOfMemory (OfFormat first) = first ≡ CborMemory
 IsOutOfMemory TooDeep = Unit {0}
 IsOutOfMemory TooMany = Unit {0}
 
--- what is said of an error of DAG-CBOR: that an allocation failed, or the error, which is no limit
+-- True if the second error represents this error of DAG-CBOR: as `Memory` if it counts as out of
+-- memory, and otherwise as `Invalid` with the same error.
 abbrev pub MadeOfCbor : BlockError → CheckError → Type 0
 MadeOfCbor error Memory = IsOutOfMemory error.kind
 MadeOfCbor error (Invalid why) = (why ≡ Cbor error) × ((first : CborError) × (error.kind ≡ OfFormat first) × (first ≢ CborMemory))
 
--- the same of DAG-PB
+-- True if the second error represents this error of DAG-PB: as `Memory` if an allocation failed,
+-- and otherwise as `Invalid` with the same error.
 abbrev pub MadeOfPb : PbError → CheckError → Type 0
 MadeOfPb error Memory = error.kind ≡ PbMemory
 MadeOfPb error (Invalid why) = (why ≡ Pb error) × (error.kind ≢ PbMemory)
 
--- the same of DAG-JSON
+-- True if the second error represents this error of DAG-JSON: as `Memory` if an allocation failed,
+-- and otherwise as `Invalid` with the same error.
 abbrev pub MadeOfJson : ReadError → CheckError → Type 0
 MadeOfJson error Memory = error.kind ≡ JsonMemory
 MadeOfJson error (Invalid why) = (why ≡ Json error) × (error.kind ≢ JsonMemory)

@@ -1,9 +1,9 @@
--- Codecs by their codes of the multicodec table.
+-- Codecs and hash functions by their codes in the multicodec table.
 use Rattle.std.specs.Prelude.{ℕ, ◌≡◌, ◌≢◌, ◌==◌, if◌then◌else◌, List, codes, Option, Some, None}
 use Rattle.ipld_block.specs.declared.codec.BlockCodec.{BlockCodec}
 use Rattle.ipld_block.specs.declared.codec.BlockCodec.TheVariants.{DagCbor, DagPb, DagJson, Raw}
 
--- the codec of this code, if its blocks are read
+-- the codec with this code, or nothing if its blocks are not read
 abbrev pub codec_of_code : ℕ → Option BlockCodec
 codec_of_code code =
     if code == 0x71 then Some DagCbor
@@ -12,7 +12,7 @@ codec_of_code code =
     else if code == 0x55 then Some Raw
     else None
 
--- the name of a codec in the multicodec table, of those that content is often in
+-- the name of a common codec in the multicodec table, by its code, or nothing for other codes
 unfoldable pub codec_name_of : ℕ → Option (List ℕ)
 codec_name_of code =
     if code == 0x51 then Some (codes "cbor")
@@ -28,7 +28,8 @@ codec_name_of code =
     else if code == 0x0200 then Some (codes "json")
     else None
 
--- the codec has this name in the multicodec table; a name with none is that of no codec whose blocks are read
+-- True if the codec has this name in the multicodec table. Without a codec it is true if the name
+-- is not `dag-cbor`, `dag-pb`, `dag-json` or `raw`.
 abbrev pub NamesCodec : List ℕ → Option BlockCodec → Type 0
 NamesCodec name (Some DagCbor) = name ≡ codes "dag-cbor"
 NamesCodec name (Some DagPb) = name ≡ codes "dag-pb"
@@ -36,7 +37,7 @@ NamesCodec name (Some DagJson) = name ≡ codes "dag-json"
 NamesCodec name (Some Raw) = name ≡ codes "raw"
 NamesCodec name None = (name ≢ codes "dag-cbor") × (name ≢ codes "dag-pb") × (name ≢ codes "dag-json") × (name ≢ codes "raw")
 
--- the name of a hash function in the multicodec table, of those that are often used
+-- the name of a common hash function in the multicodec table, by its code, or nothing for others
 unfoldable pub hash_name_of : ℕ → Option (List ℕ)
 hash_name_of code =
     if code == 0 then Some (codes "identity")

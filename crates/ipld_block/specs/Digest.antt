@@ -6,9 +6,9 @@ use Rattle.ipld_cid.specs.Cid.{Link}
 use Rattle.ipld_block.specs.declared.block_cid.error.VerifyError.{VerifyError}
 use Rattle.ipld_block.specs.declared.block_cid.error.VerifyError.TheVariants.{UnknownHash, WrongDigest}
 
--- The digest of a block by the hash function of a code: by 0x12 the block's SHA2-256, by 0x13 its
--- SHA2-512, and by 0x00 the block itself. It is nothing for other codes, whose functions are not
--- known (multicodec: `sha2-256`, `sha2-512`, `identity`; FIPS 180-4).
+-- The digest of a block by the hash function with this code: SHA2-256 for 0x12, SHA2-512 for 0x13,
+-- and the block itself for 0x00. It is nothing for other codes, whose functions are not known
+-- (multicodec: `sha2-256`, `sha2-512`, `identity`; FIPS 180-4).
 abbrev pub digest_by : ℕ → List ℕ → Option (List ℕ)
 digest_by code block =
     if code == 0x12 then Some (sha256 block)
@@ -16,8 +16,8 @@ digest_by code block =
     else if code == 0x00 then Some block
     else None
 
--- True if the error is why the block is not known to be the CID's: the hash function is unknown, or
--- the digest is another.
+-- True if the block cannot be verified against the CID for this reason: the hash function is
+-- unknown, or the digest differs.
 abbrev pub IsVerifyError : Link → List ℕ → VerifyError → Type 0
 IsVerifyError link block (UnknownHash code) = (code ≡ link.code) × (digest_by link.code block ≡ None)
 IsVerifyError link block WrongDigest = (digest : List ℕ) × (digest_by link.code block ≡ Some digest) × (digest ≢ link.digest)

@@ -1,4 +1,4 @@
--- What the errors print.
+-- The sentences that errors print.
 use Rattle.std.specs.Prelude.{ℕ, List, codes, Some, None}
 use Rattle.std.specs.declared.option.Option.{Option}
 use Rattle.ipld_block.specs.declared.error.InvalidBlock.{InvalidBlock}
@@ -6,14 +6,14 @@ use Rattle.ipld_block.specs.declared.error.InvalidBlock.TheVariants.{Cbor, Pb, J
 use Rattle.ipld_block.specs.declared.error.CheckError.{CheckError}
 use Rattle.ipld_block.specs.declared.error.CheckError.TheVariants.{Memory, Invalid}
 
--- what is wrong with a block, in a sentence; of an error of a codec it isn't said
+-- the sentence for an invalid block, or nothing for an error of a codec
 abbrev pub sentence_of : InvalidBlock → Option (List ℕ)
 sentence_of (Cbor error) = None
 sentence_of (Pb error) = None
 sentence_of (Json error) = None
 sentence_of NotCanonical = Some (codes "a block, but not in canonical form: the keys of a map are not sorted length first")
 
--- why nothing is known of a block
+-- the sentence for a failed check, or nothing for an error of a codec
 abbrev pub check_sentence : CheckError → Option (List ℕ)
 check_sentence Memory = Some (codes "out of memory")
 check_sentence (Invalid why) = sentence_of why

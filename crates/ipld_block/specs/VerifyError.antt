@@ -1,4 +1,4 @@
--- The sentence of each error.
+-- The sentences that errors print.
 use Rattle.std.specs.Prelude.{ℕ, List, ◌++◌, codes}
 use Rattle.std.specs.Fmt.{decimal}
 use Rattle.ipld_block.specs.declared.block_cid.error.VerifyError.{VerifyError}

@@ -1,4 +1,4 @@
-//! The content identifier (CID) of a block, and whether a block is the one that a CID names.
+//! The content identifier (CID) of a block, and the check that a block is the one that a CID names.
 
 ghost use Rattle.std.specs.Prelude.{◌≡◌, ◌≢◌, Some, MatchResult};
 ghost use Rattle.sha2.specs.Sha256.{sha256};
@@ -14,11 +14,12 @@ use sha2::{Digest, Sha256, Sha512};
 // The code of SHA2-512 in the multicodec table.
 const SHA2_512: u64 = 0x13;
 
-/// The CID of a block in this codec: of version 1, with the block's SHA2-256 digest. Does not allocate.
+/// Returns the CID of a block in this codec. It has version 1 and the block's SHA2-256 digest. Does
+/// not allocate.
 ///
-/// The codec is a code of the multicodec table, as [`DAG_CBOR`](ipld_cid::DAG_CBOR) or [`RAW`](ipld_cid::RAW); whether the block
-/// is one of that codec is not checked. In Rust this is `Cid::new_v1(codec, Code::Sha2_256.digest(block))`, with
-/// `multihash-codetable`.
+/// The codec is a code of the multicodec table, such as [`DAG_CBOR`](ipld_cid::DAG_CBOR) or
+/// [`RAW`](ipld_cid::RAW). It is not checked that the block is valid for that codec. In Rust this
+/// is `Cid::new_v1(codec, Code::Sha2_256.digest(block))`, with `multihash-codetable`.
 pub fn cid_of(codec: u64, block: &[u8]) -> Cid
     ensures { link_of result ≡ record {
       version = Version.V1;
@@ -34,15 +35,18 @@ pub fn cid_of(codec: u64, block: &[u8]) -> Cid
     Cid::new_v1(codec, hash)
 }
 
-/// Whether a block is the one that a CID names: its digest, by the hash function of the CID, is the CID's. Does not allocate.
+// [begin: verify]
+/// Checks that a block is the one that a CID names: its digest, by the hash function of the CID,
+/// equals that of the CID. Does not allocate.
 ///
-/// The hash functions that are known are SHA2-256, SHA2-512, and identity, whose digest is the block itself. The digest has to be whole: one
-/// that was cut is another.
+/// The known hash functions are SHA2-256, SHA2-512, and identity, whose digest is the block itself.
+/// The digest has to be complete: a truncated digest differs.
 ///
 /// # Errors
 ///
-/// - [`VerifyError::UnknownHash`]: the CID's hash function is another, with its code. The block may be the CID's or not.
-/// - [`VerifyError::WrongDigest`]: the digest of the block is another, so the block is not the CID's.
+/// - [`VerifyError::UnknownHash`] if the CID has another hash function, with its code. The block
+///   may be the CID's or not.
+/// - [`VerifyError::WrongDigest`] if the block has another digest. The block is not the CID's then.
 pub fn verify(cid: &Cid, block: &[u8]) -> Result<(), VerifyError>
     ensures { MatchResult result
         (λ _. digest_by (link_of cid.now).code block.now ≡ Some (link_of cid.now).digest)
@@ -56,8 +60,9 @@ pub fn verify(cid: &Cid, block: &[u8]) -> Result<(), VerifyError>
         code => Err(VerifyError::UnknownHash(code)),
     }
 }
+// [end: verify]
 
-// Whether the digests are the same.
+// Checks that the digests are equal.
 fn compare_digests(digest: &[u8], expected: &[u8]) -> Result<(), VerifyError>
     ensures { MatchResult result (λ _. digest.now ≡ expected.now)
         (λ error. (error ≡ VerifyError.WrongDigest) × (digest.now ≢ expected.now)) }

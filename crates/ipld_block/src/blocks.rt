@@ -16,7 +16,8 @@ use ipld_cid::Cid;
 use ipld_tree::Limits;
 use std::alloc::Global;
 
-// Floats are read, and there are no limits but the bytes: no call here recurses for more than 32 levels.
+// Floats are read, and the number of bytes is the only limit. No call here recurses for more than
+// 32 levels.
 const OPTIONS: ReadOptions = ReadOptions {
     limits: Limits {
         levels: usize::MAX,
@@ -31,7 +32,7 @@ fn cbor_error(error: BlockError) -> CheckError
     match error.kind {
         BlockErrorKind::Cbor(CborError::Memory) => CheckError::Memory,
         BlockErrorKind::Cbor(_) => CheckError::Invalid(InvalidBlock::Cbor(error)),
-        // No block that memory has room for passes the limits of `OPTIONS`.
+        // No block that fits in memory exceeds the limits of `OPTIONS`.
         BlockErrorKind::TooDeep | BlockErrorKind::TooMany => CheckError::Memory,
     }
 }
@@ -48,14 +49,18 @@ fn check_cbor(alloc: Global, bytes: &[u8]) -> Result<(), CheckError>
     }
 }
 
-/// The links of a block of this codec, in the order of its bytes; plain bytes have none. Bytes that are no block have an error.
+/// Returns the links of a block of this codec, in the order of its bytes. Plain bytes have no
+/// links.
 ///
-/// Those of a block of DAG-JSON come in the order of a walk of its tree, in which the keys of a map come in the order of their bytes. The
-/// call allocates that tree, and doesn't recurse.
+/// The links of a block of DAG-JSON come in the order of a walk of its tree, in which the keys of a
+/// map come in the order of their bytes. The call allocates that tree, and doesn't recurse.
 ///
 /// # Errors
 ///
-/// `Invalid` with what is wrong with the bytes, and where; `Memory` where an allocation failed. Plain bytes have neither.
+/// - `Invalid` if the bytes are not a block of this codec, with the error and its offset.
+/// - `Memory` if an allocation fails.
+///
+/// Plain bytes have neither error.
 #[tactic(auto, using(crate::proofs::Faults::no_cbor_by, crate::proofs::Faults::no_pb_by, crate::proofs::Faults::no_json_by))]
 pub fn links_of(alloc: Global, codec: BlockCodec, bytes: &[u8]) -> Result<Vec<Cid>, CheckError>
     ensures found { IfOk result (λ links. HasLinks codec bytes.now (map link_of links.items)) }
@@ -79,7 +84,7 @@ pub fn links_of(alloc: Global, codec: BlockCodec, bytes: &[u8]) -> Result<Vec<Ci
     }
 }
 
-/// Whether the bytes are a block of this codec, all of them; plain bytes always are.
+/// Checks that all of the bytes are a block of this codec. Plain bytes always are.
 ///
 /// # Errors
 ///
@@ -100,12 +105,13 @@ pub fn check(alloc: Global, codec: BlockCodec, bytes: &[u8]) -> Result<(), Check
     }
 }
 
-/// Whether the bytes are a block of DAG-CBOR in canonical form: the keys of each map are sorted length first, which is all that isn't asked of
-/// every block.
+/// Checks that the bytes are a block of DAG-CBOR in canonical form: the keys of every map are
+/// sorted length first. This is the only requirement that other blocks need not meet.
 ///
 /// # Errors
 ///
-/// `Invalid` with `NotCanonical` where they are a block in another form; else those of [`links_of`].
+/// `Invalid` with `NotCanonical` if they are a block in another form. Otherwise the errors of
+/// [`links_of`].
 #[tactic(auto, using(crate::proofs::Faults::not_canonical))]
 pub fn check_canonical(alloc: Global, bytes: &[u8]) -> Result<(), CheckError>
     ensures valid { OnOk result (is_sorted true bytes.now ≡ Some true) }

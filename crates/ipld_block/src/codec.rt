@@ -24,7 +24,7 @@ pub enum BlockCodec {
 impl BlockCodec {
     ghost use Rattle.ipld_block.specs.Codes.{codec_of_code, NamesCodec};
 
-    /// The code of the multicodec table.
+    /// Returns the code in the multicodec table.
     pub fn code(self) -> u64
         ensures { codec_of_code result ≡ Some self }
     {
@@ -36,7 +36,7 @@ impl BlockCodec {
         }
     }
 
-    /// The codec of this code, if its blocks are read.
+    /// Returns the codec with this code, if its blocks are read.
     pub fn from_code(code: u64) -> Option<Self>
         ensures { result ≡ codec_of_code code }
     {
@@ -49,7 +49,8 @@ impl BlockCodec {
         }
     }
 
-    /// The codec of this name in the multicodec table, if its blocks are read: `dag-cbor`, `dag-pb`, `dag-json` or `raw`.
+    /// Returns the codec with this name in the multicodec table, if its blocks are read:
+    /// `dag-cbor`, `dag-pb`, `dag-json` or `raw`.
     pub fn from_name(name: &str) -> Option<Self>
         ensures { NamesCodec name.now result }
     {
@@ -63,7 +64,7 @@ impl BlockCodec {
     }
 }
 
-/// The name of a codec in the multicodec table, of those that content is often in.
+/// Returns the name of a codec in the multicodec table, if content is often in that codec.
 #[tactic(auto, unfolding(crate::specs::Codes::codec_name_of))]
 pub fn codec_name(code: u64) -> Option<&'static str>
     ensures { MatchOption result (codec_name_of code ≡ None) (λ name.
@@ -85,7 +86,7 @@ pub fn codec_name(code: u64) -> Option<&'static str>
     }
 }
 
-/// The name of a hash function in the multicodec table, of those that are often used.
+/// Returns the name of a hash function in the multicodec table, if it is often used.
 #[tactic(auto, unfolding(crate::specs::Codes::hash_name_of))]
 pub fn hash_name(code: u64) -> Option<&'static str>
     ensures { MatchOption result (hash_name_of code ≡ None) (λ name.

@@ -1,4 +1,4 @@
-//! What is wrong with bytes that are no block.
+//! The errors of bytes that are not a block.
 
 use dag_cbor_blocks::BlockError;
 use dag_json::{ReadError, ReadErrorKind, floats};
@@ -6,18 +6,19 @@ use dag_pb::{PbError, PbErrorKind};
 use std::alloc::AllocError;
 use std::{error, fmt};
 
-/// What is wrong with bytes that are no block of their codec, and at which byte.
+/// The error of bytes that are not a block of their codec, with its offset.
 ///
-/// Its `Display` is a sentence, with the offset in the block where there is one.
+/// Its `Display` is a sentence, with the offset in the block if there is one.
 #[derive(Clone, Copy, Debug, PartialEq, Eq)]
 pub enum InvalidBlock {
-    /// The bytes are no block of DAG-CBOR.
+    /// The bytes are not a block of DAG-CBOR.
     Cbor(BlockError),
-    /// The bytes are no block of DAG-PB.
+    /// The bytes are not a block of DAG-PB.
     Pb(PbError),
-    /// The bytes are no block of DAG-JSON, which may have floats.
+    /// The bytes are not a block of DAG-JSON, which may have floats.
     Json(ReadError),
-    /// The bytes are a block of DAG-CBOR, but not in canonical form: the keys of a map aren't sorted length first.
+    /// The bytes are a block of DAG-CBOR, but not in canonical form: the keys of a map aren't
+    /// sorted length first.
     NotCanonical,
 }
 
@@ -46,12 +47,12 @@ impl fmt::Display for InvalidBlock {
 
 impl error::Error for InvalidBlock {}
 
-/// Why nothing is known of a block. Its `Display` is a sentence.
+/// The reason why a check of a block failed. Its `Display` is a sentence.
 #[derive(Clone, Copy, Debug, PartialEq, Eq)]
 pub enum CheckError {
     /// An allocation failed.
     Memory,
-    /// The bytes are no block of their codec.
+    /// The bytes are not a block of their codec.
     Invalid(InvalidBlock),
 }
 

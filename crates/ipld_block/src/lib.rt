@@ -1,5 +1,5 @@
-//! Blocks of any codec: their codec by its code and its name, their links, whether the bytes are a block, and whether they are those that a CID
-//! names.
+//! Blocks of any codec: their codec by its code and its name, their links, the check that bytes are
+//! a block, and the check that they are the block that a CID names.
 //!
 //! ```rust
 //! use ipld_block::{BlockCodec, links_of, verify};
@@ -14,8 +14,8 @@
 //!
 //! [`cid_of`] returns the CID of a block, by the SHA2-256 of the toolchain's `sha2`.
 //!
-//! The codecs are DAG-CBOR and DAG-JSON, floats of 64 bits too, DAG-PB and plain bytes. What is wrong with bytes that are no block is an [`InvalidBlock`],
-//! in each crate that reads blocks.
+//! The codecs are DAG-CBOR and DAG-JSON, both also with 64-bit floats, DAG-PB and plain bytes.
+//! Every crate that reads blocks returns an [`InvalidBlock`] for bytes that are not a block.
 #![tactic(auto)]
 
 mod block_cid;

@@ -1,4 +1,4 @@
-//! The texts of CIDs as people know them.
+//! The usual texts of CIDs.
 
 ghost use Rattle.std.specs.Prelude.{◌≡◌, ◌<◌, map, OnOk};
 ghost use Rattle.std.specs.Io.KnownBytes.{Appends};
@@ -11,11 +11,12 @@ use ipld_cid_text::usual_text;
 use std::alloc::{AllocError, Global};
 use std::io::{self, ErrorKind, Write};
 
-/// Writes the text of a CID as people know it: base32 of version 1, and base58 of version 0. That of version 0 is allocated.
+/// Writes the usual text of a CID: base32 for version 1, and base58 for version 0. The text of
+/// version 0 is allocated.
 ///
 /// # Errors
 ///
-/// That of the writer, and `OutOfMemory` where the allocation failed.
+/// The error of the writer, or `OutOfMemory` if the allocation fails.
 #[tactic(auto, using(ipld_cid_text::proofs::UsualTexts::usual_v1))]
 pub fn write_cid<W: Write>(alloc: Global, writer: &mut W, cid: &Cid) -> io::Result<()>
     ensures { OnOk result (Appends (W.contents writer.old) (W.contents writer.new)
@@ -36,7 +37,7 @@ pub fn write_cid<W: Write>(alloc: Global, writer: &mut W, cid: &Cid) -> io::Resu
     }
 }
 
-/// Writes the text of each CID on a line: base32 of version 1, base58 of version 0.
+/// Writes the text of every CID on a line: base32 for version 1, and base58 for version 0.
 ///
 /// # Errors
 ///

@@ -1,4 +1,4 @@
--- What the errors print.
+-- The sentences that errors print.
 use Rattle.std.specs.Prelude.{ℕ, List, ◌++◌, codes, Some, None}
 use Rattle.std.specs.declared.option.Option.{Option}
 use Rattle.std.specs.Fmt.{decimal, ◌++?◌}
@@ -6,7 +6,7 @@ use Rattle.ipld_car.specs.declared.error.CarError.{CarError}
 use Rattle.ipld_car.specs.declared.error.CarErrorKind.{CarErrorKind}
 use Rattle.ipld_car.specs.declared.error.CarErrorKind.TheVariants.{Memory, Read, UnexpectedEnd, ShortPayload, LengthNotShortest, LengthTooLarge, Empty, TooLong, Cid, HeaderBlock, NotAHeader, Payload}
 
--- the sentence of a kind, whatever the options; of the errors of a reader, of a CID and of a block it isn't said
+-- the sentence for a kind of error, or nothing for an error of a reader, of a CID or of a block
 abbrev pub sentence_of : CarErrorKind → Option (List ℕ)
 sentence_of Memory = Some (codes "out of memory")
 sentence_of (Read error) = None
@@ -21,10 +21,10 @@ sentence_of (HeaderBlock error) = None
 sentence_of NotAHeader = Some (codes "the header has no roots, or another version")
 sentence_of Payload = Some (codes "the header of version 2 places the payload where none can be")
 
--- behind it, the byte at which the error is
+-- the end of the sentence, with the byte at which the error is
 abbrev pub place_of : ℕ → List ℕ
 place_of offset = codes " at byte " ++ decimal offset
 
--- what an error prints
+-- the sentence for an error, or nothing for an error of a reader, of a CID or of a block
 abbrev pub text_of : CarError → Option (List ℕ)
 text_of error = sentence_of error.kind ++? Some (place_of error.offset)

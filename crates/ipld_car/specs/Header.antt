@@ -1,5 +1,5 @@
--- The header of a CAR (CARv1, "Header"): a varint, and a block of DAG-CBOR whose length it is. The block is a map of the roots, which are
--- links, and of the version, which is 1.
+-- The header of a CAR (CARv1, "Header"): a varint, and a block of DAG-CBOR whose length it is. The
+-- block is a map of the roots, which are links, and of the version, which is 1.
 use Rattle.std.specs.Prelude.{◌≡◌, ℕ, pos, List, ◌++◌, length, map, codes, Option, option_map}
 use Rattle.ipld_cid.specs.Cid.{Link}
 use Rattle.ipld_cid.specs.Varint.{IsVarint, varint_of}
@@ -8,7 +8,7 @@ use Rattle.ipld_tree.specs.TreeOf.{as_items}
 use Rattle.dag_cbor_format.specs.Canonical.{canonical}
 use Rattle.dag_cbor_format.specs.Encoding.{EncodesTree}
 
--- a list of links
+-- the items of a list of these links
 abbrev pub links : List Link → Items
 links roots = as_items (map link roots)
 
@@ -16,11 +16,12 @@ links roots = as_items (map link roots)
 abbrev pub header_tree : List Link → Tree
 header_tree roots = entries (member (codes "roots") (list (links roots)) (member (codes "version") (integer (pos 1)) no_members))
 
--- The header with these roots whose block is the canonical one (DAG-CBOR, "Strictness").
+-- The header with these roots whose block is canonical (DAG-CBOR, "Strictness"), or nothing if no
+-- canonical block exists.
 abbrev pub canonical_header : List Link → Option (List ℕ)
 canonical_header roots = option_map (λ block. varint_of (length block) ++ block) (canonical (header_tree roots))
 
--- the bytes are the header with these roots
+-- True if the bytes are a header with these roots. Its block need not be canonical.
 pub record IsHeader (bytes : List ℕ) (roots : List Link) : Type 0 where
   pub size : List ℕ
   pub block : List ℕ

@@ -10,16 +10,16 @@ use Rattle.ipld_car.specs.Lengths.{IsNoVarint}
 use Rattle.ipld_car.specs.Reading.{HasNoCid}
 use Rattle.ipld_car.specs.Section.{Block, IsSection}
 
--- The bytes from the one at `at` on up to the one at `end`, as far as there are any.
+-- The bytes from offset `at` to offset `end`, as far as `bytes` has them.
 abbrev pub between : ℕ → ℕ → List ℕ → List ℕ
 between at end bytes = take (end - at) (drop at bytes)
 
--- what is said is true of bytes that these begin with
+-- True if `P` is true of some bytes that `bytes` begins with.
 abbrev pub Begins : List ℕ → (List ℕ → Type 0) → Type 0
 Begins bytes P = (front rest : List ℕ) × (bytes ≡ front ++ rest) × P front
 
--- True if the bytes, of which the first has the offset `at`, begin with the section of the block,
--- and its parts are at these places (CARv1, "Data").
+-- True if the bytes begin with the section of the block, and `span` has the offsets of its parts,
+-- if the first byte has the offset `at` (CARv1, "Data").
 pub record SpansSection (bytes : List ℕ) (at : ℕ) (block : Block) (span : SectionSpan) : Type 0 where
   pub section : List ℕ
   pub rest : List ℕ
@@ -29,12 +29,13 @@ pub record SpansSection (bytes : List ℕ) (at : ℕ) (block : Block) (span : Se
   pub block_begins : span.block ≡ span.cid + length is_section.cid
   pub ends : span.end ≡ at + length section
 
--- the bytes are cut: they are no varint and as many bytes as it says, but begin so
+-- True if the bytes end within a varint, or are a varint and fewer bytes than it counts, and
+-- `place` is their end. They may be empty.
 abbrev pub IsCutAt : List ℕ → ℕ → Type 0
 IsCutAt bytes place = IsCut (2 ^ 64 - 1) bytes × (place ≡ length bytes)
 
--- True if this is why the bytes do not begin with a section, and at which of them. They should be
--- `room` many, and the payload has `size` bytes by its header, of which there are `found`.
+-- True if the bytes do not begin with a section, for this reason and at this place. There should be
+-- `room` bytes. The payload should have `size` bytes, by its header, and has `found`.
 abbrev pub SpanFault : (bytes : List ℕ) (room size found : ℕ) → CarErrorKind → ℕ → Type 0
 SpanFault bytes room size found UnexpectedEnd place = IsCutAt bytes place × (length bytes ≡ room)
 SpanFault bytes room size found (ShortPayload expected came) place = IsCutAt bytes place × (length bytes < room) × (expected ≡ size) × (came ≡ found)

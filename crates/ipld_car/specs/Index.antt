@@ -1,4 +1,5 @@
--- The index of a CAR of version 2 in the format MultihashIndexSorted (CARv2, "Index format", code 0x0401). Numbers are written the lowest byte first.
+-- The index of a CAR of version 2 in the format MultihashIndexSorted (CARv2, "Index format", code
+-- 0x0401). Its numbers are in little-endian order.
 use Rattle.std.specs.Prelude.{ℕ, ◌+◌, ◌*◌, List, [], ◌∷◌, ◌++◌, length}
 use Rattle.std.specs.List.{flat_map}
 use Rattle.ipld_car.specs.IndexNumbers.{le32, le64}
@@ -7,14 +8,14 @@ use Rattle.ipld_car.specs.declared.index.Bucket.{Bucket}
 use Rattle.ipld_car.specs.declared.index.HashBuckets.{HashBuckets}
 use Rattle.ipld_car.specs.declared.index.CarIndex.{CarIndex}
 
--- a row: the digest, and how many bytes of the payload stand before the section
+-- a row: the digest, and the number of bytes of the payload before the section
 unfoldable pub row : IndexEntry → List ℕ
 row entry = entry.hash.digest ++ le64 entry.offset
 
 abbrev pub rows : List IndexEntry → List ℕ
 rows entries = flat_map row entries
 
--- the rows of digests of one length: how many bytes a row has, how many they all have, and the rows
+-- the rows with digests of one length: the length of a row, the length of all rows, and the rows
 unfoldable pub bucket_bytes : Bucket → List ℕ
 bucket_bytes bucket =
     le32 (bucket.digest_len + 8) ++ le64 ((bucket.digest_len + 8) * length bucket.entries.items) ++ rows bucket.entries.items
@@ -22,18 +23,18 @@ bucket_bytes bucket =
 abbrev pub buckets_bytes : List Bucket → List ℕ
 buckets_bytes buckets = flat_map bucket_bytes buckets
 
--- those of a hash function: its code, how many lengths of digests there are, and the rows of each length
+-- the rows of a hash function: its code, the number of digest lengths, and the rows by length
 unfoldable pub hash_bytes : HashBuckets → List ℕ
 hash_bytes hash = le64 hash.code ++ le32 (length hash.buckets.items) ++ buckets_bytes hash.buckets.items
 
 abbrev pub hashes_bytes : List HashBuckets → List ℕ
 hashes_bytes hashes = flat_map hash_bytes hashes
 
--- the code of the format, 0x0401, as a varint
+-- the code of the format as a varint: 0x0401
 unfoldable pub format_code : List ℕ
 format_code = 0x81 ∷ 0x08 ∷ []
 
--- The bytes of an index: the code of the format, how many hash functions there are, and the rows of
--- each, by the length of the digest (CARv2, "Index format", MultihashIndexSorted).
+-- The bytes of an index: the code of the format, the number of hash functions, and their rows, by
+-- the length of the digest (CARv2, "Index format", MultihashIndexSorted).
 abbrev pub index_bytes : CarIndex → List ℕ
 index_bytes index = format_code ++ le32 (length index.hashes.items) ++ hashes_bytes index.hashes.items

@@ -1,11 +1,12 @@
--- What the errors print.
+-- The sentences that errors print.
 use Rattle.std.specs.Prelude.{ℕ, List, ◌++◌, codes, Some, None, Bool, false}
 use Rattle.std.specs.declared.option.Option.{Option}
 use Rattle.std.specs.Fmt.{decimal, digits}
 use Rattle.ipld_car.specs.declared.index.error.IndexError.{IndexError}
 use Rattle.ipld_car.specs.declared.index.error.IndexError.TheVariants.{Memory, Read, UnexpectedEnd, FormatNotShortest, FormatTooLarge, Format, Width, Length, NotSorted}
 
--- the sentence of an error, whatever the options; of an error of a reader and of another format it isn't said
+-- the sentence for an error, with any format options, or nothing for an error of a reader and for
+-- another format
 abbrev pub styled_sentence : IndexError → Option (List ℕ)
 styled_sentence Memory = Some (codes "out of memory")
 styled_sentence (Read error) = None
@@ -17,11 +18,12 @@ styled_sentence (Width width) = Some (codes "the index has rows of " ++ (decimal
 styled_sentence (Length length) = Some (codes "the index has " ++ (decimal length ++ codes " bytes of rows, which is no number of rows"))
 styled_sentence NotSorted = Some (codes "the index is not sorted")
 
--- whether the digits above nine are capitals, which they aren't
+-- false: hexadecimal digits above nine are lower case
 abbrev pub in_capitals : Bool
 in_capitals = false
 
--- the sentence by `{}`, which is said of another format too, with its code in hexadecimal digits
+-- the sentence that `{}` prints, also for another format, with its code in hexadecimal digits, or
+-- nothing for an error of a reader
 abbrev pub sentence_of : IndexError → Option (List ℕ)
 sentence_of (Format code) = Some (codes "the index has the format 0x" ++ (digits 16 in_capitals code ++ codes ", and 0x401 alone is read"))
 sentence_of error = styled_sentence error

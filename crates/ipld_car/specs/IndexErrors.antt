@@ -1,5 +1,6 @@
--- What is wrong with bytes that are no index of MultihashIndexSorted whose entries are sorted: the first thing that is, in the order of the bytes. What
--- stands in front of it is the beginning of such an index. Bytes that end where an index goes on end early, whatever else there might have been.
+-- The first error of bytes that are not an index of MultihashIndexSorted with sorted entries, in
+-- the order of the bytes. The bytes before it begin such an index. Bytes that end too early have
+-- the error of an unexpected end, whatever could follow them.
 use Rattle.std.specs.Prelude.{◌≡◌, ◌≢◌, ◌≤◌, ◌<◌, ◌+◌, ◌*◌, ◌^◌, ℕ, List, [], ◌∷◌, ◌++◌, length, IfSome, Option}
 use Rattle.ipld_cid.specs.Varint.{IsVarint}
 use Rattle.ipld_cid.specs.declared.error.CidError.TheVariants.{NotShortest as VarintNotShortest, VarintTooLarge}
@@ -14,26 +15,30 @@ use Rattle.ipld_car.specs.declared.index.entry.IndexEntry.{IndexEntry}
 use Rattle.ipld_car.specs.declared.index.error.IndexError.{IndexError}
 use Rattle.ipld_car.specs.declared.index.error.IndexError.TheVariants.{Memory, Read, UnexpectedEnd, FormatNotShortest, FormatTooLarge, Format, Width, Length, NotSorted}
 
--- the error says what is wrong with known bytes, or that an allocation or the reader failed, which says nothing of them
+-- True if the error is a failed allocation, or an error of the reader that fits `IsReadError`. The
+-- bytes do not cause these. It is true of any other error if the bytes are not known, or if
+-- `IsWrong` is true of them and of the error.
 abbrev pub Blames : (List ℕ → IndexError → Type 0) → Option (List ℕ) → IndexError → Type 0
 Blames IsWrong known Memory = Unit {0}
 Blames IsWrong known (Read error) = IsReadError error
 Blames IsWrong known error = IfSome known (λ bytes. IsWrong bytes error)
 
--- known bytes end before so many, or an allocation or the reader failed
+-- True if the error is `UnexpectedEnd` and the bytes, if they are known, are fewer than `count`. It
+-- is also true if an allocation or the reader failed.
 abbrev pub EndsWithin : ℕ → Option (List ℕ) → IndexError → Type 0
 EndsWithin count known Memory = Unit {0}
 EndsWithin count known (Read error) = IsReadError error
 EndsWithin count known UnexpectedEnd = IfSome known (λ bytes. length bytes < count)
 EndsWithin count known _ = ⊥
 
--- the entries aren't sorted, or an allocation failed
+-- True if the error is `NotSorted` and the entries are not sorted, or if it is a failed allocation.
 abbrev pub IsUnsorted : List IndexEntry → IndexError → Type 0
 IsUnsorted entries Memory = Unit {0}
 IsUnsorted entries NotSorted = AreSorted entries → ⊥
 IsUnsorted entries _ = ⊥
 
--- of so many parts the first are right, their entries in order behind those in front of them, and the next is wrong
+-- True if fewer than `count` parts at the front are valid, and the next part is invalid with this
+-- error. The entries of the valid parts are in order after those in `before`.
 pub record FirstWrong (AreParts : ℕ → List ℕ → List IndexEntry → Type 0) (IsWrongPart : List IndexEntry → List ℕ → IndexError → Type 0) (count : ℕ)
     (before : List IndexEntry) (bytes : List ℕ) (error : IndexError) : Type 0 where
   pub right : ℕ
@@ -46,14 +51,16 @@ pub record FirstWrong (AreParts : ℕ → List ℕ → List IndexEntry → Type 
   pub is_wrong : IsWrongPart (before ++ entries) back error
   pub split : bytes ≡ front ++ back
 
--- what is wrong first with a row: the bytes end within it, or its entry comes before the last of those in front of it
+-- True if `error` is the first error of a row: the bytes end within it, or the entries are not
+-- sorted once its entry follows those in `before`.
 pub data WrongRow (code digest_len : ℕ) (before : List IndexEntry) : List ℕ → IndexError → Type 0 where
   row_ends : (bytes : List ℕ) → length bytes < digest_len + 8 → WrongRow code digest_len before bytes UnexpectedEnd
   unsorted : (entry : IndexEntry) (rest : List ℕ) → IsOf code digest_len entry → entry.offset < 2 ^ 64 → (AreSorted (before ++ entry ∷ []) → ⊥)
       → WrongRow code digest_len before (row entry ++ rest) NotSorted
 
--- what is wrong first with the rows of digests of one length: the bytes end within how many bytes a row has, or all of them have; a row has as many as with no
--- digest of at most 64 bytes; all of them have as many as no number of rows; or one of them is wrong
+-- True if `error` is the first error of the rows with digests of one length. The bytes end within
+-- the length of a row, or within the length of all rows. Or the length of a row is not from 8 to
+-- 72, the length of all rows is not a multiple of it, or a row is invalid.
 pub data WrongBucket (code : ℕ) (before : List IndexEntry) : List ℕ → IndexError → Type 0 where
   width_ends : (bytes : List ℕ) → length bytes < 4 → WrongBucket code before bytes UnexpectedEnd
   wrong_width : (width : ℕ) (rest : List ℕ) → width < 2 ^ 32 → ((digest_len : ℕ) → digest_len ≤ 64 → width ≢ digest_len + 8)
@@ -65,22 +72,25 @@ pub data WrongBucket (code : ℕ) (before : List IndexEntry) : List ℕ → Inde
       → FirstWrong (AreRows code digest_len) (WrongRow code digest_len) count before rest error
       → WrongBucket code before (le32 (digest_len + 8) ++ (le64 ((digest_len + 8) * count) ++ rest)) error
 
--- what is wrong first with the rows of a hash function: the bytes end within its code or how many lengths of digests there are, or the rows of one of these are wrong
+-- True if `error` is the first error of the rows of a hash function. The bytes end within its code
+-- or the number of digest lengths, or the rows with one of these lengths are invalid.
 pub data WrongHash (before : List IndexEntry) : List ℕ → IndexError → Type 0 where
   hash_ends : (bytes : List ℕ) → length bytes < 12 → WrongHash before bytes UnexpectedEnd
   wrong_bucket : (code count : ℕ) (rest : List ℕ) (error : IndexError) → code < 2 ^ 64 → count < 2 ^ 32
       → FirstWrong (Parts (IsBucket code)) (WrongBucket code) count before rest error → WrongHash before (le64 code ++ (le32 count ++ rest)) error
 
--- what is wrong first with the code of the format: the bytes end within its varint; that isn't in its shortest form, or encodes 2^64 or more; or it is the code of
--- another format
+-- True if `error` is the first error of the code of the format. The bytes end within its varint,
+-- the varint is not in its shortest form or encodes 2^64 or more, or the code is that of another
+-- format.
 pub data WrongFormat : List ℕ → IndexError → Type 0 where
   format_ends : (bytes : List ℕ) → BeginsVarint bytes → WrongFormat bytes UnexpectedEnd
   format_not_shortest : (bytes rest : List ℕ) → IsNoVarint bytes VarintNotShortest → WrongFormat (bytes ++ rest) FormatNotShortest
   format_too_large : (bytes rest : List ℕ) → IsNoVarint bytes VarintTooLarge → WrongFormat (bytes ++ rest) FormatTooLarge
   other_format : (code : ℕ) (bytes rest : List ℕ) → IsVarint code bytes → code ≢ 0x0401 → WrongFormat (bytes ++ rest) (Format code)
 
--- what is wrong first with bytes that are no index whose entries are sorted: the code of the format, the bytes end within how many hash functions there are, or
--- the rows of one of these are wrong
+-- True if `error` is the first error of bytes that are not an index with sorted entries. The code
+-- of the format is invalid, the bytes end within the number of hash functions, or the rows of a
+-- hash function are invalid.
 pub data WrongIndex : List ℕ → IndexError → Type 0 where
   wrong_format : (bytes : List ℕ) (error : IndexError) → WrongFormat bytes error → WrongIndex bytes error
   count_ends : (rest : List ℕ) → length rest < 4 → WrongIndex (format_code ++ rest) UnexpectedEnd

@@ -1,17 +1,18 @@
--- The bytes of an index in the format MultihashIndexSorted, and the entries that they encode (CARv2, "Index format", code 0x0401). Numbers are written the
--- lowest byte first.
+-- The bytes of an index in the format MultihashIndexSorted, and the entries that they encode
+-- (CARv2, "Index format", code 0x0401). Numbers are in little-endian order.
 use Rattle.std.specs.Prelude.{◌≡◌, ◌≤◌, ◌<◌, ℕ, ◌+◌, ◌*◌, ◌^◌, List, [], ◌++◌, length}
 use Rattle.std.specs.List.{All}
 use Rattle.ipld_car.specs.Index.{rows, format_code}
 use Rattle.ipld_car.specs.IndexNumbers.{le32, le64}
 use Rattle.ipld_car.specs.declared.index.entry.IndexEntry.{IndexEntry}
 
--- the entry is one of the hash function of this code, with a digest of so many bytes
+-- True if the entry has the hash function with this code, and a digest of `digest_len` bytes.
 abbrev pub IsOf : ℕ → ℕ → IndexEntry → Type 0
 IsOf code digest_len entry = (entry.hash.code ≡ code) × (length entry.hash.digest ≡ digest_len)
 
--- True if the bytes are the rows of digests of one length of a hash function: how long a row is,
--- how many bytes the rows have, and the rows (CARv2, "Index format", MultihashIndexSorted).
+-- True if the bytes are the rows of a hash function with digests of one length (CARv2, "Index
+-- format", MultihashIndexSorted). They are the length of a row, the length of all rows, and the
+-- rows. The digests have at most 64 bytes.
 pub record IsBucket (code : ℕ) (bytes : List ℕ) (entries : List IndexEntry) : Type 0 where
   pub digest_len : ℕ
   pub short : digest_len ≤ 64
@@ -19,14 +20,14 @@ pub record IsBucket (code : ℕ) (bytes : List ℕ) (entries : List IndexEntry) 
   pub fits : (digest_len + 8) * length entries < 2 ^ 64
   pub encoded : bytes ≡ le32 (digest_len + 8) ++ le64 ((digest_len + 8) * length entries) ++ rows entries
 
--- so many parts, one behind the other, and the entries of them all
+-- True if the bytes are `n` parts, one after the other, and the entries are those of all parts.
 pub data Parts (IsPart : List ℕ → List IndexEntry → Type 0) : ℕ → List ℕ → List IndexEntry → Type 0 where
   none : Parts IsPart 0 [] []
   more : (n : ℕ) (front part : List ℕ) (entries own : List IndexEntry) → Parts IsPart n front entries → IsPart part own
       → Parts IsPart (n + 1) (front ++ part) (entries ++ own)
 
--- True if the bytes are the rows of a hash function: its code, how many lengths of digests there
--- are, and the rows of each length (CARv2, "Index format", MultihashIndexSorted).
+-- True if the bytes are the rows of a hash function: its code, the number of digest lengths, and
+-- the rows by length (CARv2, "Index format", MultihashIndexSorted).
 pub record IsHash (bytes : List ℕ) (entries : List IndexEntry) : Type 0 where
   pub code : ℕ
   pub count : ℕ
@@ -35,8 +36,8 @@ pub record IsHash (bytes : List ℕ) (entries : List IndexEntry) : Type 0 where
   pub in_range : (code < 2 ^ 64) × (count < 2 ^ 32)
   pub encoded : bytes ≡ le64 code ++ le32 count ++ buckets
 
--- True if the bytes are an index of the entries: the code of the format, how many hash functions
--- there are, and the rows of each (CARv2, "Index format", MultihashIndexSorted).
+-- True if the bytes are an index of the entries: the code of the format, the number of hash
+-- functions, and their rows (CARv2, "Index format", MultihashIndexSorted).
 pub record IsIndex (bytes : List ℕ) (entries : List IndexEntry) : Type 0 where
   pub count : ℕ
   pub hashes : List ℕ

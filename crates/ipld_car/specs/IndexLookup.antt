@@ -1,10 +1,11 @@
--- The entries of a hash among others.
+-- The entries with a given hash.
 use Rattle.std.specs.Prelude.{◌≡◌, ◌≢◌, ℕ, List, length, slice_range}
 use Rattle.std.specs.List.{AllWithin}
 use Rattle.ipld_cid.specs.Multihash.{HashParts}
 use Rattle.ipld_car.specs.declared.index.entry.IndexEntry.{IndexEntry}
 
--- what was found stands there together, and no other entry has the hash
+-- True if the entries in `found` are consecutive in `entries` and have the hash, and no other entry
+-- has it.
 pub record FindsAll (hash : HashParts) (entries found : List IndexEntry) : Type 0 where
   pub start : ℕ
   pub end : ℕ

@@ -1,4 +1,4 @@
--- The varint before a header and before a section, by the bytes that were taken for it.
+-- The varint before a header or a section, by the bytes that were taken for it.
 use Rattle.std.specs.Prelude.{◌≡◌, ◌≢◌, ◌≤◌, ℕ, List, [], ◌∷◌, ◌++◌, length, Option, Some, None, Result, Ok, Err}
 use Rattle.ipld_cid.specs.declared.error.CidError.{CidError}
 use Rattle.ipld_cid.specs.declared.error.CidError.TheVariants.{End, NotShortest as VarintNotShortest, VarintTooLarge}
@@ -7,17 +7,18 @@ use Rattle.ipld_car.specs.declared.error.CarErrorKind.{CarErrorKind}
 use Rattle.ipld_car.specs.declared.error.CarErrorKind.TheVariants.{Memory, Read, UnexpectedEnd, LengthNotShortest, LengthTooLarge}
 use Rattle.ipld_car.specs.Taking.{Ends, IsReadError}
 
--- what is wrong with a byte of a length, by what is wrong with a byte of a varint
+-- the error of a byte of a length, from the error of the byte as part of a varint
 abbrev pub kind_of : Option CidError → Option CarErrorKind
 kind_of None = None
 kind_of (Some VarintTooLarge) = Some LengthTooLarge
 kind_of (Some error) = Some LengthNotShortest
 
--- the bytes are none, or begin a varint and are not all of it
+-- True if the bytes end within a varint, or are empty.
 abbrev pub BeginsVarint : List ℕ → Type 0
 BeginsVarint bytes = read_varint bytes ≡ Err End
 
--- the bytes before the last begin a varint, and with the last no varint begins so
+-- True if the bytes without the last one end within a varint or are empty, and reading a varint
+-- from all of them returns `error`.
 pub record IsNoVarint (bytes : List ℕ) (error : CidError) : Type 0 where
   pub front : List ℕ
   pub last : ℕ
@@ -25,7 +26,7 @@ pub record IsNoVarint (bytes : List ℕ) (error : CidError) : Type 0 where
   pub begins : BeginsVarint front
   pub error_is : read_varint bytes ≡ Err error
 
--- why the bytes are no varint
+-- True if the bytes taken are not a varint, for this reason.
 abbrev pub LengthFault : ℕ → Option (List ℕ) → Option (List ℕ) → List ℕ → CarErrorKind → Type 0
 LengthFault room old new taken Memory = BeginsVarint taken
 LengthFault room old new taken (Read error) = BeginsVarint taken × IsReadError error
@@ -34,7 +35,8 @@ LengthFault room old new taken LengthNotShortest = IsNoVarint taken VarintNotSho
 LengthFault room old new taken LengthTooLarge = IsNoVarint taken VarintTooLarge
 LengthFault room old new taken _ = ⊥
 
--- what reading a length returns
+-- True if the result of reading a length fits the bytes taken: the number of their varint, nothing
+-- at the end if they are empty, or the reason why they are not a varint.
 abbrev pub ReadsLength : ℕ → Option (List ℕ) → Option (List ℕ) → List ℕ → Result (Option ℕ) CarErrorKind → Type 0
 ReadsLength room old new taken (Ok None) = (taken ≡ []) × Ends room old new taken
 ReadsLength room old new taken (Ok (Some n)) = IsVarint n taken × (length taken ≤ room)

@@ -1,4 +1,4 @@
--- Where a reader stands in a CAR.
+-- The position of a reader in a CAR.
 use Rattle.std.specs.Prelude.{◌≡◌, ◌+◌, ℕ, List, map, Option, Some, None}
 use Rattle.ipld_cid.specs.Cid.{Link}
 use Rattle.ipld_cid.specs.LinkOf.{link_of}
@@ -8,8 +8,8 @@ use Rattle.ipld_car.specs.declared.version.CarVersion.{CarVersion}
 use Rattle.ipld_car.specs.declared.version.CarVersion.TheVariants.{V1, V2}
 use Rattle.ipld_car.specs.Opening.{Opens, OpenFault}
 
--- True if the reader is `count` bytes further in the CAR, and nothing else of it changed except its
--- own reader.
+-- True if `new` is the reader `old`, moved on by `count` bytes in the CAR. Nothing else of it has
+-- changed, except its inner reader.
 pub record Moves {R : Type 0} (old new : CarReader R) (count : ℕ) : Type 0 where
   pub offset : new.offset ≡ old.offset + count
   pub start : new.start ≡ old.start
@@ -18,14 +18,14 @@ pub record Moves {R : Type 0} (old new : CarReader R) (count : ℕ) : Type 0 whe
   pub version : new.version ≡ old.version
   pub roots : new.roots ≡ old.roots
 
--- True if the part before the sections was taken, and the reader is behind it, with this limit
+-- True if the part before the sections was taken, and the reader is after it and has this limit
 -- (CARv1, "Header"; CARv2).
 abbrev pub IsOpened : {R : Type 0} → (limit : ℕ) → (before after : Option (List ℕ)) → CarReader R → Type 0
 IsOpened limit before after car =
     Opens limit before after car.version (map link_of car.roots.items) car.start car.offset car.end × (car.limit ≡ limit)
 
--- True if the reader has this version and these roots, and is at the first section, in a CAR that
--- begins at `start` and goes on to `end`.
+-- True if the reader has this version and these roots, and is at `offset` in a CAR that begins at
+-- `start` and ends at `end`.
 pub record HasOpened {R : Type 0} (car : CarReader R) (version : CarVersion) (roots : List Link) (start offset end : ℕ) : Type 0 where
   pub version_is : car.version ≡ version
   pub roots_are : map link_of car.roots.items ≡ roots
@@ -33,13 +33,13 @@ pub record HasOpened {R : Type 0} (car : CarReader R) (version : CarVersion) (ro
   pub stands : car.offset ≡ offset
   pub ends : car.end ≡ end
 
--- Where the sections of a CAR end that goes on to `end`: version 2 states it in its header, and
--- version 1 does not state it.
+-- The end of the sections, if the header of the CAR states it: `end` in version 2, and nothing in
+-- version 1.
 abbrev pub stated_end : CarVersion → ℕ → Option ℕ
 stated_end V1 end = None
 stated_end V2 end = Some end
 
--- True if the error is why the part before the sections is not read: `OpenFault`, in one of its
--- three headers, with the place. How much of the reader was then left is not stated.
+-- True if the part before the sections cannot be read because of this error, by `OpenFault`. The
+-- bytes that are then left in the reader are not stated.
 abbrev pub FaultOf : ℕ → Option (List ℕ) → CarError → Type 0
 FaultOf limit old error = (new : Option (List ℕ)) × OpenFault limit old new error

@@ -1,6 +1,8 @@
--- What stands before the payload of a CAR of version 2 (CARv2, "Pragma" and "Header"): eleven bytes, which are a varint and the block of
--- `{"version": 2}`; then 40 bytes, which are 16 of characteristics and three numbers of 64 bits, the lowest byte first: where the payload
--- begins, how long it is, and where the index begins; then padding up to the payload. The payload is a CAR of version 1.
+-- The part of a CAR of version 2 before its payload (CARv2, "Pragma" and "Header"). It begins with
+-- eleven bytes, a varint and the block of `{"version": 2}`. Then it has 40 bytes: 16 of
+-- characteristics, and three numbers of 64 bits in little-endian order. These are the offset of the
+-- payload, its length, and the offset of the index. Then it has padding up to the payload, which is
+-- a CAR of version 1.
 use Rattle.std.specs.Prelude.{◌≡◌, ◌≤◌, ◌<◌, ◌+◌, ◌-◌, ◌^◌, ◌⊎◌, ℕ, List, [], ◌∷◌, ◌++◌, length, slice_range, Option, MatchResult, Result}
 use Rattle.std.specs.Int.{w64, from_le_bytes}
 use Rattle.std.specs.Io.KnownBytes.{Consumes}
@@ -17,15 +19,15 @@ pragma_block = 0xa1 ∷ 0x67 ∷ 0x76 ∷ 0x65 ∷ 0x72 ∷ 0x73 ∷ 0x69 ∷ 0x
 abbrev pub pragma : List ℕ
 pragma = 0x0a ∷ pragma_block
 
--- where the payload begins, by the 40 bytes of the header
+-- the offset of the payload, by the 40 bytes of the header
 abbrev pub start_in : List ℕ → ℕ
 start_in header = from_le_bytes w64 (slice_range header 16 24)
 
--- how long it is
+-- the length of the payload, by the 40 bytes of the header
 abbrev pub size_in : List ℕ → ℕ
 size_in header = from_le_bytes w64 (slice_range header 24 32)
 
--- the bytes stand before a payload of `size` bytes
+-- True if the bytes are the part before a payload of `size` bytes.
 pub record IsBeforePayload (bytes : List ℕ) (size : ℕ) : Type 0 where
   pub header : List ℕ
   pub padding : List ℕ
@@ -34,24 +36,25 @@ pub record IsBeforePayload (bytes : List ℕ) (size : ℕ) : Type 0 where
   pub begins : start_in header ≡ length bytes
   pub spans : size_in header ≡ size
 
--- the header places the payload before its own end, or its end where no number of 64 bits is
+-- True if the header places the payload before byte 51, or its end at 2^64 or more.
 abbrev pub HasNoPayload : List ℕ → Type 0
 HasNoPayload header = (start_in header < 51) ⊎ (2 ^ 64 ≤ start_in header + size_in header)
 
--- the header places the payload there
+-- True if the header places the payload from `start` to `end`, after the header.
 pub record PlacesPayload (header : List ℕ) (start end : ℕ) : Type 0 where
   pub begins : start_in header ≡ start
   pub behind : 51 ≤ start
   pub ends : start + size_in header ≡ end
 
--- the padding was skipped, or why not
+-- True if `count` bytes of padding were skipped, or the error is why they were not.
 pub record SkipsPadding (old new : Option (List ℕ)) (count : ℕ) (result : Result (Unit {0}) CarError) : Type 0 where
   pub got : List ℕ
   pub consumed : Consumes old new got
   pub outcome : MatchResult result (λ _. length got ≡ count)
       (λ error. (length got < count) × (error.section ≡ 11) × (error.offset ≡ 51 + length got) × (((error.kind ≡ UnexpectedEnd) × IsReadOut old new) ⊎ IsReaderError error.kind))
 
--- why the bytes behind the pragma are not all that stands before a payload, and at which of them
+-- True if the bytes after the pragma are not the rest of the part before a payload, for this reason
+-- and at this place.
 abbrev pub Version2Fault : Option (List ℕ) → Option (List ℕ) → List ℕ → CarErrorKind → ℕ → Type 0
 Version2Fault old new got Memory place = place ≡ length got
 Version2Fault old new got (Read error) place = (place ≡ length got) × IsReadError error
@@ -59,7 +62,8 @@ Version2Fault old new got UnexpectedEnd place = (place ≡ length got) × IsRead
 Version2Fault old new got NoPayload place = (place ≡ 16) × (length got ≡ 40) × HasNoPayload got
 Version2Fault old new got _ place = ⊥
 
--- the header and the padding behind the pragma were taken
+-- True if the header and the padding after the pragma were taken, up to a payload from `start` to
+-- `end`.
 pub record TakesToPayload (old new : Option (List ℕ)) (start end : ℕ) : Type 0 where
   pub header : List ℕ
   pub padding : List ℕ
@@ -68,7 +72,7 @@ pub record TakesToPayload (old new : Option (List ℕ)) (start end : ℕ) : Type
   pub places : PlacesPayload header start end
   pub padded : 51 + length padding ≡ start
 
--- why they were not
+-- True if the error is why they were not taken.
 pub record FailsBeforePayload (old new : Option (List ℕ)) (error : CarError) : Type 0 where
   pub got : List ℕ
   pub consumed : Consumes old new got

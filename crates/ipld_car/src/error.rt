@@ -1,4 +1,4 @@
-//! Why a CAR isn't read, and where.
+//! The errors of reading a CAR, with their offsets.
 
 ghost use Rattle.std.specs.Prelude.{◌++◌};
 ghost use Rattle.std.specs.Fmt.{WritesOnOk, WritesStyledOnOk, decimal};
@@ -9,23 +9,28 @@ use ipld_cid::CidError;
 use itoa::Buffer;
 use std::{error, fmt, io};
 
-/// Why a CAR isn't read.
+/// The reason why a CAR cannot be read.
 ///
-/// Its `Display` is a sentence that says what is wrong.
+/// Its `Display` is a sentence that describes the error.
 #[derive(Debug, Drop)]
 pub enum CarErrorKind {
     /// An allocation failed.
     Memory,
     /// The reader failed.
     Read(io::Error),
-    /// The file of version 1 ends before the header or a section does; that of version 2 before its payload begins; or its payload ends, by
-    /// the header of version 2, before the payload's header or a section does.
+    /// The input ends too early:
+    ///
+    /// - A file of version 1 ends before its header or a section does.
+    /// - A file of version 2 ends before its payload begins.
+    /// - The payload ends, by the header of version 2, before the payload's header or a section
+    ///   does.
     UnexpectedEnd,
-    /// The file ends before the payload of version 2 does, within a section or behind one.
+    /// The file ends before the payload of version 2 does: within the payload's header or a
+    /// section, or before the next section.
     ShortPayload {
-        /// How many bytes the payload has by the header of version 2.
+        /// The number of bytes that the payload has by the header of version 2.
         expected: u64,
-        /// How many of them there are.
+        /// The number of them that the file has.
         found: u64,
     },
     /// The varint before a header or a section isn't in its shortest form.
@@ -38,27 +43,36 @@ pub enum CarErrorKind {
     TooLong(u64),
     /// A section doesn't begin with a CID.
     Cid(CidError),
-    /// The header is no block of DAG-CBOR, or nests too deep to be a header.
+    /// The header is not a block of DAG-CBOR, or nests too deep to be a header.
     HeaderBlock(BlockErrorKind),
-    /// The header is a block, but not a map of `roots`, a list of links, and `version`, which is 1.
+    /// The header is a block, but not a map of `roots`, which is a list of links, and `version`,
+    /// which is 1.
     NotAHeader,
-    /// The header of version 2 places the payload before its own end, or the payload's end is 2^64 or more.
+    /// The header of version 2 places the payload before the header's own end, or the payload's end
+    /// at 2^64 or more.
     Payload,
 }
 
-/// Why a CAR isn't read, and where.
+/// An error of reading a CAR, with its offset.
 ///
-/// Its `Display` is that of the kind, then ` at byte `, and the offset.
+/// Its `Display` is that of the kind, then ` at byte ` and the offset.
 #[derive(Debug, Drop)]
 pub struct CarError {
-    /// Why.
+    /// The kind of the error.
     pub kind: CarErrorKind,
-    /// The offset in the file at which the header or the section begins that isn't read; after `ShortPayload` behind a section, that of the
-    /// file's end.
+    /// The offset in the file of the header or the section that is not read. For a `ShortPayload`
+    /// after the header or a section, it is the offset of the file's end.
     pub section: u64,
-    /// The offset in the file of what is wrong in it: of the byte where its length stops being a varint, of the length where that is
-    /// zero or over the limit, of the CID or the header's block, of the number that places the payload after `Payload` (byte 27), of its
-    /// end where it is cut, and where reading stopped after `Memory` and `Read`.
+    /// The offset in the file of the error itself:
+    ///
+    /// - `LengthNotShortest`, `LengthTooLarge`: the byte at which the length stops being a varint.
+    /// - `Empty`, `TooLong`: the length.
+    /// - `Cid`: the CID.
+    /// - `HeaderBlock`, `NotAHeader`: the block of the header.
+    /// - `Payload`: the number that places the payload, which is at byte 27.
+    /// - `UnexpectedEnd`, `ShortPayload`: the end of the file or of the payload.
+    /// - `Read`, `Memory`: the byte at which reading stopped. If decoding the header's block runs
+    ///   out of memory, it is that block.
     pub offset: u64,
 }
 
@@ -127,7 +141,7 @@ impl fmt::Display for CarError {
     }
 }
 
-// Writes the byte at which the error is, behind what it is.
+// Writes the byte at which the error is, after the sentence.
 fn write_place<W: fmt::Write>(f: &mut fmt::Formatter<W>, offset: u64) -> fmt::Result
     ensures writes { WritesOnOk W.write_str_gives f.old result (place_of offset) f.new }
     ensures styled { WritesStyledOnOk W.write_str_gives f.old result (place_of offset) f.new }
@@ -136,7 +150,7 @@ fn write_place<W: fmt::Write>(f: &mut fmt::Formatter<W>, offset: u64) -> fmt::Re
     f.write_str(Buffer::new().format(offset))
 }
 
-// Writes a number between two texts.
+// Writes a number between two strings.
 pub(crate) fn write_number<W: fmt::Write>(
     f: &mut fmt::Formatter<W>,
     before: &str,

@@ -1,12 +1,12 @@
-//! Bytes of a reader, put behind those that were taken before.
+//! Bytes of a reader, appended to those that were taken before.
 
 ghost use Rattle.ipld_car.specs.Taking.{TakesSome, Fills};
 
 use crate::error::CarErrorKind;
 use std::io::{BufRead, Error, ErrorKind};
 
-// Takes at most `most` bytes of what the reader has buffered, and returns how many, or `None` at its end. A read that was interrupted takes
-// none.
+// Takes at most `most` bytes of those that the reader has buffered. Returns how many, or `None` at
+// the reader's end. An interrupted read takes 0 bytes.
 #[tactic(auto, using(crate::proofs::Takings::takes_none))]
 #[inline(always)]
 fn take_buffered<R: BufRead>(
@@ -40,8 +40,8 @@ fn take_buffered<R: BufRead>(
     Ok(Some(count))
 }
 
-// Takes `count` bytes, or all to the reader's end where it has fewer, and returns whether it had so many. A reader that is interrupted
-// without end has failed.
+// Takes `count` bytes, or all up to the reader's end if it has fewer. Returns whether it had that
+// many. A reader that is interrupted without end has failed.
 #[tactic(auto, using(crate::proofs::Takings::fills_none, crate::proofs::Takings::fills_zero, crate::proofs::Takings::fills_more, crate::proofs::Takings::fills_all, crate::proofs::Takings::fills_part, crate::proofs::Takings::fills_until, crate::proofs::Takings::fills_never))]
 #[inline(always)]
 pub(crate) fn fill<R: BufRead>(

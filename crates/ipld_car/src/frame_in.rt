@@ -1,4 +1,4 @@
-//! A length, and as many bytes, at the front of bytes in memory.
+//! A length and the bytes that it counts, at the front of bytes in memory.
 
 ghost use Rattle.std.specs.Prelude.{◌≡◌, ◌≤◌, length, take, drop, Some, IfErr, IfOk, IfSome};
 ghost use Rattle.ipld_car.specs.Lengths.{ReadsLength};
@@ -8,7 +8,8 @@ ghost use Rattle.ipld_car.specs.Taking.{IsOfReader};
 use crate::error::CarErrorKind;
 use crate::length::error_at;
 
-// How many bytes were looked at, and the number that they encode, or `None` where there is no byte.
+// Returns how many bytes were looked at, and the number that they encode, or `None` if there is no
+// byte.
 #[tactic(auto, using(crate::proofs::LengthsInMemory::length_none_in, crate::proofs::LengthsInMemory::length_cut_in, crate::proofs::LengthsInMemory::own_length))]
 fn length_in(bytes: &[u8]) -> (usize, Result<Option<u64>, CarErrorKind>)
     ensures within { result.0 ≤ length bytes.now }
@@ -33,7 +34,8 @@ fn length_in(bytes: &[u8]) -> (usize, Result<Option<u64>, CarErrorKind>)
     }
 }
 
-// How many bytes were looked at, and where among them those begin that the length counts, or `None` where there is no byte.
+// Returns how many bytes were looked at, and where among them the counted bytes begin, or `None` if
+// there is no byte.
 #[tactic(auto, using(crate::proofs::FramesInMemory::frame_done, crate::proofs::FramesInMemory::frame_short, crate::proofs::FramedReading::framed_none, crate::proofs::FramedReading::framed_no_length, crate::proofs::FramedReading::framed_empty, crate::proofs::FramedReading::framed_long))]
 pub(crate) fn frame_in(bytes: &[u8], limit: u64) -> (usize, Result<Option<usize>, CarErrorKind>)
     ensures within { result.0 ≤ length bytes.now }

@@ -1,4 +1,4 @@
-//! A length, and as many bytes.
+//! A length and the bytes that it counts.
 
 ghost use Rattle.std.specs.Prelude.{◌≡◌, ◌≤◌, ◌<◌, ◌^◌, ◌≢◌, length};
 ghost use Rattle.std.specs.Io.KnownBytes.{Consumes};
@@ -10,8 +10,9 @@ use crate::fill::fill;
 use crate::length::read_length;
 use std::io::BufRead;
 
-// Takes a varint and as many bytes as it says, in place of what `taken` held, and returns how many bytes the varint has; or `None` where there is
-// no byte. No more than `room` bytes are taken, and no length over the limit is followed.
+// Takes a varint and the bytes that it counts, which replace the contents of `taken`. Returns how
+// many bytes the varint has, or `None` if there is no byte. Takes at most `room` bytes. If the
+// length is over the limit, only the length is taken.
 #[tactic(auto, using(crate::proofs::FramedReading::framed_consumed, crate::proofs::FramedReading::framed_none, crate::proofs::FramedReading::framed_no_length, crate::proofs::FramedReading::framed_empty, crate::proofs::FramedReading::framed_long, crate::proofs::FramedReading::framed_done, crate::proofs::FramedReading::framed_cut, crate::proofs::FramedReading::framed_over, crate::proofs::FramedReading::framed_fails, crate::proofs::FramedReading::framed_within))]
 pub(crate) fn read_framed<R: BufRead>(
     reader: &mut R,
@@ -45,7 +46,7 @@ pub(crate) fn read_framed<R: BufRead>(
     Ok(Some(start))
 }
 
-// Where in the bytes that were taken an error of a length or of what follows it lies.
+// The place of an error, of a length or of the bytes after it, in the bytes that were taken.
 pub(crate) fn fault_place(kind: &CarErrorKind, taken: usize) -> u64
     ensures place { result ≡ framing.fault_place kind.now taken }
     ensures within { result ≤ taken }

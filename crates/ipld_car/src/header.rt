@@ -15,7 +15,7 @@ use ipld_tree::macros::ListBuilder;
 use ipld_tree::{Ipld, Limits, ipld};
 use std::alloc::{AllocError, Global};
 
-// How deep a header nests: a map, and a list in it.
+// The nesting of a header: a map, and a list in it.
 const LEVELS: usize = 2;
 
 // The roots as a list of links.
@@ -37,7 +37,7 @@ pub(crate) fn header_of(alloc: Global, roots: &[Cid]) -> Result<Ipld, AllocError
     ipld!(alloc, {"roots": links, "version": 1u8})
 }
 
-// The roots, where the tree is a header's.
+// Returns the roots if the tree is that of a header.
 #[tactic(auto, using(crate::proofs::Headers::header_found, crate::proofs::Headers::header_none))]
 fn roots_of_tree(alloc: Global, value: &Ipld) -> Result<Option<Vec<Cid>>, AllocError>
     ensures found { IfOk result (λ some.

@@ -1,5 +1,5 @@
-//! The index of a CAR of version 2, and the header that says where it stands; here the index that is to be written: its entries by the hash
-//! function and by the length of the digest.
+//! The index of a CAR of version 2, and the header that has its position. This module has the index
+//! to be written: its entries by the hash function and by the length of the digest.
 
 ghost use Rattle.std.specs.Prelude.{◌≡◌, ◌<◌, ◌∷◌, ◌++◌, [], length, IfOk, OnOk};
 ghost use Rattle.std.specs.List.Sorted.{IsPermutation};
@@ -35,15 +35,19 @@ pub(crate) struct HashBuckets {
     pub(crate) buckets: Vec<Bucket>,
 }
 
-/// The index of a CAR, as it is written: sorted by the code of the hash function, the length of the digest, the digest and the offset.
+/// The index of a CAR, as it is written: sorted by the code of the hash function, the length of the
+/// digest, the digest and the offset.
 #[derive(Debug, Drop)]
 pub struct CarIndex {
     pub(crate) hashes: Vec<HashBuckets>,
 }
 
 impl CarIndex {
-    /// The index that has these entries, but for those whose digest is empty: a row without a digest names no block, and readers of indexes
-    /// reject it. Such a digest is that of an empty block under the identity hash. Allocates for all of them; `AllocError` where that fails.
+    /// Creates the index that has these entries, except those with an empty digest. A row without a
+    /// digest does not identify a block, and readers of indexes reject it. An empty digest is that
+    /// of an empty block under the identity hash.
+    ///
+    /// It allocates for all entries. Returns `AllocError` if an allocation fails.
     pub fn new(alloc: Global, entries: Vec<IndexEntry>) -> Result<CarIndex, AllocError>
         ensures same { IfOk result (λ index.
             IsPermutation (indexed entries.items) (entries_in index)) }
@@ -63,7 +67,7 @@ impl CarIndex {
         Ok(index)
     }
 
-    // Adds an entry behind all others.
+    // Appends an entry.
     fn push(&mut self, alloc: Global, entry: &IndexEntry) -> Result<(), AllocError>
         ensures behind { OnOk result (entries_in self.new ≡ entries_in self.old ++ entry.now ∷ []) }
         ensures grouped { OnOk result (AreGrouped self.old → AreGrouped self.new) }
@@ -86,7 +90,7 @@ impl CarIndex {
 }
 
 impl HashBuckets {
-    // Adds an entry of this hash function behind all others.
+    // Appends an entry of this hash function.
     fn push(&mut self, alloc: Global, entry: &IndexEntry) -> Result<(), AllocError>
         requires { entry.now.hash.code ≡ self.old.code }
         ensures code { self.new.code ≡ self.old.code }

@@ -10,7 +10,7 @@ use crate::error::CarErrorKind;
 use crate::fill::fill;
 use std::io::BufRead;
 
-// What is wrong with a byte that stands behind `place` bytes of a varint.
+// The error of a byte that comes after `place` bytes of a varint.
 #[inline(always)]
 pub(crate) fn error_at(place: usize, byte: u8) -> Option<CarErrorKind>
     ensures { result ≡ kind_of (varint.error_at place byte) }
@@ -24,7 +24,8 @@ pub(crate) fn error_at(place: usize, byte: u8) -> Option<CarErrorKind>
     }
 }
 
-// Takes the next byte, and returns it, or `None` where the reader has none or `room` bytes were taken.
+// Takes the next byte, and returns it. Returns `None` if the reader is at its end or `room` bytes
+// were taken.
 #[inline(always)]
 fn take_byte<R: BufRead>(
     reader: &mut R,
@@ -43,7 +44,8 @@ fn take_byte<R: BufRead>(
     Ok(Some(taken[taken.len() - 1]))
 }
 
-// The number that the next bytes encode, of at most `room` bytes, or `None` where there is no byte.
+// Reads the number that the next bytes encode, at most `room` of them. Returns `None` if there is
+// no byte.
 #[tactic(auto, using(crate::proofs::LengthReading::length_none, crate::proofs::LengthReading::length_cut, crate::proofs::LengthReading::length_ends, crate::proofs::LengthReading::length_fails, crate::proofs::LengthReading::length_more, crate::proofs::LengthReading::length_within))]
 pub(crate) fn read_length<R: BufRead>(
     reader: &mut R,

@@ -1,6 +1,8 @@
-//! CAR files (content-addressed archives): the blocks of a graph one after the other, each behind its CID.
+//! CAR files (content-addressed archives): the blocks of a graph one after another, with the CID of
+//! each before it.
 //!
-//! [`CarReader`] reads a file section by section, in memory bounded by the longest section and by a limit. [`CarWriter`] writes one.
+//! [`CarReader`] reads a file section by section. The memory that it uses is bounded by the longest
+//! section and by a limit. [`CarWriter`] writes a file.
 //!
 //! ```rust
 //! use ipld_car::{CarReader, DEFAULT_LIMIT, Section};
@@ -12,12 +14,19 @@
 //! }
 //! ```
 //!
-//! Versions 1 and 2 are read, of version 2 its payload, whose index is skipped. Version 1 is written. [`section_at`] finds the sections of a CAR
-//! whose bytes are all in memory, without a copy.
+//! Versions 1 and 2 are read. In version 2 only the payload is read, and its index is skipped.
+//! Version 1 is written. [`section_at`] finds the sections of a CAR that is entirely in memory,
+//! without a copy.
 //!
-//! The index of a file of version 2 says where the block of a CID stands, so that the blocks before it need not be read. [`CarIndex`] is made
-//! of the places of blocks and written in the format MultihashIndexSorted, [`read_index`] reads one, [`entries_of`] finds the places of a
-//! digest in it, and [`CarHeader`] is the header that says where the payload and the index stand:
+//! The index of a file of version 2 maps the hash of a CID to the position of its block, so that
+//! the blocks before it need not be read:
+//!
+//! - [`CarIndex`] is made of the positions of blocks, and is written in the format
+//!   MultihashIndexSorted.
+//! - [`read_index`] reads an index.
+//! - [`entries_of`] finds the entries of a hash in it.
+//! - [`CarHeader`] is the header of version 2, which has the positions of the payload and the
+//!   index.
 //!
 //! ```rust
 //! use ipld_car::{entries_of, read_index};
@@ -28,7 +37,7 @@
 //! }
 //! ```
 //!
-//! An index is as good as who wrote it: compare the CID at an offset with the one that you look for.
+//! Do not trust an index: compare the CID at an offset with the one that you look for.
 #![tactic(auto)]
 
 mod error;

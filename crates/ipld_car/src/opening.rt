@@ -1,4 +1,4 @@
-//! What stands before the sections, read.
+//! The reading of the part before the sections.
 
 ghost use Rattle.std.specs.Prelude.{◌≡◌, ◌≤◌, ◌<◌, ◌-◌, ◌+◌, ◌^◌, length, drop, MatchResult};
 ghost use Rattle.std.specs.Io.KnownBytes.{Consumes};
@@ -16,7 +16,7 @@ use ipld_cid::Cid;
 use std::alloc::Global;
 use std::io::BufRead;
 
-// What stands before the sections, read.
+// The part before the sections.
 #[derive(Drop)]
 pub(crate) struct Opening {
     pub(crate) roots: Vec<Cid>,
@@ -26,7 +26,8 @@ pub(crate) struct Opening {
     pub(crate) end: u64,
 }
 
-// Takes the block of the header that begins at an offset, of what ends at another, and returns where among the bytes taken it begins.
+// Takes the block of the header that begins at the offset `begin`, before the offset `end`. Returns
+// its place in the bytes that were taken.
 #[tactic(auto, using(crate::proofs::Openings::block_taken, crate::proofs::Openings::block_fails))]
 fn read_block<R: BufRead>(
     reader: &mut R,
@@ -59,7 +60,7 @@ fn read_block<R: BufRead>(
     }
 }
 
-// The roots in the block of the header that begins at an offset.
+// Decodes the roots in the block of the header that begins at an offset.
 fn roots_at(alloc: Global, taken: &[u8], start: usize, begin: u64) -> Result<Vec<Cid>, CarError>
     requires within { start ≤ length taken.now }
     requires fits { begin + start < 2 ^ 64 }
@@ -71,7 +72,7 @@ fn roots_at(alloc: Global, taken: &[u8], start: usize, begin: u64) -> Result<Vec
     }
 }
 
-// Reads what stands before the sections of version 2, whose pragma was taken.
+// Reads the part before the sections of version 2, after its pragma was taken.
 fn open_version2<R: BufRead>(
     alloc: Global,
     reader: &mut R,
@@ -103,7 +104,7 @@ fn open_version2<R: BufRead>(
     }
 }
 
-// Reads what stands before the sections.
+// Reads the part before the sections.
 #[tactic(auto, using(crate::proofs::Openings::version1_opens))]
 pub(crate) fn read_opening<R: BufRead>(
     alloc: Global,

@@ -1,11 +1,12 @@
-//! The end of the payload of version 2, which its header says.
+//! The end of the payload of version 2, which its header states.
 
 ghost use Rattle.std.specs.Prelude.{◌≡◌, ◌≤◌};
 ghost use Rattle.ipld_car.specs.Payload as payload;
 
 use crate::error::{CarError, CarErrorKind};
 
-// Of a payload of `size` bytes, of which `found` were read: the error where they end before the payload does.
+// Turns an end within the payload into `ShortPayload` if fewer than its `size` bytes were read
+// (`found`).
 pub(crate) fn short_payload(error: CarError, size: u64, found: u64) -> CarError
     ensures { result ≡ payload.short_payload size found error }
 {
@@ -22,7 +23,8 @@ pub(crate) fn short_payload(error: CarError, size: u64, found: u64) -> CarError
     }
 }
 
-// What reading a section of the payload returns, by what reading it returned up to the end of the file; `offset` is what was read of that.
+// Turns the result of reading a section up to the end of the file into that of reading it up to the
+// end of the payload. `offset` is the number of bytes of the file that were read.
 pub(crate) fn within_payload(
     read: Result<bool, CarError>,
     size: u64,

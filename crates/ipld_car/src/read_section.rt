@@ -13,7 +13,7 @@ use crate::section::Section;
 use ipld_cid::Cid;
 use std::io::BufRead;
 
-// The error of what begins at the offset.
+// The error of the header or the section that begins at the offset.
 #[inline(always)]
 pub(crate) fn section_error(kind: CarErrorKind, section: u64, place: u64) -> CarError
     requires { section + place < 2 ^ 64 }
@@ -26,7 +26,7 @@ pub(crate) fn section_error(kind: CarErrorKind, section: u64, place: u64) -> Car
     }
 }
 
-// Reads the CID before the block, in the bytes behind the length, which are `start`.
+// Reads the CID of the block from the bytes after the length, which has `start` bytes.
 #[inline(always)]
 fn name_block(section: &mut Section, begin: u64, start: usize) -> Result<bool, CarError>
     requires within { start ≤ length (taken_of section.old) }
@@ -50,7 +50,7 @@ fn name_block(section: &mut Section, begin: u64, start: usize) -> Result<bool, C
     }
 }
 
-// Takes a length and as many bytes, in place of what the section held.
+// Takes a length and the bytes that it counts, which replace the contents of the section.
 #[inline(always)]
 fn take_framed<R: BufRead>(
     reader: &mut R,
@@ -71,7 +71,7 @@ fn take_framed<R: BufRead>(
     framed
 }
 
-// Reads a section that begins at an offset, of what ends at another.
+// Reads a section that begins at the offset `begin`. Sections end by the offset `end`.
 #[tactic(auto, using(crate::proofs::SectionReading::section_none, crate::proofs::SectionReading::section_fails))]
 pub(crate) fn read_section_at<R: BufRead>(
     reader: &mut R,

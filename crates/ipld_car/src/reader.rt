@@ -12,17 +12,18 @@ use ipld_cid::Cid;
 use std::alloc::Global;
 use std::io::BufRead;
 
-/// A limit for [`CarReader::new`] that serves CARs as they are made: 8 MiB. Blocks rarely have more than 2 MiB.
+/// A limit for [`CarReader::new`] that is enough for usual CARs: 8 MiB. Blocks rarely have more
+/// than 2 MiB.
 pub const DEFAULT_LIMIT: u64 = 8 << 20;
 
-/// A CAR that is read section by section, of version 1 or 2 (CARv1, CARv2).
+/// A reader of a CAR of version 1 or 2 (CARv1, CARv2), section by section.
 #[derive(Drop)]
 pub struct CarReader<R> {
     reader: R,
     roots: Vec<Cid>,
     version: CarVersion,
     limit: u64,
-    // Where the payload begins: of version 1 the file is it.
+    // The offset of the payload. In version 1 the file is the payload.
     start: u64,
     offset: u64,
     end: u64,
@@ -41,15 +42,17 @@ impl<R: BufRead> CarReader<R> {
     ghost use Rattle.ipld_car.specs.SectionOf.{taken_of, block_of};
     ghost use Rattle.ipld_car.specs.Position.{Moves, IsOpened, FaultOf, HasOpened, stated_end};
 
-    /// Reads what stands before the sections, and nothing more: the header, or of version 2 the pragma, the header and the header of its
-    /// payload. Neither a header nor a section may have more than `limit` bytes behind its length.
+    /// Reads the part before the sections, and nothing more. In version 1 that is the header. In
+    /// version 2 it is the pragma, the header and the header of the payload. A header or a section
+    /// may have at most `limit` bytes after its length.
     ///
-    /// It allocates for the header as its bytes come, and for its roots.
+    /// It allocates for the header as its bytes arrive, and for its roots.
     ///
     /// # Errors
     ///
-    /// The kind of the error is that of the first fault in the order of the bytes. [`CarErrorKind`](crate::CarErrorKind) says when each
-    /// comes; it is never `Cid`, and `UnexpectedEnd` also where the file is empty. The reader is dropped.
+    /// The first error in the order of the bytes. [`CarErrorKind`](crate::CarErrorKind) lists when
+    /// every kind occurs. Here the kind is never `Cid`, and it is `UnexpectedEnd` also if the file
+    /// is empty. The reader is dropped.
     pub fn new(alloc: Global, reader: R, limit: u64) -> Result<CarReader<R>, CarError>
     where
         R: Drop,
@@ -79,31 +82,34 @@ impl<R: BufRead> CarReader<R> {
         }
     }
 
-    /// The version.
+    /// Returns the version.
     pub fn version(&self) -> CarVersion
         ensures { result ≡ self.now.version }
     {
         self.version
     }
 
-    /// The roots, in the order of the header.
+    /// Returns the roots, in the order of the header.
     pub fn roots(&self) -> &[Cid]
         ensures { result.now ≡ self.now.roots.items }
     {
         &self.roots
     }
 
-    /// Returns the offset in the file at which the payload begins: of version 1 it is 0, since the file is the payload.
+    /// Returns the offset in the file at which the payload begins. In version 1 it is 0, since the
+    /// file is the payload.
     ///
-    /// The first section begins behind the payload's header, at the [`offset`](CarReader::offset) of a new reader.
+    /// The first section begins after the payload's header, at the [`offset`](CarReader::offset) of
+    /// a new reader.
     pub fn start(&self) -> u64
         ensures { result ≡ self.now.start }
     {
         self.start
     }
 
-    /// Returns the offset in the file at which the sections end, or `None` of version 1, whose sections end where the file does. Of version 2 it
-    /// is where the payload ends by its header, also if the file ends before that.
+    /// Returns the offset in the file at which the sections end, or `None` for version 1, whose
+    /// sections end with the file. In version 2 it is the end of the payload by the header, even if
+    /// the file ends before that.
     pub fn end(&self) -> Option<u64>
         ensures { result ≡ stated_end self.now.version self.now.end }
     {
@@ -113,24 +119,30 @@ impl<R: BufRead> CarReader<R> {
         }
     }
 
-    /// Returns the offset in the file at which the next section begins: so many bytes were read.
+    /// Returns the offset in the file at which the next section begins, which is the number of
+    /// bytes that were read.
     pub fn offset(&self) -> u64
         ensures { result ≡ self.now.offset }
     {
         self.offset
     }
 
-    /// Reads the next section into `section`, in place of what that held, and returns whether there was one. There is none where the file of
-    /// version 1 ends, or the payload of version 2, which does where its header says. `section` then has no bytes of a block, and the CID
-    /// that it had.
+    /// Reads the next section into `section`, whose old contents it replaces. Returns whether there
+    /// was one.
     ///
-    /// It takes the bytes of the section and no more. It allocates only where the section is longer than each before it, as the bytes come.
+    /// In version 1 the sections end with the file. In version 2 they end with the payload, whose
+    /// end its header states. After the last section, `section` has an empty block, and keeps its
+    /// CID.
+    ///
+    /// It takes the bytes of the section and no more. It allocates only if the section is longer
+    /// than every section that was read into `section` before, and then while the bytes arrive.
     ///
     /// # Errors
     ///
-    /// Those of a section in [`CarErrorKind`](crate::CarErrorKind), with the offset of the section and that of what is wrong in it. Of the
-    /// section at fault the bytes up to the fault were taken, and none of what follows it: where its CID is at fault, the whole section.
-    /// `section` then has no bytes of a block, and the CID that it had.
+    /// Those of a section in [`CarErrorKind`](crate::CarErrorKind), with the offset of the section
+    /// and the offset of the error. The bytes up to and including the invalid part were then taken,
+    /// and none after it. If the CID is invalid, the whole section was taken. `section` then has an
+    /// empty block, and keeps its CID.
     pub fn read_section(&mut self, section: &mut Section) -> Result<bool, CarError>
         ensures consumed { Consumes (R.remaining self.old.reader) (R.remaining self.new.reader)
             (taken_of section.new) }

@@ -5,7 +5,8 @@ ghost use Rattle.std.specs.Prelude.{◌≤◌, vec_len};
 use ipld_cid::{Cid, IDENTITY, Multihash, RAW};
 use std::alloc::Global;
 
-/// A block with its CID, read from a section of a CAR. It is a buffer that is used again for each section.
+/// A block with its CID, read from a section of a CAR. It is a buffer that is used again for every
+/// section.
 #[derive(Drop)]
 pub struct Section {
     // The bytes of the section, from its length on.
@@ -21,7 +22,8 @@ impl Section {
     ghost use Rattle.ipld_car.specs.Section.{no_block};
     ghost use Rattle.ipld_car.specs.SectionOf.{block_of, taken_of};
 
-    /// An empty block, under the CID that is it: version 1, the codec [`RAW`], and the [`IDENTITY`] hash of no bytes. Does not allocate.
+    /// Creates an empty block with its CID: version 1, the codec [`RAW`], and the [`IDENTITY`] hash
+    /// of no bytes. Does not allocate.
     pub fn new(alloc: Global) -> Section
         ensures { block_of result ≡ no_block }
     {
@@ -36,7 +38,7 @@ impl Section {
         }
     }
 
-    /// The CID of the block.
+    /// Returns the CID of the block.
     #[inline(always)]
     pub fn cid(&self) -> &Cid
         ensures { link_of result.now ≡ (block_of self.now).cid }
@@ -44,7 +46,7 @@ impl Section {
         &self.cid
     }
 
-    /// The bytes of the block.
+    /// Returns the bytes of the block.
     #[inline(always)]
     pub fn data(&self) -> &[u8]
         ensures { result.now ≡ (block_of self.now).bytes }
@@ -52,7 +54,7 @@ impl Section {
         &self.bytes[self.data_start..]
     }
 
-    // How many bytes the last reading took.
+    // The number of bytes that the last read took.
     #[inline(always)]
     pub(crate) fn taken(&self) -> usize
         ensures { result ≡ length (taken_of self.now) }

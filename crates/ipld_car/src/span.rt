@@ -13,7 +13,7 @@ use crate::payload::short_payload;
 use crate::read_section::section_error;
 use ipld_cid::Cid;
 
-/// Where the parts of a section stand in the bytes of a CAR.
+/// The positions of a section's parts in the bytes of a CAR.
 #[derive(Clone, Copy, Debug, PartialEq, Eq)]
 pub struct SectionSpan {
     /// The byte at which the CID begins.
@@ -24,7 +24,7 @@ pub struct SectionSpan {
     pub end: usize,
 }
 
-// The bytes from one on up to another, as far as there are any.
+// The bytes from `at` up to `end`, as far as there are any.
 fn window(car: &[u8], at: usize, end: usize) -> &[u8]
     requires { at ≤ end }
     ensures bytes { result.now ≡ between at end car.now }
@@ -34,7 +34,7 @@ fn window(car: &[u8], at: usize, end: usize) -> &[u8]
     &rest[..rest.len().min(end - at)]
 }
 
-// Splits a section off the front of bytes, of which the first has the offset `at`.
+// Splits a section off the front of the bytes, the first of which has the offset `at`.
 #[tactic(auto, using(crate::proofs::SectionsInMemory::split_none))]
 fn split_section(bytes: &[u8], at: usize) -> Result<Option<SectionSpan>, CarError>
     requires { at + length bytes.now < 2 ^ 64 }
@@ -58,12 +58,18 @@ fn split_section(bytes: &[u8], at: usize) -> Result<Option<SectionSpan>, CarErro
     }
 }
 
-/// Returns where the section stands that begins at the byte `at` of a CAR, which is read up to the byte `end`; `None` if `at` is `end` or
-/// behind it. Nothing is copied, and it does not allocate.
+/// Returns the positions of the parts of the section that begins at the byte `at` of a CAR, which
+/// is read up to the byte `end`. Returns `None` if `at` is `end` or comes after it. It copies
+/// nothing, and does not allocate.
 ///
-/// A [`CarReader`](crate::CarReader) of the same bytes has the numbers. Its [`start`](crate::CarReader::start) is the `start`, and its
-/// [`offset`](crate::CarReader::offset) is where the first section begins. Its [`end`](crate::CarReader::end) is the `end`, or if that is `None`,
-/// as of version 1, the number of bytes is. [`SectionSpan::end`] is where the next section begins:
+/// A [`CarReader`](crate::CarReader) of the same bytes has the numbers:
+///
+/// - Its [`start`](crate::CarReader::start) is the `start`.
+/// - Its [`offset`](crate::CarReader::offset) is where the first section begins.
+/// - Its [`end`](crate::CarReader::end) is the `end`. If that is `None`, as it is for version 1,
+///   `end` is the number of bytes.
+///
+/// The next section begins at [`SectionSpan::end`]:
 ///
 /// ```rust
 /// let reader = CarReader::new(alloc, car, DEFAULT_LIMIT)?;
@@ -76,13 +82,16 @@ fn split_section(bytes: &[u8], at: usize) -> Result<Option<SectionSpan>, CarErro
 /// }
 /// ```
 ///
-/// The lengths in an error count from `start`, or from `at` where that comes before it. Any numbers may be passed. There is no limit: a section
-/// is as long as there are bytes.
+/// The lengths in an error count from `start`, or from `at` if that comes before it. You may pass
+/// any numbers. The length of a section is limited only by the number of bytes.
 ///
 /// # Errors
 ///
-/// Those of a section in [`CarErrorKind`], with the offset `at` and that of what is wrong, but for `Memory`, `Read` and `TooLong`:
-/// `ShortPayload` where the bytes end before `end`, and `UnexpectedEnd` where `end` comes before the section's.
+/// Those of a section in [`CarErrorKind`], except `Memory`, `Read` and `TooLong`. They have the
+/// offset `at` of the section, and the offset of the error itself.
+///
+/// - `ShortPayload` if the bytes end before `end` and before the section does.
+/// - `UnexpectedEnd` if `end` comes before the end of the section.
 pub fn section_at(
     car: &[u8],
     start: usize,

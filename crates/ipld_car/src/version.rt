@@ -3,8 +3,8 @@
 /// The version of a CAR.
 #[derive(Clone, Copy, Debug, PartialEq, Eq)]
 pub enum CarVersion {
-    /// A header, and sections behind it (CARv1).
+    /// A header, and the sections after it (CARv1).
     V1,
-    /// A CAR of version 1, which is the payload, between a header of its own and an index (CARv2).
+    /// A CAR of version 1 (the payload) between a header of its own and an index (CARv2).
     V2,
 }

@@ -1,4 +1,4 @@
-//! What stands before the payload in version 2.
+//! The part of version 2 before the payload.
 
 ghost use Rattle.std.specs.Prelude.{◌≡◌, ◌↔◌, IsTrue, ◌≤◌, ◌<◌, ◌+◌, ◌^◌, length, drop, slice_range, MatchOption, MatchResult};
 ghost use Rattle.std.specs.Int.{w64, from_le_bytes};
@@ -12,20 +12,20 @@ use std::io::BufRead;
 // The block of the pragma: `{"version": 2}` in DAG-CBOR.
 const PRAGMA: [u8; 10] = [0xa1, 0x67, 0x76, 0x65, 0x72, 0x73, 0x69, 0x6f, 0x6e, 0x02];
 
-// Where the header begins.
+// The offset of the header.
 const HEADER: u64 = 11;
 
-// How many bytes are skipped at a time.
+// The number of bytes that are skipped at a time.
 const PIECE: u64 = 4096;
 
-// Where the payload begins and where it ends.
+// The offsets at which the payload begins and ends.
 #[derive(Clone, Copy)]
 pub(crate) struct Payload {
     pub(crate) start: u64,
     pub(crate) end: u64,
 }
 
-// Whether the block of a header that begins there is the pragma's.
+// Checks whether the block that begins at `start` is that of the pragma.
 pub(crate) fn is_pragma(taken: &[u8], start: usize) -> bool
     requires { start ≤ length taken.now }
     ensures { IsTrue result ↔ (drop start taken.now ≡ pragma_block) }
@@ -44,7 +44,7 @@ pub(crate) fn number_at(bytes: &[u8], place: usize) -> u64
     u64::from_le_bytes(number)
 }
 
-// Where the payload lies, by the 40 bytes of the header.
+// The position of the payload, by the 40 bytes of the header.
 fn payload_of(header: &[u8]) -> Option<Payload>
     requires { length header.now ≡ 40 }
     ensures { MatchOption result (HasNoPayload header.now) (λ payload.
@@ -61,7 +61,7 @@ fn payload_of(header: &[u8]) -> Option<Payload>
     }
 }
 
-// Skips so many bytes, from the 51st of the file on. It keeps a piece of them at a time.
+// Skips `count` bytes, from offset 51 of the file on. It keeps a piece of them at a time.
 #[tactic(auto, using(crate::proofs::Skipping::skips_none, crate::proofs::Skipping::skips_more, crate::proofs::Skipping::skips_all, crate::proofs::Skipping::fills_bounded))]
 fn skip_padding<R: BufRead>(
     reader: &mut R,
@@ -92,7 +92,7 @@ fn skip_padding<R: BufRead>(
     Ok(())
 }
 
-// Reads the header behind the pragma, and goes to the payload.
+// Reads the header after the pragma, and skips the bytes up to the payload.
 #[tactic(auto, using(crate::proofs::Skipping::payload_reached, crate::proofs::Skipping::payload_cut, crate::proofs::Skipping::payload_fails, crate::proofs::Skipping::payload_nowhere))]
 pub(crate) fn read_payload<R: BufRead>(
     reader: &mut R,

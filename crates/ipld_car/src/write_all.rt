@@ -1,4 +1,4 @@
-//! Bytes, written whole, or some of them from the first on.
+//! The writing of bytes: all of them, or a prefix if it fails.
 
 ghost use Rattle.std.specs.Prelude.{◌≡◌, ◌≤◌, length, take, IfOk, IfErr, OnOk, OnErr};
 ghost use Rattle.std.specs.Io.KnownBytes.{Appends, Keeps};
@@ -7,7 +7,7 @@ ghost use Rattle.ipld_car.specs.WriteErrors.{IsWriteError};
 
 use std::io::{self, ErrorKind, Write};
 
-// Writes some of the bytes, and returns how many: none where the write was interrupted.
+// Writes some of the bytes, and returns how many. It is 0 if the write was interrupted.
 #[tactic(auto, using(crate::proofs::Pieces::appended_none, crate::proofs::Pieces::kept_for_none))]
 fn write_piece<W: Write>(writer: &mut W, rest: &[u8]) -> io::Result<usize>
     ensures ok { IfOk result (λ count. (count ≤ length rest.now)
@@ -23,7 +23,8 @@ fn write_piece<W: Write>(writer: &mut W, rest: &[u8]) -> io::Result<usize>
     }
 }
 
-// Writes all of the bytes. A write that was interrupted is tried again; a writer that is interrupted without end has failed.
+// Writes all of the bytes. A write that was interrupted is tried again. A writer that is
+// interrupted without end has failed.
 #[tactic(auto, using(crate::proofs::Pieces::nothing_written, crate::proofs::Pieces::piece_written, crate::proofs::Pieces::none_written, crate::proofs::Pieces::all_written))]
 pub(crate) fn write_all<W: Write>(writer: &mut W, bytes: &[u8]) -> io::Result<()>
     ensures ok { OnOk result (Appends (W.contents writer.old) (W.contents writer.new) bytes.now) }

@@ -16,7 +16,7 @@ use ipld_codec::Codec;
 use std::alloc::{AllocError, Global};
 use std::io::{self, Write};
 
-/// A CAR of version 1 that is written section by section (CARv1).
+/// A writer of a CAR of version 1 (CARv1), section by section.
 #[derive(Drop)]
 pub struct CarWriter<W> {
     writer: W,
@@ -51,7 +51,8 @@ fn header_bytes(alloc: Global, roots: &[Cid]) -> Result<Vec<u8>, AllocError>
     Ok(bytes)
 }
 
-// Puts what stands before a block of so many bytes in place of what `front` held.
+// Puts the length and the CID before a block of `len` bytes into `front`, whose old contents they
+// replace.
 fn put_front(front: &mut Vec<u8>, cid: &Cid, len: usize) -> Result<(), AllocError>
     requires { len < 2 ^ 63 }
     ensures written { OnOk result (front.new.items
@@ -67,16 +68,19 @@ fn put_front(front: &mut Vec<u8>, cid: &Cid, len: usize) -> Result<(), AllocErro
 impl<W: Write> CarWriter<W> {
     ghost use Rattle.std.specs.Io.KnownBytes.{Keeps};
 
-    /// Writes the header with these roots to a writer, and returns what writes the sections behind it.
+    /// Writes the header with these roots to a writer, and returns the [`CarWriter`] of the
+    /// sections after it.
     ///
-    /// It allocates for the header, and keeps that memory for what stands before each block.
+    /// It allocates for the header, and keeps that memory for the length and the CID before each
+    /// block.
     ///
     /// # Errors
     ///
-    /// That of the writer, or one of the kind `OutOfMemory` if an allocation failed. A write that was interrupted is tried again. A writer
-    /// that takes no byte has failed with `WriteZero`, and one that is interrupted 2^64 - 1 times with `Other`.
+    /// The error of the writer, or one of the kind `OutOfMemory` if an allocation fails. A write
+    /// that was interrupted is tried again. A writer that takes no byte has failed with
+    /// `WriteZero`, and one that is interrupted 2^64 - 1 times with `Other`.
     ///
-    /// Some bytes of the header, from the first on, may have been written. The writer is dropped.
+    /// A prefix of the header may then have been written. The writer is dropped.
     #[tactic(auto, using(crate::proofs::Written::writes_header))]
     pub fn new(alloc: Global, writer: W, roots: &[Cid]) -> io::Result<CarWriter<W>>
     where
@@ -94,14 +98,16 @@ impl<W: Write> CarWriter<W> {
         })
     }
 
-    /// Writes a block behind its CID, in two writes. That the CID is the block's isn't checked.
+    /// Writes a block with its CID before it, in two writes. It does not check that the CID is the
+    /// block's.
     ///
-    /// It allocates only where what stands before the block is longer than before each block so far, and than the header.
+    /// It allocates only if the length and the CID before the block are longer than those before
+    /// every earlier block, and longer than the header.
     ///
     /// # Errors
     ///
-    /// Those of [`new`](Self::new). Some bytes of the section, from the first on, may then have been written, and never all: what was
-    /// written is no CAR unless they are taken back.
+    /// Those of [`new`](Self::new). A prefix of the section may then have been written, but never
+    /// all of it. The output is then not a CAR, unless you remove that prefix.
     #[tactic(auto, using(crate::proofs::WrittenParts::writes_section, crate::proofs::WrittenParts::writes_none, crate::proofs::WrittenParts::writes_front_part, crate::proofs::WrittenParts::writes_block_part))]
     pub fn write_section(&mut self, cid: &Cid, data: &[u8]) -> io::Result<()>
         ensures written { OnOk result
@@ -121,7 +127,7 @@ impl<W: Write> CarWriter<W> {
     ///
     /// # Errors
     ///
-    /// That of the flush, also if it was interrupted. The writer is dropped.
+    /// The error of the flush, even if it was interrupted. The writer is dropped.
     pub fn finish(self) -> io::Result<W>
     where
         W: Drop,

@@ -7,11 +7,11 @@ abbrev pub bits : ℕ → ℕ → List ℕ
 bits zero n = []
 bits (suc w) n = (n / 2 ^ w % 2) ∷ bits w n
 
--- The bits of bytes, the most significant of each byte first (RFC 4648, section 6).
+-- The bits of bytes, the most significant bit of every byte first (RFC 4648, section 6).
 abbrev pub byte_bits : List ℕ → List ℕ
 byte_bits bytes = flat_map (bits 8) bytes
 
--- the alphabet, whose letters stand for 0 to 31
+-- The alphabet: the letters for 0 to 31
 abbrev pub alphabet : List ℕ
 alphabet = codes "abcdefghijklmnopqrstuvwxyz234567"
 
@@ -19,7 +19,7 @@ alphabet = codes "abcdefghijklmnopqrstuvwxyz234567"
 abbrev pub letter : ℕ → ℕ
 letter value = slice_index alphabet value
 
--- The bits in groups of five, each group as its number; the last group is filled with zero bits
+-- The numbers of the groups of five bits, in order. The last group is filled with zero bits
 -- (RFC 4648, section 6, without padding).
 abbrev pub quintets : List ℕ → List ℕ
 quintets [] = []
@@ -29,6 +29,6 @@ quintets (a ∷ b ∷ c ∷ []) = (16 * a + 8 * b + 4 * c) ∷ []
 quintets (a ∷ b ∷ c ∷ d ∷ []) = (16 * a + 8 * b + 4 * c + 2 * d) ∷ []
 quintets (a ∷ b ∷ c ∷ d ∷ e ∷ rest) = (16 * a + 8 * b + 4 * c + 2 * d + e) ∷ quintets rest
 
--- The letters of some bytes (RFC 4648, section 6, in lower case and without padding).
+-- The base32 letters of bytes (RFC 4648, section 6, in lower case and without padding).
 unfoldable pub base32 : List ℕ → List ℕ
 base32 bytes = map letter (quintets (byte_bits bytes))

@@ -1,5 +1,6 @@
--- A CID as bytes (multiformats CID): version 0 is a multihash alone, 12 20 and 32 bytes; version 1 is the varints of 1,
--- of the codec, of the hash code and of the digest's length, and then the digest.
+-- The encoding of a CID (multiformats CID). Version 0 is only a multihash: `12 20` and 32 bytes.
+-- Version 1 is the varints of 1, of the codec, of the hash code and of the digest's length, and
+-- then the digest.
 use Rattle.std.specs.Prelude.{◌≡◌, ◌≤◌, ◌==◌, ◌&&◌, ◌⊎◌, ℕ, nat_lt, if◌then◌else◌, List, [], ◌∷◌, ◌++◌, length, Result, Ok, Err}
 use Rattle.ipld_cid.specs.declared.cid.Version.TheVariants.{V0, V1}
 use Rattle.ipld_cid.specs.declared.error.CidError.{CidError}
@@ -8,7 +9,7 @@ use Rattle.ipld_cid.specs.Multihash.{IsBytes}
 use Rattle.ipld_cid.specs.Varint.{IsVarint, varint_of, read_varint, ◌>>=◌}
 use Rattle.ipld_cid.specs.Cid.{Link}
 
--- the bytes encode a version 0 CID
+-- True if `bytes` encode `link`, a version 0 CID, and S is at least 32
 pub record IsCidV0 (S : ℕ) (bytes : List ℕ) (link : Link) : Type 0 where
   pub capacity : 32 ≤ S
   pub sized : length link.digest ≡ 32
@@ -16,7 +17,7 @@ pub record IsCidV0 (S : ℕ) (bytes : List ℕ) (link : Link) : Type 0 where
   pub means : link ≡ record { version = V0; codec = 0x70; code = 0x12; digest = link.digest }
   pub encoded : bytes ≡ 0x12 ∷ 0x20 ∷ link.digest
 
--- the bytes encode a version 1 CID
+-- True if `bytes` encode `link`, a version 1 CID with a digest of at most S bytes
 pub record IsCidV1 (S : ℕ) (bytes : List ℕ) (link : Link) : Type 0 where
   pub capacity : length link.digest ≤ S
   pub digits : IsBytes link.digest
@@ -31,13 +32,13 @@ pub record IsCidV1 (S : ℕ) (bytes : List ℕ) (link : Link) : Type 0 where
   pub size_encoded : IsVarint (length link.digest) size
   pub encoded : bytes ≡ version ++ codec ++ code ++ size ++ link.digest
 
--- True if the bytes encode the CID, whose digest is at most S bytes. Version 0: `12 20` and the 32
--- bytes of the digest. Version 1: a varint of 1, of the codec, of the hash code and of the digest's
--- length, and then the digest (multiformats CID, "How does it work?").
+-- True if the bytes encode the CID, whose digest is at most S bytes. Version 0 is `12 20` and the
+-- 32 bytes of the digest. Version 1 is the varints of 1, of the codec, of the hash code and of the
+-- digest's length, and then the digest (multiformats CID, "How does it work?").
 abbrev pub IsCid : ℕ → List ℕ → Link → Type 0
 IsCid S bytes link = IsCidV0 S bytes link ⊎ IsCidV1 S bytes link
 
--- what stands before the digest
+-- The bytes before the digest
 abbrev pub head_of : Link → List ℕ
 head_of link = elim link.version [
   | V0 ↦ 0x12 ∷ 0x20 ∷ []
@@ -48,16 +49,17 @@ head_of link = elim link.version [
 unfoldable pub bytes_of : Link → List ℕ
 bytes_of link = head_of link ++ link.digest
 
--- What reading returns: the CID, or the first error from the left.
+-- The result of reading: the CID, or the first error from the left.
 
--- the bytes after the version
+-- The bytes after the version, if it is 1, and otherwise the error
 unfoldable pub after_version : List ℕ → Result (List ℕ) CidError
 after_version bytes = read_varint bytes >>= λ version.
     if version.0 == 0 then Err ExplicitVersion0
     else if version.0 == 1 then Ok version.1
     else Err (UnknownVersion version.0)
 
--- a digest of this size, with capacity for S bytes; nothing follows it
+-- Returns `bytes` if they are a digest of exactly `size` bytes, and `size` is at most S. Otherwise
+-- returns the error.
 abbrev pub read_digest : ℕ → ℕ → List ℕ → Result (List ℕ) CidError
 read_digest S size bytes =
     if nat_lt S size then Err DigestTooLong
@@ -65,7 +67,7 @@ read_digest S size bytes =
     else if nat_lt size (length bytes) then Err TrailingBytes
     else Ok bytes
 
--- the bytes after 12 20
+-- The result of reading a version 0 CID, from the bytes after `12 20`
 unfoldable pub read_v0 : ℕ → List ℕ → Result Link CidError
 read_v0 S bytes = do
   digest ← read_digest S 32 bytes
@@ -81,7 +83,7 @@ read_v1 S bytes = do
   Ok (record { version = V1; codec = codec.0; code = code.0; digest = digest })
 
 -- The result of reading a CID: the CID, or the first error from the left. Bytes that begin with
--- `12 20` are version 0, and bytes that end after `12` are cut.
+-- `12 20` are version 0. The single byte `12` is an incomplete CID (`End`).
 unfoldable pub read_cid : ℕ → List ℕ → Result Link CidError
 read_cid S [] = Err End
 read_cid S (a ∷ []) = if a == 0x12 then Err End else read_v1 S (a ∷ [])

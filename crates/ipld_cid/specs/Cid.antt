@@ -1,4 +1,5 @@
--- What a CID is (multiformats CID): a version, the codec of the content, and the multihash of the content.
+-- A CID is a version, the codec of the content, and the multihash of the content (multiformats
+-- CID).
 use Rattle.std.specs.Prelude.{◌≡◌, ℕ, ◌<◌, ◌^◌, List}
 use Rattle.std.specs.Coded.{Unit-prop}
 use Rattle.std.proofs.Props.{props}
@@ -6,22 +7,23 @@ use Rattle.ipld_cid.specs.declared.cid.Version.{Version}
 use Rattle.ipld_cid.specs.declared.cid.Version.TheVariants.{V0, V1}
 use Rattle.ipld_cid.specs.Multihash.{HashParts, IsMultihash, IsSha256}
 
--- The CID, apart from how it is kept: its version, codec, hash code and digest (multiformats CID).
+-- The model of a CID: its version, codec, hash code and digest (multiformats CID).
 pub record Link : Type 0 where
   pub version : Version
   pub codec : ℕ
   pub code : ℕ
   pub digest : List ℕ
 
--- the CID of these parts
+-- The CID with these parts
 abbrev pub link_from_parts : Version → ℕ → HashParts → Link
 link_from_parts version codec hash = record { version = version; codec = codec; code = hash.code; digest = hash.digest }
 
--- the multihash of a CID
+-- The multihash of a CID
 abbrev pub hash_of : Link → HashParts
 hash_of link = record { code = link.code; digest = link.digest }
 
--- version 0 stands for DAG-PB under SHA2-256 alone; version 1 may have any codec and any hash
+-- True if a CID of the version may have the codec and the multihash. Version 0 is only for DAG-PB
+-- (0x70) with SHA2-256. Version 1 may have any codec and any hash.
 abbrev pub IsForm : Version → ℕ → HashParts → Type 0
 IsForm V0 codec hash = (codec ≡ 0x70) × IsSha256 hash
 IsForm V1 codec hash = Unit {0}

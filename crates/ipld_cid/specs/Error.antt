@@ -1,4 +1,4 @@
--- What each error prints.
+-- The name and the sentence of every error, and the one that is printed.
 use Rattle.std.specs.Prelude.{ℕ, Bool, List, Option, Some, None, codes, if◌then◌else◌}
 use Rattle.ipld_cid.specs.declared.error.CidError.{CidError}
 use Rattle.ipld_cid.specs.declared.error.CidError.TheVariants.{End, NotShortest, VarintTooLarge, ExplicitVersion0, UnknownVersion, DigestTooLong, TrailingBytes, InvalidV0Multihash, InvalidText, Memory}
@@ -16,7 +16,7 @@ name_of InvalidV0Multihash = codes "InvalidV0Multihash"
 name_of InvalidText = codes "InvalidText"
 name_of Memory = codes "Memory"
 
--- what is wrong, in a sentence; that of an unknown version, which ends in its number, isn't said
+-- The sentence of an error. That of `UnknownVersion`, which ends in the version, is not specified.
 abbrev pub sentence_of : CidError → Option (List ℕ)
 sentence_of End = Some (codes "the bytes end before the CID does")
 sentence_of NotShortest = Some (codes "a varint is not in its shortest form")
@@ -29,6 +29,6 @@ sentence_of InvalidV0Multihash = Some (codes "CIDv0 requires a SHA2-256 multihas
 sentence_of InvalidText = Some (codes "the text is no CIDv1 in multibase base32")
 sentence_of Memory = Some (codes "out of memory")
 
--- what is printed: the sentence where `#` is among the options, as in `{error:#}`, and else the name
+-- The printed text: the sentence if the option `#` is set (`{error:#}`), and otherwise the name
 abbrev pub printed : Bool → CidError → Option (List ℕ)
 printed alternate error = if alternate then sentence_of error else Some (name_of error)

@@ -1,4 +1,5 @@
--- A CID at the front of bytes, and what follows it. No CID's bytes begin those of another, so there is at most one.
+-- A CID at the front of bytes, and the bytes after it. There is at most one, because the bytes of a
+-- CID never begin with those of another CID.
 use Rattle.std.specs.Prelude.{◌≡◌, ◌==◌, ◌&&◌, ℕ, nat_lt, if◌then◌else◌, List, [], ◌∷◌, ◌++◌, length, take, drop, Result, Ok, Err}
 use Rattle.ipld_cid.specs.declared.cid.Version.TheVariants.{V0, V1}
 use Rattle.ipld_cid.specs.declared.error.CidError.{CidError}
@@ -7,22 +8,24 @@ use Rattle.ipld_cid.specs.Varint.{read_varint, ◌>>=◌}
 use Rattle.ipld_cid.specs.Cid.{Link}
 use Rattle.ipld_cid.specs.Bytes.{IsCid, after_version}
 
--- True if the bytes begin with those of the CID, and `rest` follows (multiformats CID).
+-- True if `bytes` begin with an encoding of `link`, whose digest is at most S bytes, and `rest`
+-- follows (multiformats CID).
 pub record BeginsWith (S : ℕ) (bytes : List ℕ) (link : Link) (rest : List ℕ) : Type 0 where
   pub front : List ℕ
   pub encoded : IsCid S front link
   pub parts : bytes ≡ front ++ rest
 
--- What splitting returns: the CID and what follows it, or the first error from the left.
+-- The result of splitting: the CID and the bytes after it, or the first error from the left.
 
--- a digest of this size, with capacity for S bytes, and what follows it
+-- A digest of `size` bytes and the bytes after it. The error is `DigestTooLong` if `size` is above
+-- S, and `End` if bytes are missing.
 abbrev pub split_digest : ℕ → ℕ → List ℕ → Result (List ℕ × List ℕ) CidError
 split_digest S size bytes =
     if nat_lt S size then Err DigestTooLong
     else if nat_lt (length bytes) size then Err End
     else Ok (take size bytes, drop size bytes)
 
--- the bytes after 12 20
+-- The result of splitting a version 0 CID, from the bytes after `12 20`
 unfoldable pub split_v0 : ℕ → List ℕ → Result (Link × List ℕ) CidError
 split_v0 S bytes = do
   digest ← split_digest S 32 bytes

@@ -1,12 +1,13 @@
--- A multihash as bytes (multiformats Multihash): the varints of the hash code and of the digest's length, and then the digest.
+-- The encoding of a multihash (multiformats Multihash) is the varints of the hash code and of the
+-- digest's length, and then the digest.
 use Rattle.std.specs.Prelude.{◌≡◌, ◌≤◌, ℕ, List, ◌++◌, length, Result, Ok}
 use Rattle.ipld_cid.specs.declared.error.CidError.{CidError}
 use Rattle.ipld_cid.specs.Multihash.{HashParts, IsBytes}
 use Rattle.ipld_cid.specs.Varint.{IsVarint, varint_of, read_varint, ◌>>=◌}
 use Rattle.ipld_cid.specs.Bytes.{read_digest}
 
--- True if the bytes encode the multihash, whose digest is at most S bytes: a varint of the hash
--- code and of the digest's length, and then the digest (multiformats Multihash).
+-- True if `bytes` encode `hash`, whose digest is at most S bytes. They are a varint of the hash
+-- code, a varint of the digest's length, and then the digest (multiformats Multihash).
 pub record IsEncodedHash (S : ℕ) (bytes : List ℕ) (hash : HashParts) : Type 0 where
   pub capacity : length hash.digest ≤ S
   pub digits : IsBytes hash.digest
@@ -16,7 +17,7 @@ pub record IsEncodedHash (S : ℕ) (bytes : List ℕ) (hash : HashParts) : Type 
   pub size_encoded : IsVarint (length hash.digest) size
   pub encoded : bytes ≡ code ++ size ++ hash.digest
 
--- what stands before the digest
+-- The bytes before the digest
 abbrev pub hash_head_of : HashParts → List ℕ
 hash_head_of hash = varint_of hash.code ++ varint_of (length hash.digest)
 

@@ -1,5 +1,5 @@
--- When two multihashes or two CIDs are equal, and in which order they come: by version, codec, hash code, the digest's
--- length, and the digest's bytes.
+-- Equality and order of multihashes and CIDs. CIDs are ordered by version, codec, hash code, the
+-- digest's length, and the digest's bytes.
 use Rattle.std.specs.Prelude.{ℕ, Bool, ◌==◌, nat_eq, ◌&&◌, List, ◌++◌, length}
 use Rattle.std.specs.Cmp.Lexicographic.{slice_cmp, pointwise}
 use Rattle.std.specs.declared.cmp.Ordering.{Ordering}
@@ -11,14 +11,14 @@ use Rattle.ipld_cid.specs.declared.cid.Version.TheVariants.{V0, V1}
 use Rattle.ipld_cid.specs.Multihash.{HashParts}
 use Rattle.ipld_cid.specs.Cid.{Link, hash_of}
 
--- equality of multihashes: of the hash codes and of the digests
+-- Whether two multihashes have equal hash codes and equal digests
 abbrev pub hash_eq : HashParts → HashParts → Bool
 hash_eq a b = (a.code == b.code) && pointwise nat_eq a.digest b.digest
 
 abbrev pub digest_cmp : List ℕ → List ℕ → Ordering
 digest_cmp = then_cmp (on (λ d. length d) nat_cmp) (slice_cmp nat_cmp)
 
--- the order of multihashes: by hash code, then by digest
+-- The order of multihashes: by hash code, then by digest
 abbrev pub hash_cmp : HashParts → HashParts → Ordering
 hash_cmp = then_cmp (on (λ h. h.code) nat_cmp) (on (λ h. h.digest) digest_cmp)
 
@@ -35,7 +35,7 @@ link_eq a b = (version_number a.version == version_number b.version) && (a.codec
 abbrev pub link_cmp : Link → Link → Ordering
 link_cmp = then_cmp (on (λ l. version_number l.version) nat_cmp) (then_cmp (on (λ l. l.codec) nat_cmp) (on hash_of hash_cmp))
 
--- what is written into a hasher
+-- The writes of a multihash into a hasher
 abbrev pub hash_fed : HashParts → HashWrites
 hash_fed h = fed.u64 h.code ++ fed.slice fed.u8 h.digest
 

@@ -9,7 +9,8 @@ use std::{fmt, str};
 
 const ALPHABET: &[u8; 32] = b"abcdefghijklmnopqrstuvwxyz234567";
 
-/// The number from 0 to 31 that each character stands for in base32 (RFC 4648, section 6) in lower case, and 255 for every other.
+/// The number from 0 to 31 for every character of base32 (RFC 4648, section 6) in lower case, and
+/// 255 for every other character.
 pub static BASE32_VALUES: [u8; 256] = [
     255, 255, 255, 255, 255, 255, 255, 255, 255, 255, 255, 255, 255, 255, 255, 255, 255, 255, 255,
     255, 255, 255, 255, 255, 255, 255, 255, 255, 255, 255, 255, 255, 255, 255, 255, 255, 255, 255,
@@ -27,7 +28,7 @@ pub static BASE32_VALUES: [u8; 256] = [
     255,
 ];
 
-// The letter of the low five bits.
+// Returns the letter of the low five bits.
 #[inline(always)]
 fn letter(bits: u64) -> u8
     ensures { result ≡ encoded.letter (bits % 32) }
@@ -35,7 +36,7 @@ fn letter(bits: u64) -> u8
     ALPHABET[(bits & 31) as usize]
 }
 
-// The letters of five bytes.
+// Returns the letters of five bytes.
 #[inline(always)]
 fn letters_of(bytes: &[u8; 5]) -> [u8; 8]
     ensures { result ≡ encoded.base32 bytes.now }
@@ -53,7 +54,7 @@ fn letters_of(bytes: &[u8; 5]) -> [u8; 8]
     ]
 }
 
-// The letters of the last bytes, and how many they are.
+// Returns the letters of the last bytes, and their number.
 #[inline(always)]
 fn last_letters(bytes: &[u8]) -> ([u8; 8], usize)
     requires { length bytes.now < 5 }
@@ -66,7 +67,7 @@ fn last_letters(bytes: &[u8]) -> ([u8; 8], usize)
     (letters_of(&block), (8 * bytes.len()).div_ceil(5))
 }
 
-// The letters as text.
+// Returns the letters as text.
 #[inline(always)]
 pub(crate) fn as_text(letters: &[u8]) -> &str
     requires { IsAscii letters.now }
@@ -101,7 +102,8 @@ pub(crate) fn write_base32<W: fmt::Write>(f: &mut fmt::Formatter<W>, bytes: &[u8
 }
 
 impl<const CAPACITY: usize> ByteBuffer<CAPACITY> {
-    /// Adds the base32 of these bytes (RFC 4648, section 6), in lower case and without padding: eight letters for five bytes.
+    /// Appends the base32 of these bytes (RFC 4648, section 6), in lower case and without padding.
+    /// Five bytes become eight letters.
     #[inline(always)]
     pub fn push_base32(&mut self, bytes: &[u8])
         requires { length self.old + (8 * length bytes.now + 4) / 5 ≤ CAPACITY }

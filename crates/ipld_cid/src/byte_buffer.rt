@@ -6,7 +6,8 @@ use std::marker::Model;
 
 /// Up to `CAPACITY` bytes on the stack, such as a text or a header whose length has a bound.
 ///
-/// It is as a vector that can't grow: no call of it allocates, and whoever adds bytes has to know that there is capacity for them.
+/// It is like a vector that cannot grow. Its calls do not allocate, and a caller that adds bytes
+/// has to know that the capacity suffices for them.
 ///
 /// ```rust
 /// let mut text = ByteBuffer::<160>::new();
@@ -30,7 +31,7 @@ impl<const CAPACITY: usize> Model for ByteBuffer<CAPACITY> {
 }
 
 impl<const CAPACITY: usize> ByteBuffer<CAPACITY> {
-    /// A buffer without bytes.
+    /// Creates a buffer without bytes.
     #[inline(always)]
     pub fn new() -> Self
         ensures { result ≡ [] }
@@ -41,7 +42,7 @@ impl<const CAPACITY: usize> ByteBuffer<CAPACITY> {
         }
     }
 
-    /// How many bytes it holds.
+    /// Returns the number of bytes in the buffer.
     #[inline(always)]
     pub fn len(&self) -> usize
         ensures { result ≡ length self.now }
@@ -49,7 +50,7 @@ impl<const CAPACITY: usize> ByteBuffer<CAPACITY> {
         self.len
     }
 
-    /// The bytes.
+    /// Returns the bytes.
     #[inline(always)]
     pub fn as_slice(&self) -> &[u8]
         ensures { result.now ≡ self.now }
@@ -57,7 +58,7 @@ impl<const CAPACITY: usize> ByteBuffer<CAPACITY> {
         &self.bytes[..self.len]
     }
 
-    /// Adds a byte at the end.
+    /// Appends a byte.
     #[inline(always)]
     pub fn push(&mut self, byte: u8)
         requires { length self.old < CAPACITY }
@@ -67,7 +68,7 @@ impl<const CAPACITY: usize> ByteBuffer<CAPACITY> {
         self.len += 1;
     }
 
-    /// Adds these bytes at the end.
+    /// Appends these bytes.
     #[inline(always)]
     pub fn extend(&mut self, bytes: &[u8])
         requires { length self.old + length bytes.now ≤ CAPACITY }

@@ -14,10 +14,11 @@ use crate::multihash::Multihash;
 use crate::varint::read_varint;
 use std::alloc::{AllocError, Global};
 
-// The bytes before a digest, at most 31, and the first of the digest, so that blocks of five come out even.
+// The bytes before a digest, at most 31, and the first bytes of the digest, which complete the last
+// block of five.
 pub(crate) type HeaderBytes = ByteBuffer<35>;
 
-// The bytes after the version, which has to be 1.
+// Returns the bytes after the version, which has to be 1.
 #[tactic(auto, unfolding(crate::specs::Bytes::after_version))]
 #[inline(always)]
 fn skip_version(bytes: &[u8]) -> Result<&[u8], CidError>
@@ -33,7 +34,7 @@ fn skip_version(bytes: &[u8]) -> Result<&[u8], CidError>
     }
 }
 
-// The digest, where `bytes` are just the bytes of one with this size.
+// Returns the digest, if `bytes` are exactly the bytes of one with this size.
 #[inline(always)]
 pub(crate) fn read_digest(capacity: usize, size: u64, bytes: &[u8]) -> Result<&[u8], CidError>
     ensures { MatchResult result
@@ -52,7 +53,7 @@ pub(crate) fn read_digest(capacity: usize, size: u64, bytes: &[u8]) -> Result<&[
     }
 }
 
-// The version 0 CID whose digest the bytes are.
+// Reads the version 0 CID whose digest is these bytes.
 #[tactic(auto, unfolding(crate::specs::Bytes::read_v0))]
 #[inline(always)]
 fn read_v0<const S: usize>(bytes: &[u8]) -> Result<CidGeneric<S>, CidError>
@@ -65,7 +66,7 @@ fn read_v0<const S: usize>(bytes: &[u8]) -> Result<CidGeneric<S>, CidError>
     CidGeneric::new_v0(hash)
 }
 
-// The version 1 CID that the bytes encode.
+// Reads the version 1 CID that the bytes encode.
 #[tactic(auto, unfolding(crate::specs::Bytes::read_v1))]
 #[inline(always)]
 fn read_v1<const S: usize>(bytes: &[u8]) -> Result<CidGeneric<S>, CidError>
@@ -82,7 +83,7 @@ fn read_v1<const S: usize>(bytes: &[u8]) -> Result<CidGeneric<S>, CidError>
     Ok(CidGeneric::new_v1(codec, hash))
 }
 
-// The CID that the bytes encode.
+// Reads the CID that the bytes encode.
 #[tactic(auto, unfolding(crate::specs::Bytes::read_cid))]
 #[inline(always)]
 fn read_cid<const S: usize>(bytes: &[u8]) -> Result<CidGeneric<S>, CidError>
@@ -97,7 +98,7 @@ fn read_cid<const S: usize>(bytes: &[u8]) -> Result<CidGeneric<S>, CidError>
     }
 }
 
-// The digest of this size at the front, and the bytes after it.
+// Splits the bytes into a digest of this size and the bytes after it.
 #[inline(always)]
 fn split_digest(capacity: usize, size: u64, bytes: &[u8]) -> Result<(&[u8], &[u8]), CidError>
     ensures { MatchResult result
@@ -114,7 +115,7 @@ fn split_digest(capacity: usize, size: u64, bytes: &[u8]) -> Result<(&[u8], &[u8
     }
 }
 
-// The version 0 CID whose digest begins the bytes, and the bytes after it.
+// Splits the bytes into the version 0 CID whose digest is at their front, and the bytes after it.
 #[tactic(auto, unfolding(crate::specs::Front::split_v0))]
 #[inline(always)]
 fn split_v0<const S: usize>(bytes: &[u8]) -> Result<(CidGeneric<S>, &[u8]), CidError>
@@ -128,7 +129,7 @@ fn split_v0<const S: usize>(bytes: &[u8]) -> Result<(CidGeneric<S>, &[u8]), CidE
     Ok((cid, rest))
 }
 
-// The version 1 CID that begins the bytes, and the bytes after it.
+// Splits the bytes into the version 1 CID at their front and the bytes after it.
 #[tactic(auto, unfolding(crate::specs::Front::split_v1))]
 #[inline(always)]
 fn split_v1<const S: usize>(bytes: &[u8]) -> Result<(CidGeneric<S>, &[u8]), CidError>
@@ -145,7 +146,7 @@ fn split_v1<const S: usize>(bytes: &[u8]) -> Result<(CidGeneric<S>, &[u8]), CidE
     Ok((CidGeneric::new_v1(codec, hash), rest))
 }
 
-// The CID that begins the bytes, and the bytes after it.
+// Splits the bytes into the CID at their front and the bytes after it.
 #[tactic(auto, unfolding(crate::specs::Front::split_cid))]
 #[inline(always)]
 fn split_cid<const S: usize>(bytes: &[u8]) -> Result<(CidGeneric<S>, &[u8]), CidError>
@@ -167,11 +168,18 @@ impl<const S: usize> TryFrom<&[u8]> for CidGeneric<S> {
 
     ghost try_from_gives = { λ bytes result. Reads S bytes.now result };
 
-    /// The CID that the bytes encode, all of the bytes (multiformats CID). Does not allocate.
+    /// Reads the CID that the bytes encode (multiformats CID). All of the bytes have to belong to
+    /// it. Does not allocate.
     ///
-    /// Else it returns the first error from the left: `DigestTooLong` already where the length of the digest is read, `End`
-    /// for each beginning of a CID's bytes, `TrailingBytes` for a CID's bytes with more after them, and `NotShortest`,
-    /// `VarintTooLarge`, `ExplicitVersion0` and `UnknownVersion` as [`CidError`] says.
+    /// # Errors
+    ///
+    /// Returns the first error from the left:
+    ///
+    /// - `DigestTooLong` if the length of the digest exceeds `S`, as soon as that length is read.
+    /// - `End` if the bytes are a proper prefix of a CID's bytes.
+    /// - `TrailingBytes` if the bytes are a CID's bytes with more after them.
+    /// - `NotShortest`, `VarintTooLarge`, `ExplicitVersion0` and `UnknownVersion` as [`CidError`]
+    ///   describes them.
     #[inline(always)]
     fn try_from(bytes: &[u8]) -> Result<Self, CidError> {
         read_cid(bytes)
@@ -179,13 +187,24 @@ impl<const S: usize> TryFrom<&[u8]> for CidGeneric<S> {
 }
 
 impl<const S: usize> CidGeneric<S> {
-    /// The CID that begins the bytes, and the bytes after it. Does not allocate.
+    /// Splits the bytes into the CID at their front and the bytes after it. Does not allocate.
     ///
-    /// Take the result apart by a `match`: the checker has no rule for `?` at a pair of a CID and a slice.
+    /// Use a `match` on the result: the checker has no rule for `?` with a pair of a CID and a
+    /// slice.
     ///
-    /// There is at most one such CID, since no CID's bytes begin those of another. Where there is none, the error is the one that
-    /// `try_from` reports for the same bytes, the first from the left: `End` for each beginning of a CID's bytes, and
-    /// `DigestTooLong` already where the length of the digest is read. It is never `TrailingBytes`.
+    /// At most one CID is at the front of the bytes, since a CID's bytes never begin with those of
+    /// another CID.
+    ///
+    /// # Errors
+    ///
+    /// Returns the error that `try_from` returns for the same bytes, the first from the left:
+    ///
+    /// - `End` if the bytes are a proper prefix of a CID's bytes.
+    /// - `DigestTooLong` if the length of the digest exceeds `S`, as soon as that length is read.
+    ///
+    /// It is never `TrailingBytes`.
+    ///
+    /// # Examples
     ///
     /// ```rust
     /// // A section of a CAR file is a CID and the block that it names.
@@ -204,7 +223,7 @@ impl<const S: usize> CidGeneric<S> {
         split_cid(bytes)
     }
 
-    // The bytes before the digest.
+    // Returns the bytes before the digest.
     #[inline(always)]
     pub(crate) fn header(&self) -> HeaderBytes
         ensures written { result ≡ encoded.head_of (link_of self.now) }
@@ -227,10 +246,11 @@ impl<const S: usize> CidGeneric<S> {
         head
     }
 
-    /// How many bytes [`to_bytes`](Self::to_bytes) returns. Does not allocate. `S` has to be at most 1,048,576.
+    /// Returns the number of bytes that [`to_bytes`](Self::to_bytes) returns. Does not allocate.
+    /// `S` has to be at most 1,048,576.
     ///
-    /// They are at most `31 + S`, and at most `22 + S` where `S` is at most 127: a [`Cid`](crate::Cid) has at most
-    /// [`MAX_CID_LEN`](crate::MAX_CID_LEN).
+    /// The number is at most `31 + S`, and at most `22 + S` if `S` is at most 127. So a
+    /// [`Cid`](crate::Cid) has at most [`MAX_CID_LEN`](crate::MAX_CID_LEN) bytes.
     #[inline(always)]
     #[tactic(auto, unfolding(crate::specs::Bytes::bytes_of))]
     pub fn encoded_len(&self) -> usize
@@ -242,11 +262,15 @@ impl<const S: usize> CidGeneric<S> {
         self.header().len() + self.hash().digest().len()
     }
 
-    /// Writes the CID's bytes, those of [`to_bytes`](Self::to_bytes), at the front of the buffer, and returns how many they are.
-    /// The bytes of the buffer after them stay. Does not allocate. `S` has to be at most 1,048,576.
+    /// Writes the CID's bytes, those of [`to_bytes`](Self::to_bytes), at the front of the buffer,
+    /// and returns their number. The bytes of the buffer after them stay. Does not allocate. `S`
+    /// has to be at most 1,048,576.
     ///
-    /// Returns `None` where the buffer has fewer bytes than [`encoded_len`](Self::encoded_len), and the buffer is then unchanged.
-    /// A buffer of [`MAX_CID_LEN`](crate::MAX_CID_LEN) bytes has enough for each [`Cid`](crate::Cid).
+    /// Returns `None` if the buffer has fewer bytes than [`encoded_len`](Self::encoded_len). The
+    /// buffer is then unchanged. A buffer of [`MAX_CID_LEN`](crate::MAX_CID_LEN) bytes is long
+    /// enough for every [`Cid`](crate::Cid).
+    ///
+    /// # Examples
     ///
     /// ```rust
     /// let mut buffer = [0; MAX_CID_LEN];
@@ -275,9 +299,14 @@ impl<const S: usize> CidGeneric<S> {
         Some(len)
     }
 
-    /// The CID's bytes (multiformats CID), which are the only ones that encode it. `S` has to be at most 1,048,576.
+    /// Returns the CID's bytes (multiformats CID), which are the only bytes that encode it. `S` has
+    /// to be at most 1,048,576.
     ///
-    /// Allocates once, just the bytes' length; `AllocError` where that fails.
+    /// Allocates once, exactly the length of the bytes.
+    ///
+    /// # Errors
+    ///
+    /// `AllocError` if the allocation fails.
     #[tactic(auto, unfolding(crate::specs::Bytes::bytes_of))]
     pub fn to_bytes(&self, alloc: Global) -> Result<Vec<u8>, AllocError>
         requires { S ≤ 1048576 }
@@ -288,9 +317,14 @@ impl<const S: usize> CidGeneric<S> {
         Ok(bytes)
     }
 
-    /// Appends the CID's bytes, those of [`to_bytes`](Self::to_bytes). `S` has to be at most 1,048,576.
+    /// Appends the CID's bytes, those of [`to_bytes`](Self::to_bytes). `S` has to be at most
+    /// 1,048,576.
     ///
-    /// Allocates only where the vector has no capacity for them; returns `AllocError` where that fails, and nothing is then appended.
+    /// Allocates only if the vector has no capacity for them.
+    ///
+    /// # Errors
+    ///
+    /// `AllocError` if the allocation fails. Nothing is then appended.
     #[inline(always)]
     #[tactic(auto, unfolding(crate::specs::Bytes::bytes_of))]
     pub fn write_bytes(&self, bytes: &mut Vec<u8>) -> Result<(), AllocError>

@@ -11,18 +11,19 @@ use crate::multihash::Multihash;
 /// The version of a content identifier (multiformats CID).
 #[derive(Clone, Copy, Debug, PartialEq, Eq, PartialOrd, Ord, Hash)]
 pub enum Version {
-    /// A SHA2-256 hash of a DAG-PB block, and nothing else.
+    /// Only a SHA2-256 hash of a DAG-PB block.
     V0,
     /// Any codec with any hash.
     V1,
 }
 
-/// A content identifier (multiformats CID) with a digest of at most `S` bytes: a version, the codec of the content, and the
-/// hash of the content.
+/// A content identifier (multiformats CID) with a digest of at most `S` bytes: a version, the codec
+/// of the content, and the hash of the content.
 ///
-/// Each value is a valid CID: a version 0 CID has the codec [`DAG_PB`] and a [`SHA2_256`] hash of 32 bytes. Two CIDs are equal
-/// where version, codec and hash are, and are ordered by version, then codec, then hash code, then the digest's length, then
-/// its bytes. `Display` prints what [`to_text`](Self::to_text) returns, whatever width is asked for, and does not allocate.
+/// Every value is a valid CID: a version 0 CID has the codec [`DAG_PB`] and a [`SHA2_256`] hash of
+/// 32 bytes. Two CIDs are equal if their versions, codecs and hashes are equal. CIDs are ordered by
+/// version, then codec, then hash code, then the digest's length, then its bytes. `Display` prints
+/// the text that [`to_text`](Self::to_text) returns. It ignores the width and does not allocate.
 #[derive(Clone, Copy)]
 pub struct CidGeneric<const S: usize> {
     version: Version,
@@ -34,19 +35,23 @@ pub struct CidGeneric<const S: usize> {
 /// A content identifier with a digest of at most 64 bytes.
 pub type Cid = CidGeneric<64>;
 
-/// As many bytes as a [`Cid`] has at most: the version, a codec and a hash code of ten bytes each, the length and 64 bytes of
-/// the digest.
+/// The maximum length of a [`Cid`] in bytes: the version, a codec and a hash code of ten bytes
+/// each, the digest's length, and a digest of 64 bytes.
 pub const MAX_CID_LEN: usize = 86;
 
-/// The name of the newtype that marks a CID when typed values are written and read: its content is the CID's bytes.
+/// The name of the newtype that marks a CID when typed values are written and read. The content of
+/// the newtype is the CID's bytes.
 pub const CID_SERDE_PRIVATE_IDENTIFIER: &str = "$__private__serde__identifier__for__cid";
 
 impl<const S: usize> CidGeneric<S> {
     ghost use Rattle.ipld_cid.specs.LinkOf.{link_of};
 
-    /// The version 0 CID of this hash, with the codec [`DAG_PB`]. Does not allocate.
+    /// Creates the version 0 CID of this hash, with the codec [`DAG_PB`]. Does not allocate.
     ///
-    /// Returns `InvalidV0Multihash` where the hash isn't [`SHA2_256`] with 32 bytes, and nothing else.
+    /// # Errors
+    ///
+    /// `InvalidV0Multihash` if the hash is not [`SHA2_256`] with 32 bytes. No other error is
+    /// returned.
     #[inline(always)]
     pub fn new_v0(hash: Multihash<S>) -> Result<Self, CidError>
         ensures made { IsSha256 hash.entry → IsOkAnd result (λ c.
@@ -63,12 +68,12 @@ impl<const S: usize> CidGeneric<S> {
         })
     }
 
-    /// The version 1 CID of this codec and this hash. Does not allocate.
+    /// Creates the version 1 CID of this codec and this hash. Does not allocate.
     #[inline(always)]
     pub fn new_v1(codec: u64, hash: Multihash<S>) -> Self
         ensures { link_of result ≡ link_from_parts Version.V1 codec hash.entry }
     {
-        // What is known of the parts of a hash makes the CID valid.
+        // The contract of `digest` makes the CID valid.
         let _digest = hash.digest();
         CidGeneric {
             version: Version::V1,
@@ -77,7 +82,7 @@ impl<const S: usize> CidGeneric<S> {
         }
     }
 
-    /// The version.
+    /// Returns the version.
     #[inline(always)]
     pub fn version(&self) -> Version
         ensures { result ≡ (link_of self.now).version }
@@ -85,7 +90,7 @@ impl<const S: usize> CidGeneric<S> {
         self.version
     }
 
-    /// The codec of the content, a code of the multicodec table.
+    /// Returns the codec of the content, a code of the multicodec table.
     #[inline(always)]
     pub fn codec(&self) -> u64
         ensures { result ≡ (link_of self.now).codec }
@@ -93,7 +98,7 @@ impl<const S: usize> CidGeneric<S> {
         self.codec
     }
 
-    /// The hash of the content, with its code.
+    /// Returns the hash of the content, with its code.
     #[inline(always)]
     pub fn hash(&self) -> &Multihash<S>
         ensures { result.now ≡ hash_of (link_of self.now) }

@@ -1,41 +1,43 @@
-//! Why bytes or a text are no CID.
+//! The reasons why bytes, a text or a hash are not a CID.
 
 ghost use Rattle.std.specs.Fmt.{DisplaysStyledOnOk};
 ghost use Rattle.ipld_cid.specs.Error.{sentence_of};
 
 use std::{error, fmt};
 
-/// Why bytes, a text or a hash are no content identifier.
+/// The reason why bytes, a text or a hash are not a content identifier.
 ///
-/// Reading bytes reports the first error from the left. Its `Display` is the variant's name, without its content; with `#`,
-/// as in `{error:#}`, it is a sentence that says what is wrong.
+/// Reading bytes returns the first error from the left. `Display` prints the variant's name without
+/// its content. With `#` (`{error:#}`), it prints a sentence that describes the error.
 #[derive(Clone, Copy, Debug, PartialEq, Eq)]
 pub enum CidError {
     /// The bytes end before the CID does.
     End,
-    /// A varint has a byte too many: its last byte is zero and isn't its first.
+    /// A varint has a byte too many: its last byte is zero and is not its first byte.
     NotShortest,
     /// A varint encodes a number of 2^64 or more.
     VarintTooLarge,
-    /// The bytes begin with the version 0, which no CID does: the bytes of a version 0 CID begin with `12 20`.
+    /// The bytes begin with version 0. No CID begins in this way: the bytes of a version 0 CID
+    /// begin with `12 20`.
     ExplicitVersion0,
     /// The bytes begin with this version, which is neither 0 nor 1.
     UnknownVersion(u64),
-    /// The digest is longer than the type has capacity for, or is said to be.
+    /// The digest, or the length that the bytes declare for it, exceeds the capacity of the type.
     DigestTooLong,
     /// More bytes follow the bytes of a CID.
     TrailingBytes,
-    /// A version 0 CID was asked for with another hash than SHA2-256 or with a digest of other than 32 bytes.
+    /// A version 0 CID was requested with a hash other than SHA2-256, or with a digest that does
+    /// not have 32 bytes.
     InvalidV0Multihash,
-    /// The text is not `b` and base32 letters in lower case, without padding and with no unused bit set, or encodes the
-    /// bytes of a version 0 CID, which has no such text.
+    /// The text is not `b` followed by base32 letters in lower case, without padding and with no
+    /// unused bit set. Or it encodes the bytes of a version 0 CID, which has no such text.
     InvalidText,
     /// An allocation failed. Reading bytes never returns this.
     Memory,
 }
 
 impl CidError {
-    // What is wrong, in a sentence.
+    // Writes a sentence that describes the error.
     fn describe<W: fmt::Write>(&self, f: &mut fmt::Formatter<W>) -> fmt::Result
         ensures { DisplaysStyledOnOk W.write_str_gives f.old result (sentence_of self.now) f.new }
     {

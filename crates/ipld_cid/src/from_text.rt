@@ -14,13 +14,14 @@ use crate::error::CidError;
 use std::alloc::Global;
 use std::str::FromStr;
 
-// So many bytes of a text stand on the stack: those of each CID whose digest has at most 65 bytes.
+// The number of decoded bytes that fit on the stack: enough for every CID with a digest of at most
+// 65 bytes.
 const SHORT: usize = 96;
 
-// As many letters as encode so many bytes at most.
+// The largest number of letters that encode at most `SHORT` bytes.
 const SHORT_LETTERS: usize = 154;
 
-// The number whose forty bits are those of eight letters.
+// Returns the number whose forty bits are those of eight letters.
 #[inline(always)]
 fn block_number(letters: &[u8; 8]) -> Option<u64>
     ensures { MatchOption result (reading.values letters.now ≡ None)
@@ -28,7 +29,7 @@ fn block_number(letters: &[u8; 8]) -> Option<u64>
         × (flat_map (bits 5) groups ≡ bits 40 n)) }
 {
     let mut bits = 0;
-    // The values in one number, which is below 32 where each of them is.
+    // The bitwise OR of the values, which is below 32 if all of them are.
     let mut seen = 0;
     for letter in letters {
         let value = BASE32_VALUES[*letter as usize];
@@ -38,7 +39,7 @@ fn block_number(letters: &[u8; 8]) -> Option<u64>
     if seen < 32 { Some(bits) } else { None }
 }
 
-// The bytes that eight letters encode.
+// Returns the bytes that eight letters encode.
 #[inline(always)]
 fn block_bytes(letters: &[u8; 8]) -> Option<[u8; 5]>
     ensures { result ≡ reading.decoded letters.now }
@@ -47,7 +48,7 @@ fn block_bytes(letters: &[u8; 8]) -> Option<[u8; 5]>
     Some([a, b, c, d, e])
 }
 
-// Whether all bytes are zero.
+// Checks whether all bytes are zero.
 #[inline(always)]
 fn are_zero(bytes: &[u8]) -> bool
     ensures { result ≡ list_all (λ b. b == 0) bytes.now }
@@ -55,7 +56,7 @@ fn are_zero(bytes: &[u8]) -> bool
     bytes.iter().all(|byte| *byte == 0)
 }
 
-// The bytes that fewer than eight letters encode, and how many they are.
+// Returns the bytes that fewer than eight letters encode, and their number.
 #[inline(always)]
 fn last_bytes(letters: &[u8]) -> Option<([u8; 5], usize)>
     requires { length letters.now < 8 }
@@ -63,7 +64,7 @@ fn last_bytes(letters: &[u8]) -> Option<([u8; 5], usize)>
         (λ last. (last.1 ≡ 5 * length letters.now / 8)
         × (reading.decoded letters.now ≡ Some (take last.1 last.0))) }
 {
-    // One, three or six letters leave over more bits than fill a letter.
+    // One, three or six letters leave at least five bits over, which is enough for a letter.
     if 5 * letters.len() % 8 > 4 {
         return None;
     }
@@ -78,7 +79,7 @@ fn last_bytes(letters: &[u8]) -> Option<([u8; 5], usize)>
     }
 }
 
-// How many bytes so many letters encode.
+// Returns the number of bytes that the letters encode.
 #[inline(always)]
 fn decoded_len(letters: &[u8]) -> usize
     ensures { result ≡ 5 * length letters.now / 8 }
@@ -86,7 +87,7 @@ fn decoded_len(letters: &[u8]) -> usize
     5 * (letters.len() / 8) + 5 * (letters.len() % 8) / 8
 }
 
-// Writes the bytes that letters encode, if they encode any.
+// Writes the bytes that the letters encode. Returns `None` if they do not encode bytes.
 #[inline(always)]
 fn decode_letters(letters: &[u8], bytes: &mut [u8]) -> Option<()>
     requires { length bytes.old ≡ 5 * length letters.now / 8 }
@@ -103,7 +104,7 @@ fn decode_letters(letters: &[u8], bytes: &mut [u8]) -> Option<()>
     Some(())
 }
 
-// Whether the bytes begin as those of a version 0 CID.
+// Checks whether the bytes begin like those of a version 0 CID.
 #[inline(always)]
 fn begins_v0(bytes: &[u8]) -> bool
     ensures { result ≡ reading.begins_v0 bytes.now }
@@ -114,7 +115,7 @@ fn begins_v0(bytes: &[u8]) -> bool
     }
 }
 
-// The CID whose bytes the letters encode, which are written into `bytes`.
+// Reads the CID whose bytes the letters encode. The bytes are written into `bytes`.
 #[inline(always)]
 fn read_letters<const S: usize>(letters: &[u8], bytes: &mut [u8]) -> Result<CidGeneric<S>, CidError>
     requires { length bytes.old ≡ 5 * length letters.now / 8 }
@@ -128,7 +129,8 @@ fn read_letters<const S: usize>(letters: &[u8], bytes: &mut [u8]) -> Result<CidG
     CidGeneric::try_from(&*bytes)
 }
 
-// The CID whose bytes the letters encode, however many they are: the bytes are written into a vector.
+// Reads the CID whose bytes the letters encode, for any number of letters. The bytes are written
+// into a vector.
 fn read_long_text<const S: usize>(alloc: Global, letters: &[u8]) -> Result<CidGeneric<S>, CidError>
     ensures { MatchResult result
         (λ c. reading.read_decoded S (reading.decoded letters.now) ≡ Ok (link_of c))
@@ -142,7 +144,7 @@ fn read_long_text<const S: usize>(alloc: Global, letters: &[u8]) -> Result<CidGe
     read_letters(letters, &mut bytes)
 }
 
-// The CID whose bytes so few letters encode: the bytes are written onto the stack.
+// Reads the CID whose bytes at most 154 letters encode. The bytes are written onto the stack.
 #[inline(always)]
 fn read_short_text<const S: usize>(letters: &[u8]) -> Result<CidGeneric<S>, CidError>
     requires { length letters.now ≤ 154 }
@@ -154,7 +156,7 @@ fn read_short_text<const S: usize>(letters: &[u8]) -> Result<CidGeneric<S>, CidE
     read_letters(letters, &mut bytes[..decoded_len(letters)])
 }
 
-// The CID whose text this is.
+// Reads the CID that the text encodes.
 #[tactic(auto, unfolding(crate::specs::TextReading::read_text))]
 #[inline(always)]
 fn read_text<const S: usize>(alloc: Global, text: &[u8]) -> Result<CidGeneric<S>, CidError>
@@ -173,7 +175,7 @@ fn read_text<const S: usize>(alloc: Global, text: &[u8]) -> Result<CidGeneric<S>
     read_short_text(letters)
 }
 
-// Whether the letters encode bytes.
+// Checks whether the letters encode bytes.
 fn are_decodable(letters: &[u8]) -> bool
     ensures { result ≡ is_some (reading.decoded letters.now) }
 {
@@ -186,12 +188,13 @@ fn are_decodable(letters: &[u8]) -> bool
     last_bytes(rest).is_some()
 }
 
-// Why letters are no CID's that encode more bytes than any CID has with a digest of at most 64.
+// Returns the reason why letters do not encode a CID. They encode more bytes than any CID has with
+// a digest of at most 64 bytes.
 fn long_text_error(letters: &[u8]) -> CidError
     requires { 155 ≤ length letters.now }
     ensures { reading.read_decoded 64 (reading.decoded letters.now) ≡ Err result }
 {
-    // The longest CID has fewer bytes than these letters encode, so an error in it shows in them.
+    // The longest CID has fewer bytes than `front` encodes, so an error in it shows in `front`.
     let (front, rest) = letters.split_at(152);
     let mut bytes = [0; 95];
     if decode_letters(front, &mut bytes).is_none() {
@@ -206,7 +209,7 @@ fn long_text_error(letters: &[u8]) -> CidError
     }
 }
 
-// The CID whose text this is, with a digest of at most 64 bytes.
+// Reads the CID that the text encodes, with a digest of at most 64 bytes.
 #[tactic(auto, unfolding(crate::specs::TextReading::read_text))]
 #[inline(always)]
 fn read_cid_text(text: &[u8]) -> Result<Cid, CidError>
@@ -225,20 +228,25 @@ fn read_cid_text(text: &[u8]) -> Result<Cid, CidError>
 }
 
 impl<const S: usize> CidGeneric<S> {
-    /// Reads a text as the version 1 CID that it encodes; [`to_text`](CidGeneric::to_text) makes it. The text is the multibase
-    /// prefix `b`, and the base32 of the CID's bytes (RFC 4648, section 6) in lower case and without padding. Each version 1
-    /// CID has one such text.
+    /// Reads a text as the version 1 CID that it encodes. [`to_text`](CidGeneric::to_text) returns
+    /// this text. It is the multibase prefix `b`, followed by the base32 of the CID's bytes (RFC
+    /// 4648, section 6) in lower case and without padding. Every version 1 CID has one such text.
     ///
-    /// Does not allocate for a text of at most 155 bytes, as the text of each [`Cid`](crate::Cid) is. Else it allocates once,
-    /// for the bytes that the letters encode. For a [`Cid`](crate::Cid), `text.parse()` needs no allocator.
+    /// Does not allocate for a text of at most 155 bytes. The text of every [`Cid`](crate::Cid) is
+    /// within that limit. For a longer text, it allocates once, for the bytes that the letters
+    /// encode. For a [`Cid`](crate::Cid), `text.parse()` does not need an allocator.
     ///
     /// # Errors
     ///
-    /// - [`CidError::InvalidText`]: the text is empty or begins with another character than `b`; or what follows has a
-    ///   character outside `a` to `z` and `2` to `7`, or a length that is 1, 3 or 6 modulo 8, or a bit set after the
-    ///   last byte; or its bytes begin with `12 20`, as those of a version 0 CID do, which has no such text.
-    /// - The error of the bytes, as reading them by `try_from` reports it, where the text is sound and they are no CID.
-    /// - [`CidError::Memory`]: the allocation for the bytes of a longer text failed.
+    /// - [`CidError::InvalidText`] in any of these cases:
+    ///   - The text is empty, or its first character is not `b`.
+    ///   - A character after the `b` is not one of `a` to `z` and `2` to `7`.
+    ///   - The number of characters after the `b` is 1, 3 or 6 modulo 8.
+    ///   - A bit is set after the last byte.
+    ///   - The bytes begin with `12 20`, like those of a version 0 CID, which has no such text.
+    /// - The error that `try_from` returns for the bytes, if the text is valid and its bytes are
+    ///   not a CID.
+    /// - [`CidError::Memory`] if the allocation for the bytes of a longer text fails.
     pub fn from_text(alloc: Global, text: &str) -> Result<Self, CidError>
         ensures found { IfOk result (λ c. reading.IsText S (link_of c) text.now) }
         ensures only { (link : Link) → reading.IsText S link text.now
@@ -258,9 +266,14 @@ impl FromStr for CidGeneric<64> {
 
     ghost from_str_gives = { ReadsText };
 
-    /// Reads a text as the version 1 CID that it encodes, as [`from_text`](CidGeneric::from_text) does, but does not allocate.
+    /// Reads a text as the version 1 CID that it encodes, like
+    /// [`from_text`](CidGeneric::from_text), but does not allocate.
     ///
-    /// The errors are those of `from_text`, but for [`CidError::Memory`], which is never returned.
+    /// # Errors
+    ///
+    /// The errors of `from_text`, except [`CidError::Memory`], which is never returned.
+    ///
+    /// # Examples
     ///
     /// ```rust
     /// let cid: Cid = "bafkreibme22gw2h7y2h7tg2fhqotaqjucnbc24deqo72b6mkl2egezxhvy".parse()?;
@@ -275,7 +288,7 @@ impl TryFrom<&str> for CidGeneric<64> {
 
     ghost try_from_gives = { λ text result. ReadsText text.now result };
 
-    /// Reads a text as the version 1 CID that it encodes, as `text.parse()` does. Does not allocate.
+    /// Reads a text as the version 1 CID that it encodes, like `text.parse()`. Does not allocate.
     fn try_from(text: &str) -> Result<Self, CidError> {
         read_cid_text(text.as_bytes())
     }

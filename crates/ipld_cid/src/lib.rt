@@ -1,4 +1,4 @@
-//! Content identifiers (CIDs) of the multiformats project: what content is, by its hash.
+//! Content identifiers (CIDs) of the multiformats project, which identify content by its hash.
 //!
 //! ```rust
 //! use ipld_cid::{Cid, Multihash, RAW, SHA2_256};
@@ -11,8 +11,8 @@
 //! let bytes = cid.to_bytes(alloc)?;
 //! ```
 //!
-//! A [`Cid`] is a value of 96 bytes that is copied. What allocates takes the allocator; reading bytes does not allocate. Digests
-//! are neither computed nor checked here.
+//! A [`Cid`] is a `Copy` value of 96 bytes. Calls that allocate take the allocator. Reading bytes
+//! does not allocate. This crate does not compute or check digests.
 #![tactic(auto)]
 
 mod base32;

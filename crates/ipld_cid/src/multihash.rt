@@ -6,11 +6,12 @@ ghost use Rattle.ipld_cid.specs.Multihash.{IsMultihash};
 use crate::error::CidError;
 use std::marker::Model;
 
-/// A multihash (multiformats Multihash): the code of a hash function in the multicodec table, and the digest that the
-/// function returned, of at most `S` bytes.
+/// A multihash (multiformats Multihash): the code of a hash function in the multicodec table, and
+/// the digest that the function returned, of at most `S` bytes.
 ///
-/// Nothing is computed and nothing is checked against content: any code may stand with any digest. Two multihashes are
-/// equal where their codes and their digests are. They are ordered by code, then by the digest's length, then by its bytes.
+/// Nothing is computed and nothing is checked against content: any code can have any digest. Two
+/// multihashes are equal if their codes and their digests are equal. They are ordered by code, then
+/// by the digest's length, then by its bytes.
 #[derive(Clone, Copy)]
 pub struct Multihash<const S: usize> {
     code: u64,
@@ -33,9 +34,11 @@ impl<const S: usize> Model for Multihash<S> {
 }
 
 impl<const S: usize> Multihash<S> {
-    /// The multihash of this code and this digest, which is copied. Does not allocate.
+    /// Creates the multihash of this code and this digest, which is copied. Does not allocate.
     ///
-    /// Returns `DigestTooLong` where the digest has more than `S` bytes, and nothing else.
+    /// # Errors
+    ///
+    /// `DigestTooLong` if the digest has more than `S` bytes. No other error is returned.
     #[inline(always)]
     pub fn wrap(code: u64, digest: &[u8]) -> Result<Self, CidError>
         ensures made { length digest.now ≤ S → result ≡ Ok
@@ -54,7 +57,7 @@ impl<const S: usize> Multihash<S> {
         })
     }
 
-    /// The code of the hash function.
+    /// Returns the code of the hash function.
     #[inline(always)]
     pub fn code(&self) -> u64
         ensures { result ≡ self.now.code }
@@ -62,7 +65,7 @@ impl<const S: usize> Multihash<S> {
         self.code
     }
 
-    /// The digest, of [`size`](Self::size) bytes.
+    /// Returns the digest, which has [`size`](Self::size) bytes.
     #[inline(always)]
     pub fn digest(&self) -> &[u8]
         ensures value { result.now ≡ self.now.digest }
@@ -71,7 +74,7 @@ impl<const S: usize> Multihash<S> {
         &self.digest[..self.size]
     }
 
-    /// The length of the digest in bytes, at most `S`.
+    /// Returns the length of the digest in bytes, at most `S`.
     #[inline(always)]
     pub fn size(&self) -> usize
         ensures { result ≡ length self.now.digest }

@@ -10,7 +10,7 @@ use crate::multihash::Multihash;
 use crate::varint::read_varint;
 use std::alloc::{AllocError, Global};
 
-// The multihash that the bytes encode.
+// Reads the multihash that the bytes encode.
 #[tactic(auto, unfolding(crate::specs::MultihashBytes::read_hash))]
 #[inline(always)]
 fn read_hash<const S: usize>(bytes: &[u8]) -> Result<Multihash<S>, CidError>
@@ -23,11 +23,17 @@ fn read_hash<const S: usize>(bytes: &[u8]) -> Result<Multihash<S>, CidError>
 }
 
 impl<const S: usize> Multihash<S> {
-    /// The multihash that the bytes encode, all of the bytes (multiformats Multihash). Does not allocate.
+    /// Reads the multihash that the bytes encode (multiformats Multihash). All of the bytes have to
+    /// belong to it. Does not allocate.
     ///
-    /// Else it returns the first error from the left: `DigestTooLong` already where the length of the digest is read, `End`
-    /// for each beginning of a multihash's bytes, `TrailingBytes` for a multihash's bytes with more after them, and
-    /// `NotShortest` and `VarintTooLarge` as [`CidError`] says.
+    /// # Errors
+    ///
+    /// Returns the first error from the left:
+    ///
+    /// - `DigestTooLong` if the length of the digest exceeds `S`, as soon as that length is read.
+    /// - `End` if the bytes are a proper prefix of a multihash's bytes.
+    /// - `TrailingBytes` if the bytes are a multihash's bytes with more after them.
+    /// - `NotShortest` and `VarintTooLarge` as [`CidError`] describes them.
     pub fn from_bytes(bytes: &[u8]) -> Result<Self, CidError>
         ensures found { IfOk result (λ hash. encoded.IsEncodedHash S bytes.now hash) }
         ensures only { (hash : HashParts) → encoded.IsEncodedHash S bytes.now hash
@@ -37,7 +43,7 @@ impl<const S: usize> Multihash<S> {
         read_hash(bytes)
     }
 
-    // The bytes before the digest.
+    // Returns the bytes before the digest.
     #[inline(always)]
     fn header(&self) -> HeaderBytes
         ensures written { result ≡ encoded.hash_head_of self.now }
@@ -49,7 +55,8 @@ impl<const S: usize> Multihash<S> {
         head
     }
 
-    /// How many bytes [`to_bytes`](Self::to_bytes) returns, at most `20 + S`. Does not allocate. `S` has to be at most 1,048,576.
+    /// Returns the number of bytes that [`to_bytes`](Self::to_bytes) returns, at most `20 + S`.
+    /// Does not allocate. `S` has to be at most 1,048,576.
     #[tactic(auto, unfolding(crate::specs::MultihashBytes::hash_bytes_of))]
     pub fn encoded_len(&self) -> usize
         requires { S ≤ 1048576 }
@@ -59,10 +66,15 @@ impl<const S: usize> Multihash<S> {
         self.header().len() + self.digest().len()
     }
 
-    /// The multihash's bytes (multiformats Multihash), which are the only ones that encode it. `S` has to be at most 1,048,576.
+    /// Returns the multihash's bytes (multiformats Multihash), which are the only bytes that encode
+    /// it. `S` has to be at most 1,048,576.
     ///
-    /// [`from_bytes`](Self::from_bytes) reads them as that multihash. Allocates once, just the bytes' length; `AllocError` where
-    /// that fails.
+    /// [`from_bytes`](Self::from_bytes) reads them as the same multihash. Allocates once, exactly
+    /// the length of the bytes.
+    ///
+    /// # Errors
+    ///
+    /// `AllocError` if the allocation fails.
     #[tactic(auto, unfolding(crate::specs::MultihashBytes::hash_bytes_of))]
     pub fn to_bytes(&self, alloc: Global) -> Result<Vec<u8>, AllocError>
         requires { S ≤ 1048576 }

@@ -6,7 +6,7 @@ ghost use Rattle.ipld_cid.specs.Varint as varint;
 use crate::byte_buffer::ByteBuffer;
 use crate::error::CidError;
 
-// What is wrong with a byte that stands behind `place` bytes of a varint.
+// Returns the error of a byte that follows `place` bytes of a varint, if it is invalid.
 #[inline(always)]
 fn error_at(place: usize, byte: u8) -> Option<CidError>
     ensures { result ≡ varint.error_at place byte }
@@ -20,7 +20,7 @@ fn error_at(place: usize, byte: u8) -> Option<CidError>
     }
 }
 
-// The varint at the front, and the bytes after it.
+// Reads the varint at the front, and returns its number and the bytes after it.
 #[inline(always)]
 pub(crate) fn read_varint(bytes: &[u8]) -> Result<(u64, &[u8]), CidError>
     ensures { MatchResult result
@@ -41,7 +41,8 @@ pub(crate) fn read_varint(bytes: &[u8]) -> Result<(u64, &[u8]), CidError>
 }
 
 impl<const CAPACITY: usize> ByteBuffer<CAPACITY> {
-    /// Adds the unsigned varint of this number (multiformats unsigned-varint), of at most ten bytes.
+    /// Appends the unsigned varint of this number (multiformats unsigned-varint), which has at most
+    /// ten bytes.
     #[inline(always)]
     pub fn push_varint(&mut self, number: u64)
         requires { length self.old + 10 ≤ CAPACITY }

@@ -1,4 +1,4 @@
--- The bases of multibase texts: the prefix and the alphabet of each.
+-- The bases of multibase texts, with their prefixes and alphabets.
 use Rattle.std.specs.Prelude.{◌≡◌, ◌<◌, ◌⊎◌, ◌==◌, ℕ, if◌then◌else◌, List, Option, Some, None, slice_index, codes}
 use Rattle.ipld_cid_text.specs.declared.base.Base.{Base}
 use Rattle.ipld_cid_text.specs.declared.base.Base.TheVariants.{Base16Lower, Base32Lower, Base32Upper, Base36Lower, Base58Btc, Base64Url}
@@ -46,16 +46,17 @@ size Base64Url = 64
 abbrev pub letter : Base → ℕ → ℕ
 letter base digit = slice_index (alphabet base) digit
 
--- the character is a letter of the base, and stands for this digit
+-- True if `character` is the letter of the base that represents `digit`.
 pub record StandsFor (base : Base) (character digit : ℕ) : Type 0 where
   pub below : digit < size base
   pub letter_of : letter base digit ≡ character
 
--- the character is a letter of the base
+-- True if `character` is a letter of the base.
 pub record IsLetter (base : Base) (character : ℕ) : Type 0 where
   pub digit : ℕ
   pub stands : StandsFor base character digit
 
--- what a table has for a character: the digit that it stands for, or 255 where it is no letter
+-- True if `value` is the entry of `character` in the table of the base: the digit that it
+-- represents, or 255 if it is not a letter.
 abbrev pub IsValue : Base → ℕ → ℕ → Type 0
 IsValue base character value = StandsFor base character value ⊎ ((value ≡ 255) × (IsLetter base character → ⊥))

@@ -3,7 +3,7 @@
 ghost use Rattle.std.specs.Prelude.{◌≡◌, ◌≤◌};
 ghost use Rattle.ipld_cid_text.specs.Base.{prefix, base_of};
 
-/// A base of multibase texts, under its name in the Rust crate `multibase`.
+/// A base of multibase texts. The variants have the names of the Rust crate `multibase`.
 #[derive(Clone, Copy, Debug, PartialEq, Eq)]
 pub enum Base {
     /// Hexadecimal digits in lower case, prefix `f`.
@@ -36,7 +36,7 @@ impl Base {
         }
     }
 
-    /// The multibase prefix.
+    /// Returns the multibase prefix.
     #[inline(always)]
     pub fn code(self) -> char
         ensures { result ≡ prefix self }
@@ -44,7 +44,7 @@ impl Base {
         char::from(self.prefix())
     }
 
-    /// The base of a multibase prefix, where it is one of these.
+    /// Returns the base with this multibase prefix, or `None` if no `Base` has it.
     #[inline(always)]
     pub fn from_code(code: char) -> Option<Self>
         ensures { result ≡ base_of code }
@@ -60,7 +60,7 @@ impl Base {
         }
     }
 
-    // As many letters as bytes of this length have at most.
+    // An upper bound on the number of letters for bytes of this length.
     #[inline(always)]
     pub(crate) fn most_letters(self, len: usize) -> usize
         requires { len ≤ 95 }

@@ -2,5 +2,5 @@
 
 use ipld_cid::ByteBuffer;
 
-// As many as any call has to keep.
+// A buffer that is long enough for every call.
 pub(crate) type Digits = ByteBuffer<448>;

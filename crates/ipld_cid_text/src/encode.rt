@@ -43,7 +43,7 @@ pub(crate) fn decode_digits(base: Base, digits: &[u8]) -> Result<Digits, TextErr
     }
 }
 
-// The digits that letters stand for, or the place of the first character that is no letter.
+// The digits of the letters, or the index of the first character that is not a letter.
 #[inline(always)]
 pub(crate) fn digits_of_letters(base: Base, letters: &[u8]) -> Result<Digits, usize>
     requires { length letters.now ≤ 190 }

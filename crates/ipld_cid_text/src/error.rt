@@ -1,4 +1,4 @@
-//! Why a text is no CID's, or a CID has no such text.
+//! The errors of reading and writing texts.
 
 ghost use Rattle.std.specs.Prelude.{◌≡◌};
 ghost use Rattle.ipld_cid_text.specs.Error.{reason_of};
@@ -7,27 +7,29 @@ use ipld_cid::CidError;
 use itoa::Buffer;
 use std::{error, fmt};
 
-/// Why a text is no text of a content identifier.
+/// The error for a text that is not the text of a content identifier.
 #[derive(Clone, Copy, Debug, PartialEq, Eq)]
 pub enum TextError {
-    /// The text is empty, or begins with a character that is no prefix of a [`Base`](crate::Base).
+    /// The text is empty, or begins with a character that is not the prefix of a
+    /// [`Base`](crate::Base).
     UnknownBase,
     /// No CID has a text of this length in this base.
     InvalidLength,
-    /// At this byte of the text stands a character that is no letter of its base.
+    /// The character at this byte of the text is not a letter of its base.
     InvalidLetter(usize),
-    /// Bits that are left over after the last byte are set.
+    /// The bits that are left over after the last byte are not all zero.
     UnusedBits,
-    /// The text is `Qm..` of another version than 0, or has a prefix and is of version 0.
+    /// A `Qm..` text encodes a CID of another version than 0, or a multibase text encodes one of
+    /// version 0.
     WrongVersion,
-    /// The letters encode bytes that are no CID.
+    /// The letters encode bytes that are not a CID.
     Cid(CidError),
 }
 
-/// Why a content identifier isn't written in a base.
+/// The error of writing a content identifier in a base.
 #[derive(Clone, Copy, Debug, PartialEq, Eq)]
 pub enum ToStringError {
-    /// The CID is of version 0, which has a text in base58btc alone.
+    /// The CID is of version 0, which has a text only in base58btc.
     InvalidCidV0Base,
     /// The allocation of the text failed.
     Memory,
@@ -60,7 +62,7 @@ impl fmt::Display for TextError {
     }
 }
 
-// Why the bytes of a text are no CID.
+// The reason that the bytes of a text are not a CID.
 fn cid_error_reason(error: &CidError) -> &'static str
     ensures { result.now ≡ reason_of error.now }
 {
@@ -72,7 +74,7 @@ fn cid_error_reason(error: &CidError) -> &'static str
         CidError::UnknownVersion(_) => "they begin with a version that is neither 0 nor 1",
         CidError::DigestTooLong => "the digest has more than 64 bytes",
         CidError::TrailingBytes => "more bytes follow the CID",
-        // Reading bytes returns none of these.
+        // Reading bytes does not return these.
         CidError::InvalidV0Multihash | CidError::InvalidText | CidError::Memory => {
             "they were not read"
         }

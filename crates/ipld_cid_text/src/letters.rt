@@ -19,7 +19,7 @@ static BASE58_LETTERS: [u8; 58] = *b"123456789ABCDEFGHJKLMNPQRSTUVWXYZabcdefghij
 static BASE64_LETTERS: [u8; 64] =
     *b"ABCDEFGHIJKLMNOPQRSTUVWXYZabcdefghijklmnopqrstuvwxyz0123456789-_";
 
-// The digit that each character stands for, and 255 for a character that is no letter.
+// The digit of every character, or 255 for a character that is not a letter.
 static HEX_VALUES: [u8; 256] = [
     255, 255, 255, 255, 255, 255, 255, 255, 255, 255, 255, 255, 255, 255, 255, 255, 255, 255, 255,
     255, 255, 255, 255, 255, 255, 255, 255, 255, 255, 255, 255, 255, 255, 255, 255, 255, 255, 255,
@@ -103,7 +103,7 @@ static BASE64_VALUES: [u8; 256] = [
 ];
 
 impl Base {
-    // The letters, in the order of what they stand for.
+    // The letters, in the order of their digits.
     #[inline(always)]
     pub(crate) fn letters(self) -> &'static [u8]
         ensures letters { result.now ≡ alphabet self }
@@ -119,7 +119,7 @@ impl Base {
         }
     }
 
-    // What each character stands for.
+    // The digit of every character, or 255 for a character that is not a letter.
     #[inline(always)]
     pub(crate) fn values(self) -> &'static [u8; 256]
         ensures { (c : ℕ) → c < 256 → IsValue self c (slice_index result.now c) }

@@ -1,4 +1,5 @@
-//! Texts of content identifiers (CIDs): `Qm..` of version 0, and multibase texts of version 1 in six bases.
+//! Texts of content identifiers (CIDs): `Qm..` for version 0, and multibase texts in six bases for
+//! version 1.
 //!
 //! ```rust
 //! use ipld_cid_text::{Base, parse_any, to_string_of_base};
@@ -7,7 +8,8 @@
 //! let text = to_string_of_base(alloc, &cid, Base::Base58Btc)?;
 //! ```
 //!
-//! What [`to_string_of_base`] writes [`parse_any`] reads as the same CID, and each text is of one CID. Reading does not allocate.
+//! [`parse_any`] reads every text that [`to_string_of_base`] writes, and returns the same CID. No
+//! text belongs to two CIDs. Reading does not allocate.
 #![tactic(auto)]
 
 mod base;

@@ -12,10 +12,10 @@ use crate::encode::{decode_digits, digits_of_letters};
 use crate::error::TextError;
 use ipld_cid::{Cid, Version};
 
-// More letters than these encode more bytes than any CID has.
+// More letters than this encode more bytes than any CID has.
 const MOST: usize = 190;
 
-// How many characters stand before the CID.
+// The number of characters before the CID.
 #[inline(always)]
 fn path_len(text: &[u8]) -> usize
     ensures len { result ≡ texts.path_len text.now }
@@ -39,7 +39,8 @@ fn begins_qm(text: &[u8]) -> bool
     }
 }
 
-// What a text is by how it begins: the base, the version, and how many characters stand before the letters.
+// The form of a text, by its first characters: the base, the version, and the number of characters
+// before the letters.
 #[inline(always)]
 fn form_of(text: &[u8]) -> Option<(Base, Version, usize)>
     ensures { MatchOption result (texts.form_of text.now ≡ None)
@@ -57,7 +58,7 @@ fn form_of(text: &[u8]) -> Option<(Base, Version, usize)>
     Some((base, Version::V1, 1))
 }
 
-// The CID whose bytes the letters encode, which are at `place` and after it in the text.
+// The CID whose bytes the letters encode. The letters begin at `place` in the text.
 fn read_letters(
     base: Base,
     version: Version,
@@ -107,20 +108,26 @@ fn read_text(text: &[u8]) -> Result<Cid, TextError>
     read_letters(base, version, path + skip, &text[path + skip..])
 }
 
-/// The CID of a text in any [`Base`], also after `/ipfs/`: `Qm..` of version 0, or the multibase text of version 1.
+/// Reads the CID of a text in any [`Base`]. For version 0 that is `Qm..`, and for version 1 a
+/// multibase text. The text may follow `/ipfs/`.
 ///
-/// Each CID with a digest of at most 64 bytes has such a text in each base, that of [`to_string_of_base`](crate::to_string_of_base),
-/// and each text is of one CID. Does not allocate.
+/// Every CID of version 1 with a digest of at most 64 bytes has such a text in every base, and
+/// every CID of version 0 has one in base58btc. [`to_string_of_base`](crate::to_string_of_base)
+/// returns it. No text belongs to two CIDs. Does not allocate.
 ///
 /// # Errors
 ///
-/// - [`TextError::UnknownBase`]: the text is empty, or begins with a character that is no prefix of a [`Base`].
-/// - [`TextError::InvalidLength`]: more than 190 characters follow, letters or not, or the letters leave over as many bits as a letter
-///   has.
-/// - [`TextError::InvalidLetter`]: a character is no letter of the base. It has the place of the first in the text.
-/// - [`TextError::UnusedBits`]: the bits that the last letter leaves over are not zero.
-/// - [`TextError::WrongVersion`]: the bytes of a version 0 CID stand in a multibase text, which that version doesn't have.
-/// - [`TextError::Cid`]: the letters encode bytes that are no CID, with the error that reading those bytes returns.
+/// - [`TextError::UnknownBase`] if the text, without `/ipfs/`, is empty or begins with a character
+///   that is not the prefix of a [`Base`].
+/// - [`TextError::InvalidLength`] if more than 190 bytes follow the prefix, letters or not, or if
+///   the letters leave over at least as many bits as a letter has.
+/// - [`TextError::InvalidLetter`] if a character is not a letter of the base. It contains the
+///   position of the first one in the text, in bytes.
+/// - [`TextError::UnusedBits`] if the bits that the last letter leaves over are not zero.
+/// - [`TextError::WrongVersion`] if a multibase text contains the bytes of a version 0 CID. That
+///   version does not have multibase texts.
+/// - [`TextError::Cid`] if the letters encode bytes that are not a CID. It contains the error of
+///   reading those bytes.
 pub fn parse_any(text: &str) -> Result<Cid, TextError>
     ensures found { IfOk result (λ cid. texts.IsText (link_of cid) text.now) }
     ensures only { (link : Link) → texts.IsText link text.now

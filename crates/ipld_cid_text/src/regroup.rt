@@ -20,7 +20,7 @@ fn append_group<const FROM: u32>(rest: u32, item: u8) -> u32
     (rest << FROM) + u32::from(item)
 }
 
-// The bits before the last `count`, and those.
+// The bits before the last `count` bits, and the last `count` bits.
 #[inline(always)]
 fn split_group(rest: u32, count: u32) -> (u32, u32)
     requires { count < 32 }
@@ -30,7 +30,8 @@ fn split_group(rest: u32, count: u32) -> (u32, u32)
     (rest >> count, rest & ((1 << count) - 1))
 }
 
-// The bits of some items in groups of `TO`. Returns the groups, the bits that are left, and how many those are.
+// Puts the bits of items into groups of `TO` bits. Returns the groups, the bits that are left over,
+// and the number of these bits.
 #[inline(always)]
 fn regroup<const FROM: u32, const TO: u32>(items: &[u8]) -> (Digits, u32, u32)
     requires from { FROM ≤ 8 }
@@ -61,7 +62,7 @@ fn regroup<const FROM: u32, const TO: u32>(items: &[u8]) -> (Digits, u32, u32)
     (groups, rest, count)
 }
 
-// The groups of `W` bits that bytes are.
+// Splits bytes into groups of `W` bits.
 #[inline(always)]
 pub(crate) fn groups_of<const W: u32>(bytes: &[u8]) -> Digits
     requires narrow { W ≤ 8 }
@@ -76,7 +77,7 @@ pub(crate) fn groups_of<const W: u32>(bytes: &[u8]) -> Digits
     groups
 }
 
-// The bytes whose groups of `W` bits these are.
+// Joins groups of `W` bits into bytes.
 #[inline(always)]
 pub(crate) fn bytes_of_groups<const W: u32>(groups: &[u8]) -> Result<Digits, TextError>
     requires narrow { W ≤ 8 }

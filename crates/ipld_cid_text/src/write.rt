@@ -16,7 +16,7 @@ use crate::error::ToStringError;
 use ipld_cid::{Cid, Version};
 use std::alloc::{AllocError, Global};
 
-// Writes the letters of digits at the end.
+// Appends the letters of digits.
 #[inline(always)]
 fn push_letters(text: &mut Vec<u8>, base: Base, digits: &[u8]) -> Result<(), AllocError>
     requires { IsBelow (size base) digits.now }
@@ -29,7 +29,7 @@ fn push_letters(text: &mut Vec<u8>, base: Base, digits: &[u8]) -> Result<(), All
     Ok(())
 }
 
-// The letters that encode the CID's bytes, after the prefix where there is to be one.
+// The letters that encode the bytes of the CID, after the prefix if `prefixed`.
 fn letters_of(alloc: Global, cid: &Cid, base: Base, prefixed: bool) -> Result<Vec<u8>, AllocError>
     ensures { IfOk result (λ text. IsPrefixed base prefixed
         (bytes_of (link_of cid.now)) text.items) }
@@ -45,7 +45,7 @@ fn letters_of(alloc: Global, cid: &Cid, base: Base, prefixed: bool) -> Result<Ve
     Ok(text)
 }
 
-// The text of these letters, which are ASCII.
+// The letters as a string. They are ASCII.
 fn text_of(alloc: Global, cid: &Cid, base: Base, prefixed: bool) -> Result<String, AllocError>
     ensures { IfOk result (λ text. IsPrefixed base prefixed (bytes_of (link_of cid.now))
         (string_bytes text)) }
@@ -57,7 +57,7 @@ fn text_of(alloc: Global, cid: &Cid, base: Base, prefixed: bool) -> Result<Strin
     Ok(text)
 }
 
-// The text of the CID in the base, if it has one there.
+// The text of the CID in the base, if it has one.
 fn write_text(alloc: Global, cid: &Cid, base: Base) -> Result<String, ToStringError>
     ensures { MatchResult result
         (λ text. IsTextIn base (link_of cid.now) (string_bytes text))
@@ -80,15 +80,18 @@ fn write_text(alloc: Global, cid: &Cid, base: Base) -> Result<String, ToStringEr
     }
 }
 
-/// The text of a CID in a [`Base`]: of version 1 the multibase prefix and the letters that encode its bytes, of version 0
-/// the letters alone, which it has in [`Base::Base58Btc`] alone.
+/// Returns the text of a CID in a [`Base`].
 ///
-/// [`parse_any`](crate::parse_any) reads the text as that CID. Allocates once, at most the letters of a text of this length and a few more.
+/// For version 1, this is the multibase prefix and the letters that encode the bytes of the CID.
+/// For version 0, it is the letters without a prefix, and exists only in [`Base::Base58Btc`].
+///
+/// [`parse_any`](crate::parse_any) reads the text as that CID. Allocates once, at most a few bytes
+/// more than the text has.
 ///
 /// # Errors
 ///
-/// - [`ToStringError::InvalidCidV0Base`]: the CID is of version 0 and the base another than base58btc.
-/// - [`ToStringError::Memory`]: the allocation failed.
+/// - [`ToStringError::InvalidCidV0Base`] if the CID is of version 0 and the base is not base58btc.
+/// - [`ToStringError::Memory`] if the allocation fails.
 pub fn to_string_of_base(alloc: Global, cid: &Cid, base: Base) -> Result<String, ToStringError>
     ensures exact { MatchResult result
         (λ text. IsTextIn base (link_of cid.now) (string_bytes text))
@@ -100,9 +103,11 @@ pub fn to_string_of_base(alloc: Global, cid: &Cid, base: Base) -> Result<String,
     write_text(alloc, cid, base)
 }
 
-/// Returns the text of a CID as people know it: of version 1 the multibase prefix `b` and base32, of version 0 base58btc.
+/// Returns the usual text of a CID: the multibase prefix `b` and base32 for version 1, or base58btc
+/// for version 0.
 ///
-/// [`parse_any`](crate::parse_any) reads it as that CID. Allocates once, at most the text's length and a few characters more.
+/// [`parse_any`](crate::parse_any) reads it as that CID. Allocates once, at most a few characters
+/// more than the text has.
 ///
 /// # Errors
 ///

@@ -1,4 +1,4 @@
-//! The blocks of a CAR by their CIDs, wherever in the file they stand.
+//! The blocks of a CAR by their CIDs, wherever they are in the file.
 
 use crate::bytes::{Bytes, BytesAt};
 use crate::complaints::report_car_error;
@@ -17,16 +17,18 @@ use std::fs;
 use std::hash::RandomState;
 use std::io::{self, BufReader, Chain, Error, ErrorKind, Read};
 
-// The header of a CAR without roots. Sections behind it are read as those of a CAR that begins with them.
+// The header of a CAR without roots. Sections that follow it are read as those of a CAR that begins
+// with them.
 const NO_ROOTS: &[u8] = b"\x11\xa2eroots\x80gversion\x01";
 
-// How many bytes that header has.
+// The number of bytes of that header.
 const NO_ROOTS_LEN: u64 = 18;
 
-// A reader of the sections from one of them on.
+// A reader of sections, which begins at any of them.
 type Sections<'a> = CarReader<BufReader<Chain<&'static [u8], BytesAt<'a>>>>;
 
-/// The blocks of a CAR. They are found by the index of the file, if it has one, else by reading on from where the last was found.
+/// The blocks of a CAR. They are found by the index of the file, if it has one. Otherwise the file
+/// is read on from the last block that was found.
 #[derive(Drop)]
 pub struct Blocks<'a> {
     rt: &'a HostRuntime,
@@ -34,34 +36,34 @@ pub struct Blocks<'a> {
     bytes: Bytes,
     limit: u64,
     roots: Vec<Cid>,
-    // Where the payload begins, and where it ends, if the header says.
+    // The beginning of the payload, and its end, if the header has it.
     start: u64,
     end: Option<u64>,
-    // The entries of the index, as long as it is believed.
+    // The entries of the index, until one turns out to be wrong.
     index: Option<Vec<IndexEntry>>,
     passed: PassedSections,
 }
 
-// Where the blocks stand that were passed, and up to where that is.
+// The offsets of the blocks that were passed, and the end of the last.
 #[derive(Drop)]
 struct PassedSections {
     offsets: IndexMap<Cid, u64, RandomState>,
     end: u64,
 }
 
-// What the entries of an index that have a CID's hash lead to.
+// The result of a lookup in the index, by the entries that have a CID's hash.
 #[derive(Drop)]
 enum Indexed {
     // Its block.
     Block(Section),
-    // No block of it.
+    // No block of the CID.
     Nothing,
-    // Something else at this byte of the file.
+    // Something other than its block, at this byte of the file.
     Wrong(u64),
 }
 
 impl PassedSections {
-    // Reads sections on, which begin where those end that were passed, to the block of this CID.
+    // Reads sections from the end of those that were passed, to the block of this CID.
     fn read_on(
         &mut self,
         alloc: Global,
@@ -92,20 +94,22 @@ impl PassedSections {
     }
 }
 
-/// What a file is.
+/// The content of a file.
 #[derive(Drop)]
 pub enum Opened<'a> {
-    /// A block, its bytes.
+    /// The bytes of a block.
     Block(Vec<u8>),
-    /// A CAR, of which the header was read.
+    /// A CAR, after its header.
     Car(Blocks<'a>),
 }
 
-/// Opens a file, or standard input, which is a CAR if it begins as one and may be one, else a block.
+/// Opens a file, or standard input. It is a CAR if it begins as one and `may_be_car` is true, and
+/// otherwise a block.
 ///
 /// # Errors
 ///
-/// That of the system, where the file can't be read or there are no random bytes, and `OutOfMemory` where an allocation failed.
+/// The system's error if the file can't be read or the system returns no random bytes.
+/// `OutOfMemory` if an allocation fails.
 pub fn open_blocks<'a>(
     rt: &'a HostRuntime,
     file: &'a str,
@@ -127,7 +131,7 @@ pub fn open_blocks<'a>(
     }
 }
 
-// A file as a block.
+// Opens a file as a block.
 fn open_as_block<'a>(rt: &HostRuntime, file: &str) -> io::Result<Opened<'a>> {
     match read_file(rt, file) {
         Ok(bytes) => Ok(Opened::Block(bytes)),
@@ -135,7 +139,8 @@ fn open_as_block<'a>(rt: &HostRuntime, file: &str) -> io::Result<Opened<'a>> {
     }
 }
 
-// A file's bytes: what is no file is read into memory, since it can be read once alone.
+// Opens a file's bytes. Anything other than a regular file is read into memory, because it can be
+// read only once.
 fn bytes_of(rt: &HostRuntime, file: &str) -> io::Result<Bytes> {
     if file == "-" || !is_file(rt, file) {
         return Ok(Bytes::Memory(read_file(rt, file)?));
@@ -143,7 +148,8 @@ fn bytes_of(rt: &HostRuntime, file: &str) -> io::Result<Bytes> {
     Ok(Bytes::File(fs::open(rt, file)?))
 }
 
-/// The blocks of a file that is a CAR with an index that can be read, or `None` of another, also where it can't be read.
+/// Returns the blocks of a file if it is a CAR with an index that can be read. Returns `None` for
+/// any other file, and if the file can't be read.
 pub fn open_indexed<'a>(rt: &'a HostRuntime, file: &'a str, limit: u64) -> Option<Blocks<'a>> {
     if file == "-" || !is_file(rt, file) {
         return None;
@@ -157,7 +163,7 @@ pub fn open_indexed<'a>(rt: &'a HostRuntime, file: &'a str, limit: u64) -> Optio
     }
 }
 
-// What the header of a CAR says.
+// The header of a CAR.
 #[derive(Drop)]
 struct Front {
     roots: Vec<Cid>,
@@ -166,7 +172,7 @@ struct Front {
     end: Option<u64>,
 }
 
-// What the header of bytes says that begin as a CAR, or `None` of others.
+// Reads the header of a CAR, or returns `None` if the bytes don't begin as one.
 fn read_front(rt: &HostRuntime, bytes: &Bytes, limit: u64) -> io::Result<Option<Front>> {
     let reader = BytesAt::new(bytes, 0, u64::MAX);
     let reader = BufReader::with_capacity(rt.alloc(), BUFFER, reader)?;
@@ -188,11 +194,11 @@ fn read_front(rt: &HostRuntime, bytes: &Bytes, limit: u64) -> io::Result<Option<
     }))
 }
 
-/// The header of version 2, or `None` of bytes that begin with none.
+/// Reads the header of version 2, or returns `None` if the bytes don't begin with one.
 ///
 /// # Errors
 ///
-/// That of the system, where the file can't be read.
+/// The system's error if the file can't be read.
 pub fn header_of(bytes: &Bytes) -> io::Result<Option<CarHeader>> {
     let mut header = [0; HEADER_END];
     match BytesAt::new(bytes, 0, u64::MAX).read_exact(&mut header) {
@@ -202,7 +208,7 @@ pub fn header_of(bytes: &Bytes) -> io::Result<Option<CarHeader>> {
     }
 }
 
-/// The index that the header of a CAR of version 2 places in the file.
+/// Reads the index that the header of a CAR of version 2 places in the file.
 ///
 /// # Errors
 ///
@@ -217,16 +223,16 @@ pub fn index_at(
     read_index(rt.alloc(), &mut reader)
 }
 
-// Why there are no blocks.
+// The reason why a file's blocks are not available.
 #[derive(Drop)]
 enum NoBlocks {
     // These bytes don't begin as a CAR.
     NoCar(Bytes),
-    // The system says this, or an allocation failed.
+    // An error of the system, or a failed allocation.
     Failed(Error),
 }
 
-// The blocks of these bytes.
+// Opens the blocks of these bytes.
 fn blocks_of<'a>(
     rt: &'a HostRuntime,
     file: &'a str,
@@ -266,7 +272,8 @@ fn blocks_of<'a>(
     Ok(blocks)
 }
 
-// The reader of the sections from this byte of the file on, up to another or to the file's end.
+// Creates a reader of the sections that begin at this byte of the file, up to `end` or to the end
+// of the file.
 fn sections_at<'a>(
     rt: &HostRuntime,
     bytes: &'a Bytes,
@@ -276,19 +283,19 @@ fn sections_at<'a>(
 ) -> Result<Sections<'a>, CarFileError> {
     let reader = NO_ROOTS.chain(BytesAt::new(bytes, from, end.unwrap_or(u64::MAX)));
     let reader = BufReader::with_capacity(rt.alloc(), BUFFER, reader)?;
-    // The file has a header, which is no shorter than this one, so the limit is no lower.
+    // The file has a header that is not shorter than this one, so the limit is not lower.
     match CarReader::new(rt.alloc(), reader, limit) {
         Ok(sections) => Ok(sections),
         Err(error) => Err(CarFileError::from(error)),
     }
 }
 
-// Where in the file this offset of such a reader is.
+// Returns the place in the file of this offset of such a reader.
 fn place_in_file(from: u64, offset: u64) -> u64 {
     from.saturating_add(offset.saturating_sub(NO_ROOTS_LEN))
 }
 
-// An error of such a reader, with its places in the file.
+// Converts an error of such a reader to places in the file.
 fn error_in_file(from: u64, error: CarError) -> CarError {
     CarError {
         kind: error.kind,
@@ -298,17 +305,17 @@ fn error_in_file(from: u64, error: CarError) -> CarError {
 }
 
 impl<'a> Blocks<'a> {
-    /// The name of the file.
+    /// Returns the name of the file.
     pub fn file(&self) -> &'a str {
         self.file
     }
 
-    /// The roots.
+    /// Returns the roots.
     pub fn roots(&self) -> &[Cid] {
         &self.roots
     }
 
-    // Reads the index, if there is one, and says where it can't be used.
+    // Reads the index, if there is one, and reports it if it can't be used.
     fn use_index(&mut self, header: &CarHeader) {
         if header.index == 0 {
             return;
@@ -324,7 +331,8 @@ impl<'a> Blocks<'a> {
         }
     }
 
-    /// The block of this CID, or `None` where the file has none. What is wrong with the file is said.
+    /// Finds the block of this CID, or returns `None` if the file doesn't have it. Reports errors
+    /// of the file.
     pub fn find(&mut self, cid: &Cid) -> Result<Option<Section>, Outcome> {
         if let Some(section) = self.find_indexed(cid) {
             return Ok(Some(section));
@@ -345,8 +353,9 @@ impl<'a> Blocks<'a> {
         }
     }
 
-    /// The block of this CID to which the index leads, or `None` where it leads to none. That an entry leads to another block is said, and the
-    /// index isn't used any more then.
+    /// Finds the block of this CID through the index, or returns `None` if the index leads to no
+    /// such block. If an entry doesn't lead to a block with the CID's hash, reports that and stops
+    /// using the index.
     pub fn find_indexed(&mut self, cid: &Cid) -> Option<Section> {
         let index = self.index.take()?;
         match self.find_among(entries_of(&index, cid.hash()), cid) {
@@ -368,7 +377,7 @@ impl<'a> Blocks<'a> {
         }
     }
 
-    // What these entries of an index lead to.
+    // Follows these entries of an index to the block of a CID.
     fn find_among(&self, entries: &[IndexEntry], cid: &Cid) -> Indexed {
         for entry in entries {
             let offset = self.start.saturating_add(entry.offset);
@@ -382,7 +391,7 @@ impl<'a> Blocks<'a> {
         Indexed::Nothing
     }
 
-    // The block whose section begins at this byte of the file.
+    // Reads the block whose section begins at this byte of the file.
     fn section_at(&self, offset: u64) -> Result<Option<Section>, CarFileError> {
         let mut sections = sections_at(self.rt, &self.bytes, offset, self.end, self.limit)?;
         let mut section = Section::new(self.rt.alloc());
@@ -403,7 +412,7 @@ impl<'a> Blocks<'a> {
         }
     }
 
-    // No block more, where the payload ends, by its header too.
+    // Returns `None` at the end of the payload, or an error if the header places the end later.
     fn end_of_payload(&self) -> Result<Option<Section>, CarFileError> {
         match self.end {
             Some(end) if self.passed.end < end => Err(CarFileError::Car(CarError {

@@ -1,4 +1,4 @@
-//! Bytes that are read from any offset on.
+//! Bytes that can be read from any offset.
 
 ghost use Rattle.std.specs.Prelude.{◌≤◌, length};
 
@@ -6,16 +6,17 @@ use std::fs::File;
 use std::io::{self, Read};
 use std::os::unix::fs::FileExt;
 
-/// Bytes that are read from any offset on: those of a file, or those that are in memory since they came from standard input or a pipe.
+/// Bytes that can be read from any offset: a file, or bytes in memory that came from standard input
+/// or a pipe.
 #[derive(Drop)]
 pub enum Bytes {
     /// A file.
     File(File),
-    /// What was read.
+    /// Bytes in memory.
     Memory(Vec<u8>),
 }
 
-/// A reader of bytes from an offset on up to another, or to where the bytes end before that.
+/// A reader of bytes from one offset to another, or to the end of the bytes if that comes first.
 #[derive(Clone, Copy)]
 pub struct BytesAt<'a> {
     bytes: &'a Bytes,
@@ -24,13 +25,13 @@ pub struct BytesAt<'a> {
 }
 
 impl<'a> BytesAt<'a> {
-    /// A reader of these bytes.
+    /// Creates a reader of these bytes.
     pub fn new(bytes: &'a Bytes, offset: u64, end: u64) -> Self {
         BytesAt { bytes, offset, end }
     }
 }
 
-// Copies bytes from an offset on, as many as there are and as the buffer takes.
+// Copies bytes from an offset on, up to their end or the end of the buffer.
 fn copy_at(bytes: &[u8], offset: u64, buf: &mut [u8]) -> usize
     ensures { result ≤ length buf.new }
 {
@@ -45,7 +46,7 @@ fn copy_at(bytes: &[u8], offset: u64, buf: &mut [u8]) -> usize
 
 impl<'a> Read for BytesAt<'a> {
     fn read(&mut self, buf: &mut [u8]) -> io::Result<usize> {
-        // No file has a byte there, and the system takes no such offset.
+        // No file has a byte there, and the system rejects such an offset.
         if self.offset > i64::MAX as u64 {
             return Ok(0);
         }

@@ -1,4 +1,4 @@
-//! A block that may be handed out.
+//! A block whose digest was checked, or that is taken unchecked.
 
 ghost use Rattle.std.specs.Prelude.{◌≡◌, false, Some, IfOk, IfErr};
 ghost use Rattle.std.specs.Io.KnownBytes.{Appends};
@@ -10,7 +10,7 @@ use ipld_block::{VerifyError, verify};
 use ipld_cid::Cid;
 use std::io::Write;
 
-/// A block that may be handed out: its digest is the one of its CID, or it was taken unchecked.
+/// A block whose digest is the one of its CID, or that was taken unchecked.
 #[derive(Clone, Copy)]
 pub struct CheckedBlock<'a> {
     cid: &'a Cid,

@@ -17,7 +17,7 @@ use std::alloc::{AllocError, Global};
 use std::fmt;
 use std::hash::RandomState;
 
-/// An input of a CAR that is made.
+/// An input of a new CAR.
 #[derive(Clone, Copy)]
 pub enum Source<'a> {
     /// A file that is a block of this codec.
@@ -27,7 +27,8 @@ pub enum Source<'a> {
 }
 
 impl<'a> Source<'a> {
-    /// The input that an argument names: `CODEC:FILE`, `car:FILE`, or a block of the codec that is given for those without one.
+    /// Returns the input that an argument names: `CODEC:FILE`, `car:FILE`, or a file without a
+    /// prefix, which is a block of `codec`.
     pub fn named(name: &'a str, codec: BlockCodec) -> Source<'a> {
         match name.split_once(":") {
             Some(("car", file)) => Source::Car(file),
@@ -39,7 +40,7 @@ impl<'a> Source<'a> {
         }
     }
 
-    /// The name of the file.
+    /// Returns the name of the file.
     pub fn file(&self) -> &'a str {
         match *self {
             Source::Block(_, file) => file,
@@ -48,31 +49,31 @@ impl<'a> Source<'a> {
     }
 }
 
-/// Blocks, each once, in the order in which they came, and what they link to.
+/// The blocks of a new CAR, each once, in the order of their arrival, with their links.
 #[derive(Drop)]
 pub struct CollectedBlocks {
     blocks: IndexMap<Cid, Vec<u8>, RandomState>,
-    // Each link of a block to another.
+    // The links from a block to another.
     linked: IndexSet<Cid, RandomState>,
-    // Those that are taken, if not all are.
+    // The CIDs of the blocks that are taken, if not all are.
     kept: Option<IndexSet<Cid, RandomState>>,
     hasher: RandomState,
     limit: u64,
     is_unchecked: bool,
 }
 
-// Why a block isn't taken.
+// The reason why a block is not taken.
 enum RejectedBlock {
     Memory,
-    // A block is none of its codec: this one, or one that a CID carries to which it leads.
+    // A block is invalid for its codec: this one, or one in a CID that it leads to.
     Block(Cid, InvalidBlock),
     Digest(VerifyError),
 }
 
 impl CollectedBlocks {
-    /// No blocks, which are found by this hasher. Sections have at most `limit` bytes behind their length, those of CARs that are read and those of
-    /// the blocks of files. With `is_unchecked` those of a CAR are taken as
-    /// they are.
+    /// Creates an empty collection, which finds blocks by this hasher. A section has at most
+    /// `limit` bytes after its length, in CARs that are read and for the blocks of files. If
+    /// `is_unchecked` is true, the blocks of CARs are taken as they are.
     pub fn new(
         alloc: Global,
         hasher: RandomState,
@@ -89,7 +90,7 @@ impl CollectedBlocks {
         }
     }
 
-    /// Adds the block or the blocks of an input, and says what is wrong with it where it can't.
+    /// Adds the block or the blocks of an input. Reports the error if it can't.
     pub fn add(&mut self, rt: &HostRuntime, source: Source<'_>) -> Result<(), Outcome> {
         match source {
             Source::Block(codec, file) => self.add_file(rt, codec, file),
@@ -97,7 +98,7 @@ impl CollectedBlocks {
         }
     }
 
-    /// The blocks that no other of them links to.
+    /// Returns the CIDs of the blocks that no other block links to.
     pub fn unlinked(&self, alloc: Global) -> Result<Vec<Cid>, AllocError> {
         let mut roots = Vec::new(alloc);
         for cid in self.blocks.keys() {
@@ -108,23 +109,23 @@ impl CollectedBlocks {
         Ok(roots)
     }
 
-    /// Whether there is a block of this CID.
+    /// Returns whether there is a block of this CID.
     pub fn has(&self, cid: &Cid) -> bool {
         self.blocks.contains_key(cid)
     }
 
-    /// The blocks with their CIDs, those too that are left out.
+    /// Returns the blocks with their CIDs, including those that are left out.
     pub fn blocks(&self) -> &IndexMap<Cid, Vec<u8>, RandomState> {
         &self.blocks
     }
 
-    /// Leaves out the blocks that are not reached from these.
+    /// Leaves out the blocks that can't be reached from these.
     pub fn keep_reached(&mut self, alloc: Global, from: &[Cid]) -> Result<(), AllocError> {
         self.kept = Some(self.reached_from(alloc, from)?);
         Ok(())
     }
 
-    /// Whether the block of this CID is not left out.
+    /// Returns whether the block of this CID is not left out.
     pub fn keeps(&self, cid: &Cid) -> bool {
         match &self.kept {
             Some(kept) => kept.contains(cid),
@@ -132,7 +133,7 @@ impl CollectedBlocks {
         }
     }
 
-    // The CIDs that are reached from these, also through blocks that CIDs carry.
+    // Returns the CIDs that can be reached from these, also through blocks in CIDs.
     fn reached_from(
         &self,
         alloc: Global,
@@ -156,7 +157,8 @@ impl CollectedBlocks {
         Err(AllocError)
     }
 
-    // The links of the block of a CID, where it is there and one of its codec.
+    // Returns the links of the block of a CID, or no links if the block is missing or invalid for
+    // its codec.
     fn links_from(&self, alloc: Global, cid: &Cid) -> Result<Vec<Cid>, AllocError> {
         let linked = match self.blocks.get(cid) {
             Some(bytes) => links_of_block(alloc, cid.codec(), bytes),
@@ -218,7 +220,7 @@ impl CollectedBlocks {
         Err(Outcome::Failed)
     }
 
-    // Adds a block of a CAR, if it is not there yet.
+    // Adds a block of a CAR, if it is new.
     fn add_section(&mut self, alloc: Global, section: &Section) -> Result<(), RejectedBlock> {
         let cid = section.cid();
         if self.has(cid) {
@@ -238,7 +240,7 @@ impl CollectedBlocks {
         }
     }
 
-    // Puts a block behind the others, if it is not among them.
+    // Appends a block, if it is new.
     fn put(&mut self, cid: Cid, bytes: Vec<u8>) -> Result<(), AllocError> {
         if self.has(&cid) {
             return Ok(());
@@ -249,8 +251,8 @@ impl CollectedBlocks {
         }
     }
 
-    // Adds what a block links to, and what the blocks do that its links carry. One that is none of its codec is an error; unchecked, it has no
-    // links.
+    // Adds the links of a block, and those of the blocks in its links. A block that is invalid for
+    // its codec is an error. Unchecked, it has no links.
     fn add_links(
         &mut self,
         alloc: Global,
@@ -277,7 +279,8 @@ impl CollectedBlocks {
     }
 }
 
-// The links of the block of a CID; of one that is none of its codec an error, or, unchecked, none.
+// Returns the links of the block of a CID. A block that is invalid for its codec is an error or,
+// unchecked, has no links.
 fn checked_links(
     alloc: Global,
     cid: &Cid,
@@ -292,7 +295,7 @@ fn checked_links(
     }
 }
 
-// The links of a block of the codec of this code, of which those of other codecs have none.
+// Returns the links of a block of the codec with this code. Blocks of other codecs have no links.
 fn links_of_block(alloc: Global, code: u64, block: &[u8]) -> Result<Vec<Cid>, CheckError> {
     match BlockCodec::from_code(code) {
         Some(codec) => links_of(alloc, codec, block),
@@ -300,7 +303,7 @@ fn links_of_block(alloc: Global, code: u64, block: &[u8]) -> Result<Vec<Cid>, Ch
     }
 }
 
-// Says that a section of so many bytes would be longer than those that are read.
+// Reports that a section of `len` bytes would be longer than the limit.
 fn report_too_long(rt: &HostRuntime, file: &str, len: u64) -> Outcome {
     let _ = eprintln!(rt;
         "ipld: {file}: its section would have {len} bytes, more than the limit, which --limit sets"
@@ -308,7 +311,7 @@ fn report_too_long(rt: &HostRuntime, file: &str, len: u64) -> Outcome {
     Outcome::Failed
 }
 
-// What is wrong with a block that isn't taken.
+// The error of a block that is not taken.
 #[derive(Clone, Copy)]
 enum Why {
     Block(InvalidBlock),
@@ -324,7 +327,7 @@ impl fmt::Display for Why {
     }
 }
 
-// Says why a block isn't taken, whose section begins at this byte where it is one of a CAR.
+// Reports why a block is not taken. In a CAR, its section begins at this byte.
 fn report_rejected(
     rt: &HostRuntime,
     file: &str,

@@ -1,4 +1,4 @@
-//! Messages on standard error. Where one can't be written, the status says it.
+//! Messages on standard error. If one can't be written, the exit status still shows the failure.
 
 use crate::messages::{
     Explanation, Hint, NoCid, OpeningExplanation, Outcome, SectionExplanation, WriteFailure,
@@ -12,30 +12,30 @@ use ipld_show::ShowError;
 use std::fmt;
 use std::io::{self, ErrorKind, Write};
 
-/// Says why something wasn't done with what has this name, a file or the text of a CID, and returns the outcome that it is handed.
+/// Reports why `name`, a file or the text of a CID, was not processed, and returns `outcome`.
 pub fn report<D: fmt::Display>(rt: &HostRuntime, name: &str, why: &D, outcome: Outcome) -> Outcome {
     let name = if name.is_empty() { "''" } else { name };
     let _ = eprintln!(rt; "ipld: {name}: {why}");
     outcome
 }
 
-/// Says that a file can't be read.
+/// Reports that a file can't be read.
 pub fn report_unreadable(rt: &HostRuntime, file: &str, error: &io::Error) -> Outcome {
     report(rt, file, error, Outcome::Failed)
 }
 
-/// Says that memory ran out, for what has this name.
+/// Reports that an allocation for `name` failed.
 pub fn report_out_of_memory(rt: &HostRuntime, name: &str) -> Outcome {
     report(rt, name, &"out of memory", Outcome::Failed)
 }
 
-/// Says as of other wrong arguments what is wrong with them.
+/// Reports wrong arguments, in the form of other usage errors.
 pub fn report_wrong_arguments<D: fmt::Display>(rt: &HostRuntime, why: &D) -> Outcome {
     let _ = eprintln!(rt; "error: {why}\n\nFor more information, try '--help'.");
     Outcome::Failed
 }
 
-/// The CID of a text, or `None`, where it says why the text is none.
+/// Parses a CID from text. Reports the error and returns `None` if the text is not a CID.
 pub fn parse_cid_argument(rt: &HostRuntime, text: &str) -> Option<Cid> {
     match parse_any(text) {
         Ok(cid) => Some(cid),
@@ -46,7 +46,8 @@ pub fn parse_cid_argument(rt: &HostRuntime, text: &str) -> Option<Cid> {
     }
 }
 
-/// Says why a block wasn't shown, or what is wrong with the output of this name; that nobody reads it any more is no message.
+/// Reports why a block was not shown, or why the output `name` failed. Reports nothing if nobody
+/// reads the output any more.
 pub fn report_show_error(rt: &HostRuntime, name: &str, error: &ShowError) -> Outcome {
     match (Outcome::of(error), error) {
         (Outcome::NotRead, _) => Outcome::NotRead,
@@ -55,7 +56,8 @@ pub fn report_show_error(rt: &HostRuntime, name: &str, error: &ShowError) -> Out
     }
 }
 
-/// Says what is wrong with the bytes of a file that are no block of this codec, and what they seem to be.
+/// Reports why the bytes of a file are not a block of this codec, and the format that they seem to
+/// have.
 pub fn report_invalid_block(
     rt: &HostRuntime,
     file: &str,
@@ -69,7 +71,8 @@ pub fn report_invalid_block(
     Outcome::NotSo
 }
 
-/// Says what is wrong with a CAR, or with standard output; that nobody reads it any more is no message.
+/// Reports an error of a CAR or of standard output. Reports nothing if nobody reads the output any
+/// more.
 pub fn report_car_error(rt: &HostRuntime, file: &str, error: &CarFileError) -> Outcome {
     match error {
         CarFileError::Write(ErrorKind::BrokenPipe) => Outcome::NotRead,
@@ -88,7 +91,7 @@ pub fn report_car_error(rt: &HostRuntime, file: &str, error: &CarFileError) -> O
     }
 }
 
-/// Says why a file is no CAR, of which these are the first bytes.
+/// Reports why a file that begins with these bytes is not a CAR.
 pub fn report_opening_error(
     rt: &HostRuntime,
     file: &str,
@@ -99,7 +102,8 @@ pub fn report_opening_error(
     report(rt, file, &why, outcome_of(&error.kind))
 }
 
-// How a command ends that a CAR isn't read for: that a read failed says nothing of the file.
+// Returns the outcome of a command that can't read a CAR. A failed read does not show an error of
+// the file.
 fn outcome_of(kind: &CarErrorKind) -> Outcome {
     match kind {
         CarErrorKind::Memory | CarErrorKind::Read(_) => Outcome::Failed,
@@ -107,7 +111,7 @@ fn outcome_of(kind: &CarErrorKind) -> Outcome {
     }
 }
 
-/// Standard error as a writer, which knows whether anything was written.
+/// Standard error as a writer, which records whether anything was written.
 #[derive(Drop)]
 pub struct Complaints<'a> {
     rt: &'a HostRuntime,
@@ -115,12 +119,12 @@ pub struct Complaints<'a> {
 }
 
 impl<'a> Complaints<'a> {
-    /// No complaint so far.
+    /// Creates a writer to which nothing was written.
     pub fn new(rt: &'a HostRuntime) -> Complaints<'a> {
         Complaints { rt, any: false }
     }
 
-    /// Whether there was a complaint.
+    /// Returns whether anything was written.
     pub fn any(&self) -> bool {
         self.any
     }

@@ -3,7 +3,7 @@
 use std::fs;
 use std::io::{self, Read};
 
-/// The bytes of a file, or of standard input where its name is `-`.
+/// Reads the bytes of a file, or of standard input if the name is `-`.
 pub fn read_file(rt: &HostRuntime, name: &str) -> io::Result<Vec<u8>> {
     if name != "-" {
         return fs::read(rt, name);
@@ -13,7 +13,7 @@ pub fn read_file(rt: &HostRuntime, name: &str) -> io::Result<Vec<u8>> {
     Ok(bytes)
 }
 
-/// Whether there is a file of this name, and no folder or device.
+/// Returns whether there is a regular file of this name, not a folder or a device.
 pub fn is_file(rt: &HostRuntime, name: &str) -> bool {
     match fs::metadata(rt, name) {
         Ok(metadata) => metadata.is_file(),

@@ -1,10 +1,10 @@
-//! What finds CIDs in tables.
+//! The hasher of tables of CIDs.
 
 use crate::messages::Outcome;
 use std::hash::RandomState;
 
-/// A hasher with random bytes of the system, so that no CIDs of a file can be chosen that all stand at one place of a table. Where the system gives
-/// none, it says so.
+/// Creates a hasher with random bytes from the system, so that nobody can choose CIDs for a file
+/// that all fall into one slot of a table. Reports an error if the system returns no random bytes.
 pub fn hasher_of(rt: &HostRuntime) -> Result<RandomState, Outcome> {
     match RandomState::new(rt) {
         Ok(hasher) => Ok(hasher),

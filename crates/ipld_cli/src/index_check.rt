@@ -1,4 +1,4 @@
-//! Whether the index of a CAR has each block where it stands.
+//! The check of a CAR's index: whether it has the place of every block.
 
 use crate::blocks::{header_of, index_at};
 use crate::bytes::{Bytes, BytesAt};
@@ -14,16 +14,16 @@ use std::cmp::Ordering;
 use std::fs;
 use std::io::{BufReader, Write};
 
-// What is wrong with an index.
+// An error in an index.
 #[derive(Clone, Copy)]
 enum Fault {
-    // It has no entry for this block, whose section begins at this byte of the file.
+    // The index has no entry for this block, whose section begins at this byte of the file.
     Lacks(Cid, u64),
-    // It has an entry that leads to this byte, where no section of such a digest begins.
+    // The index has an entry that leads to this byte, but no section with its digest begins there.
     LeadsNowhere(u64),
 }
 
-// Writes what is wrong with an index.
+// Writes an error in an index.
 fn write_fault<W: Write>(
     rt: &HostRuntime,
     form: VerdictForm,
@@ -98,7 +98,7 @@ fn sections_of(
     Ok(stands)
 }
 
-// Compares an index with the sections of the payload, and writes what is wrong.
+// Compares an index with the sections of the payload, and writes the errors.
 fn compare<W: Write>(
     rt: &HostRuntime,
     form: VerdictForm,
@@ -109,7 +109,8 @@ fn compare<W: Write>(
 ) -> Result<Outcome, CarFileError> {
     let mut outcome = Outcome::Done;
     for it in stands {
-        // One entry is enough for several sections of a digest, and CIDs that carry their block, or have a digest without a byte, may have none.
+        // One entry is enough for several sections with the same digest. CIDs that carry their
+        // block, or have an empty digest, may have no entry.
         let hash = it.cid.hash();
         let carries = hash.code() == IDENTITY || hash.size() == 0;
         let may_lack = carries && !header.is_fully_indexed;
@@ -129,7 +130,7 @@ fn compare<W: Write>(
     Ok(outcome)
 }
 
-// Says that an index can't be read.
+// Reports that an index can't be read.
 fn report_index_error(rt: &HostRuntime, file: &str, at: u64, error: &IndexError) -> Outcome {
     let _ = eprintln!(rt; "ipld: {file}: the index at byte {at} is not read: {error}");
     match error {
@@ -138,8 +139,9 @@ fn report_index_error(rt: &HostRuntime, file: &str, at: u64, error: &IndexError)
     }
 }
 
-/// Writes where the index of a CAR of version 2 isn't right, if the file has one: each block that has no entry, and each entry that leads to no
-/// block of its digest. Of standard input and of pipes it isn't looked at.
+/// Writes the errors in the index of a CAR of version 2, if the file has one. These are each block
+/// without an entry, and each entry that leads to no block with its digest. The index of standard
+/// input or of a pipe is not checked.
 pub fn check_index<W: Write>(
     rt: &HostRuntime,
     file: &str,

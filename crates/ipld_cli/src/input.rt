@@ -1,4 +1,4 @@
-//! CAR files, and standard input, opened and read as far as is asked.
+//! CAR files, and standard input, opened and read as far as needed.
 
 use crate::complaints::{report_opening_error, report_unreadable};
 use crate::messages::{Outcome, beginning_of};
@@ -7,10 +7,10 @@ use ipld_car::CarReader;
 use std::fs::{self, File};
 use std::io::{self, BufReader, Read, StdinLock};
 
-/// How many bytes of a file are read or written at a time.
+/// The number of bytes of a file that are read or written at a time.
 pub const BUFFER: usize = 1 << 16;
 
-/// A file that is open, or standard input.
+/// An open file, or standard input.
 #[derive(Drop)]
 pub enum Input {
     /// Standard input.
@@ -31,17 +31,17 @@ impl Read for Input {
 /// The reader of a CAR.
 pub type Car<'a> = CarReader<BufReader<Progress<'a, Input>>>;
 
-/// A CAR that is open.
+/// An open CAR.
 #[derive(Drop)]
 pub struct OpenCar<'a> {
-    /// Its reader, whose header was read.
+    /// The reader, after the header.
     pub car: Car<'a>,
     shown: ProgressLine<'a>,
     is_shown: bool,
 }
 
 impl<'a> OpenCar<'a> {
-    /// Says how many bytes were read, if that is to be shown.
+    /// Prints how many bytes were read, if progress is shown.
     pub fn show_end(&self) {
         if self.is_shown {
             self.shown.write_line(self.car.offset());
@@ -49,7 +49,7 @@ impl<'a> OpenCar<'a> {
     }
 }
 
-// A file, or standard input, and how many bytes it has, where that is known.
+// Opens a file or standard input, and returns its size in bytes, if that is known.
 fn open_input(rt: &HostRuntime, file: &str) -> io::Result<(Input, Option<u64>)> {
     if file == "-" {
         return Ok((Input::Standard(rt.reader()), None));
@@ -63,7 +63,9 @@ fn open_input(rt: &HostRuntime, file: &str) -> io::Result<(Input, Option<u64>)> 
     Ok((Input::File(opened), total))
 }
 
-/// Opens a CAR of sections of at most `limit` bytes, shows how far it is read if that is asked for, and says what is wrong with it where it has no header.
+/// Opens a CAR whose sections have at most `limit` bytes, and shows the progress of reading if
+/// `is_shown` is true. Reports the error if the file can't be read or doesn't begin with a CAR
+/// header.
 pub fn open_car<'a>(
     rt: &'a HostRuntime,
     file: &'a str,

@@ -1,5 +1,8 @@
-//! What the program `ipld` says: what is wrong with a block, a CAR or a digest in a sentence, with what stands at the byte at fault; what a file
-//! seems to be that isn't what it was read as; and how a command ends.
+//! The messages of the program `ipld`.
+//!
+//! An [`Explanation`] describes the error of a block in a sentence, with the item at the invalid
+//! byte, and similar types do so for a CAR and a digest. A [`Hint`] names the format that a file
+//! seems to have if it is not the expected one. An [`Outcome`] is how a command ends.
 //!
 //! ```rust
 //! use crate::messages::{Explanation, Hint};

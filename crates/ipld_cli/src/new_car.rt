@@ -22,7 +22,8 @@ pub struct NewBlock<'a> {
     pub bytes: &'a [u8],
 }
 
-/// Returns how many bytes so many have with their length before them, as a header and a section have it, or 2^64 - 1 if that is more.
+/// Returns the size of `len` bytes with their length before them, which is the form of a header and
+/// a section. Returns 2^64 - 1 if the size is more than that.
 pub fn framed_len(len: u64) -> u64
     ensures exact { length (varint_of len) + len < 2 ^ 64 → result ≡ length (varint_of len) + len }
     ensures small { len + 10 < 2 ^ 64 → result ≡ length (varint_of len) + len }
@@ -33,7 +34,7 @@ pub fn framed_len(len: u64) -> u64
 }
 
 impl<'a> NewBlock<'a> {
-    /// Returns how many bytes the section of the block has behind its length.
+    /// Returns the number of bytes after the length in the block's section.
     pub fn content_len(&self) -> u64
         ensures exact { result ≡ length (content_of (block_of self.now)) }
         ensures short { result + 10 < 2 ^ 64 }
@@ -41,7 +42,7 @@ impl<'a> NewBlock<'a> {
         self.cid.encoded_len() as u64 + self.bytes.len() as u64
     }
 
-    /// Returns how many bytes the section of the block has.
+    /// Returns the number of bytes of the block's section.
     pub fn section_len(&self) -> u64
         ensures { result ≡ section_len (block_of self.now) }
     {
@@ -49,7 +50,7 @@ impl<'a> NewBlock<'a> {
     }
 }
 
-/// Returns how many bytes the header of a CAR with these roots has, with its length.
+/// Returns the number of bytes of the header of a CAR with these roots, including its length.
 ///
 /// # Errors
 ///
@@ -61,7 +62,8 @@ pub fn header_len(alloc: Global, roots: &[Cid]) -> Result<u64, OutputError>
     Ok(header.len() as u64)
 }
 
-// The rows of an index of the blocks, of which the first section begins at this byte of the payload, and where the payload ends.
+// Returns the rows of an index of the blocks, and the end of the payload. The first section begins
+// at this byte of the payload.
 fn locate<'a>(
     alloc: Global,
     blocks: &[NewBlock<'a>],
@@ -94,13 +96,13 @@ fn too_large() -> OutputError {
 /// A CAR that is to be written.
 #[derive(Clone, Copy)]
 pub struct NewCar<'a> {
-    /// What allocates.
+    /// The allocator.
     pub alloc: Global,
     /// The roots.
     pub roots: &'a [Cid],
     /// The blocks.
     pub blocks: &'a [NewBlock<'a>],
-    /// Whether it is of version 2, with an index.
+    /// Whether the CAR is of version 2, with an index.
     pub has_index: bool,
 }
 
@@ -118,7 +120,8 @@ impl<'a> NewCar<'a> {
         Ok(writer)
     }
 
-    // Writes the CAR of version 2: the header, the payload, and an index of its sections. A digest without a byte has no row in an index.
+    // Writes the CAR of version 2: the header, the payload, and an index of its sections. An empty
+    // digest has no row in an index.
     fn write_indexed<W: Write + Drop>(&self, writer: W) -> Result<W, OutputError>
         ensures { IfOk result (λ to. WritesIndexedCar (W.contents writer) (W.contents to)
             (map link_of self.now.roots.now) (map block_of self.now.blocks.now)) }

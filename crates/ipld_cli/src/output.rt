@@ -1,4 +1,5 @@
-//! Where a CAR or a block is written: a file is made under another name beside it, and gets its own once it is whole.
+//! The destination of a CAR or a block. A file is written under another name in the same folder,
+//! and gets its own name when it is complete.
 
 use crate::complaints::report;
 use crate::input::BUFFER;
@@ -10,36 +11,36 @@ use std::os::unix::fs::{FileTypeExt, MetadataExt};
 use std::path::{Path, PathBuf};
 use std::{error, fmt};
 
-// How many names of temporary files are tried in a folder.
+// The number of names that are tried for a temporary file in a folder.
 const NAMES: u32 = 1000;
 
-/// Where an output goes.
+/// The destination of an output.
 #[derive(Drop)]
 pub enum Output {
-    /// To standard output.
+    /// Standard output.
     Standard,
-    /// To a device or a pipe, which keeps nothing that could be lost.
+    /// A device or a pipe, which keeps nothing that could be lost.
     Stream,
-    /// To a file that isn't there yet.
+    /// A file that doesn't exist yet.
     New,
-    /// In place of a file that is there, under its path without links and with its permissions.
+    /// An existing file to replace, by its path without links, with its permissions.
     Replaced(PathBuf, Permissions),
 }
 
-/// Why an output isn't written. Its `Display` is a sentence.
+/// The reason why an output is not written. Its `Display` is a sentence.
 #[derive(Debug, Drop)]
 pub enum OutputError {
-    /// There is a file of this name, which isn't to be replaced.
+    /// A file of this name exists, and is not to be replaced.
     Exists,
-    /// What has this name is a folder, or something else that can't be replaced.
+    /// A folder, or something else that can't be replaced, has this name.
     NotAFile,
-    /// It is one of the files that are read.
+    /// The output is one of the files that are read.
     Input,
-    /// No name for a temporary file is free beside it.
+    /// No name for a temporary file is free in the output's folder.
     NoName,
     /// An allocation failed.
     Memory,
-    /// The system says this.
+    /// An error of the system.
     System(io::Error),
 }
 
@@ -80,18 +81,20 @@ impl<T: Drop> From<AllocFailed<T>> for OutputError {
 }
 
 impl Output {
-    /// Where an output of this name goes, `-` being standard output. A file that is there is replaced with `force` alone.
+    /// Returns the destination of an output of this name. `-` is standard output. An existing file
+    /// is replaced only if `force` is true.
     ///
     /// # Errors
     ///
-    /// `Exists` without `force`, `NotAFile` for a folder and its like, and `System` where it can't be said what has the name.
+    /// `Exists` if the file exists and `force` is false, `NotAFile` if the name is that of a folder
+    /// or the like, and `System` if the name can't be looked up.
     pub fn named(rt: &HostRuntime, name: &str, force: bool) -> Result<Output, OutputError> {
         if name == "-" {
             return Ok(Output::Standard);
         }
         match fs::metadata(rt, name) {
             Ok(metadata) => Output::over(rt, name, &metadata, force),
-            // A link that leads to nothing is there all the same.
+            // A link that leads to nothing exists all the same.
             Err(error) if error.kind() == ErrorKind::NotFound => {
                 match fs::symlink_metadata(rt, name) {
                     Ok(_) => Err(OutputError::System(error)),
@@ -102,7 +105,7 @@ impl Output {
         }
     }
 
-    // Where an output of a name goes that something has.
+    // Returns the destination of an output whose name is in use.
     fn over(
         rt: &HostRuntime,
         name: &str,
@@ -123,7 +126,7 @@ impl Output {
     }
 }
 
-// The device of a file and its number there, which no other file has.
+// The device of a file and its number there, which identify it.
 fn identity(rt: &HostRuntime, name: &str) -> Option<(u64, u64)> {
     match fs::metadata(rt, name) {
         Ok(metadata) if metadata.is_file() => Some((metadata.dev(), metadata.ino())),
@@ -131,8 +134,8 @@ fn identity(rt: &HostRuntime, name: &str) -> Option<(u64, u64)> {
     }
 }
 
-// Whether the output is one of these inputs: under the same name, or the same file under another. `-` is the file, if it is one, that standard
-// input or standard output comes from or goes to.
+// Returns whether the output is one of these inputs: under the same name, or the same file under
+// another. `-` is the file that standard input comes from or standard output goes to, if it is one.
 fn is_read(rt: &HostRuntime, output: &str, inputs: &[&str]) -> bool {
     if output != "-" && inputs.contains(&output) {
         return true;
@@ -149,11 +152,12 @@ fn is_read(rt: &HostRuntime, output: &str, inputs: &[&str]) -> bool {
     false
 }
 
-/// Where the output of this name goes, which is none of the files that are read.
+/// Returns the destination of an output of this name, which must not be one of the files that are
+/// read.
 ///
 /// # Errors
 ///
-/// `Input` where it is one of them, else those of [`Output::named`].
+/// `Input` if it is one of them, and otherwise those of [`Output::named`].
 pub fn output_of(
     rt: &HostRuntime,
     name: &str,
@@ -167,17 +171,18 @@ pub fn output_of(
     }
 }
 
-/// What is written to an output.
+/// The content of an output.
 pub trait Content {
-    /// Writes it, and returns the writer.
+    /// Writes the content, and returns the writer.
     fn write_to<W: Write + Drop>(&self, writer: W) -> Result<W, OutputError>;
 }
 
-/// Writes the content to the output of this name. Where a file can't be written whole, nothing is left of it.
+/// Writes the content to the output of this name. If a file can't be written whole, nothing is left
+/// of it.
 ///
 /// # Errors
 ///
-/// `Exists` where a file of this name came meanwhile, `NoName`, `Memory`, and `System`.
+/// `Exists` if a file of this name was created meanwhile, `NoName`, `Memory`, and `System`.
 pub fn write<C: Content>(
     rt: &HostRuntime,
     name: &str,
@@ -217,7 +222,8 @@ fn write_stream<C: Content>(rt: &HostRuntime, name: &str, content: &C) -> Result
     Ok(())
 }
 
-// Writes a file, in place of one of these permissions or as a new one. Where it fails, nothing is left of it.
+// Writes a new file, or replaces one that has these permissions. If it fails, nothing is left of
+// the file.
 fn write_to_file<C: Content>(
     rt: &HostRuntime,
     path: Path<'_>,
@@ -232,13 +238,14 @@ fn write_to_file<C: Content>(
         Err(error) => Err(error),
     };
     if ended.is_err() {
-        // Where this fails too, the temporary file is left.
+        // If this fails too, the temporary file is left.
         let _ = fs::remove_file(rt, &temporary);
     }
     ended
 }
 
-// Writes to a new file, which has these permissions from the start, and has the system keep it.
+// Writes to a new file, which has these permissions from the start, and has the system sync it to
+// the device.
 fn fill<C: Content>(
     rt: &HostRuntime,
     file: File,
@@ -253,7 +260,7 @@ fn fill<C: Content>(
     Ok(())
 }
 
-// Makes an empty file in the same folder, under a name that no file has.
+// Creates an empty file in the same folder, under a name that is free.
 fn create_beside(rt: &HostRuntime, path: Path<'_>) -> Result<(PathBuf, File), OutputError> {
     for number in 0..NAMES {
         let name = format!(in rt.alloc(); ".ipld-{number}.tmp")?;
@@ -267,7 +274,7 @@ fn create_beside(rt: &HostRuntime, path: Path<'_>) -> Result<(PathBuf, File), Ou
     Err(OutputError::NoName)
 }
 
-// Makes an empty file of this name.
+// Creates an empty file of this name.
 fn take_name(rt: &HostRuntime, path: Path<'_>) -> Result<(), OutputError> {
     match File::create_new(rt, path) {
         Ok(_) => Ok(()),
@@ -276,30 +283,30 @@ fn take_name(rt: &HostRuntime, path: Path<'_>) -> Result<(), OutputError> {
     }
 }
 
-// Gives a temporary file the name that it is for. Where the system can't, it stays as it is.
+// Renames a temporary file to its final name. If the system can't, it stays as it is.
 fn replace(rt: &HostRuntime, temporary: Path<'_>, path: Path<'_>) -> Result<(), OutputError> {
     fs::rename(rt, temporary, path)?;
     Ok(())
 }
 
-// Gives a temporary file the name that it is for, if no file has it. A file of this name that came meanwhile stays, and so does the temporary file
-// where this fails.
+// Renames a temporary file to its final name, if that name is free. A file of this name that was
+// created meanwhile stays. If this fails, the temporary file stays too.
 fn move_into_place(
     rt: &HostRuntime,
     temporary: Path<'_>,
     path: Path<'_>,
 ) -> Result<(), OutputError> {
-    // Else the file would replace one that came meanwhile.
+    // Otherwise the file would replace one that was created meanwhile.
     take_name(rt, path)?;
     let placed = replace(rt, temporary, path);
     if placed.is_err() {
-        // Where this fails too, an empty file is left.
+        // If this fails too, an empty file is left.
         let _ = fs::remove_file(rt, path);
     }
     placed
 }
 
-/// Says why an output isn't written.
+/// Reports why an output is not written.
 pub fn report_unwritable(rt: &HostRuntime, name: &str, error: &OutputError) -> Outcome {
     if let OutputError::System(error) = error {
         if error.kind() == ErrorKind::BrokenPipe {

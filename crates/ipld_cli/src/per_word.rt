@@ -6,9 +6,10 @@ use crate::writer::{UntilClosed, end_writer};
 use ipld_show::ShowError;
 use std::io::{self, BufWriter, Write};
 
-/// What a command does with each of the words that it is given, which are the names of files or other things.
+/// The action of a command on a word of its arguments, such as the name of a file.
 pub trait PerWord {
-    /// Does it with this word, writes what there is to say of it, and returns how it ended. What is wrong with the output is an error.
+    /// Runs the action on this word, writes its result, and returns how it ended. Returns an error
+    /// if the output fails.
     fn run<W: Write>(
         &self,
         rt: &HostRuntime,
@@ -17,7 +18,8 @@ pub trait PerWord {
     ) -> Result<Outcome, ShowError>;
 }
 
-/// Whether standard input, `-`, is named more than once, which is said as of other wrong arguments: it can be read once.
+/// Returns whether standard input, `-`, is named more than once. If it is, reports wrong arguments,
+/// because standard input can be read only once.
 pub fn reads_twice(rt: &HostRuntime, names: &[&str]) -> bool {
     let is_twice = names.iter().filter(|name| **name == "-").count() > 1;
     if is_twice {
@@ -27,7 +29,7 @@ pub fn reads_twice(rt: &HostRuntime, names: &[&str]) -> bool {
     is_twice
 }
 
-// Does it with each of these words, and makes `worst` worse where one of them ends worse.
+// Runs the action on these words, and makes `worst` worse if one of them ends worse.
 fn run_each<E: PerWord, W: Write>(
     rt: &HostRuntime,
     words: &[&str],
@@ -41,7 +43,7 @@ fn run_each<E: PerWord, W: Write>(
     Ok(())
 }
 
-// Does it with each of these words, and writes through a buffer.
+// Runs the action on these words, and writes through a buffer.
 fn run_into<E: PerWord, W: Write + Drop>(
     rt: &HostRuntime,
     words: &[&str],
@@ -63,12 +65,14 @@ fn run_into<E: PerWord, W: Write + Drop>(
     }
 }
 
-/// Does it with each of these words, up to where standard output fails. Standard input may be one of them, once.
+/// Runs the action on these words, until standard output fails. Standard input may be one of them,
+/// once.
 pub fn run_over<E: PerWord>(rt: &HostRuntime, words: &[&str], each: &E) -> Outcome {
     run_into(rt, words, each, io::writer(rt))
 }
 
-/// As [`run_over`], and goes on where nobody reads standard output any more: for what is checked.
+/// Does the same as [`run_over`], but continues if nobody reads standard output any more. It is for
+/// commands that check files.
 pub fn run_to_end<E: PerWord>(rt: &HostRuntime, words: &[&str], each: &E) -> Outcome {
     let mut writer = io::writer(rt);
     run_into(rt, words, each, UntilClosed::new(&mut writer))

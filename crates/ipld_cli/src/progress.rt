@@ -1,24 +1,25 @@
-//! How far a file was read, on standard error.
+//! The progress of reading a file, on standard error.
 
 use std::io::{self, Read};
 use std::time::Instant;
 
-// How many seconds pass between two lines.
+// The number of seconds between two lines.
 const SECONDS: u64 = 1;
 
-/// What is shown of a file while it is read.
+/// The progress that is shown of a file while it is read.
 #[derive(Clone, Copy)]
 pub struct ProgressLine<'a> {
     rt: &'a HostRuntime,
-    // The name of the file, and how many bytes it has, where that is known.
+    // The name of the file, and its size in bytes, if that is known.
     file: &'a str,
     total: Option<u64>,
-    // When it began, or `None` where nothing is to be shown.
+    // The time when reading began, or `None` if nothing is to be shown.
     begun: Option<Instant>,
 }
 
 impl<'a> ProgressLine<'a> {
-    /// Begins to show a file of so many bytes, if asked to, or of a size that isn't known. Where there is no clock, only the end is shown.
+    /// Begins to show the progress of a file of `total` bytes, or of an unknown size, if `is_asked`
+    /// is true. Without a clock, only the end is shown.
     pub fn new(rt: &'a HostRuntime, file: &'a str, total: Option<u64>, is_asked: bool) -> Self {
         let begun = if is_asked {
             Instant::now(rt).ok()
@@ -33,7 +34,7 @@ impl<'a> ProgressLine<'a> {
         }
     }
 
-    // How many seconds it took so far.
+    // Returns how many seconds it took so far.
     fn seconds(&self) -> u64 {
         match self.begun {
             Some(begun) => match begun.elapsed(self.rt) {
@@ -44,23 +45,24 @@ impl<'a> ProgressLine<'a> {
         }
     }
 
-    /// Writes a line that says how many bytes were read, and of how many.
+    /// Writes a line with the number of bytes that were read, and the total if that is known.
     pub fn write_line(&self, read: u64) {
         let file = self.file;
-        // Where this can't be written, nothing is lost.
+        // If this can't be written, nothing is lost.
         let _ = match self.total {
             Some(total) => eprintln!(self.rt; "ipld: {file}: {read} of {total} bytes read"),
             None => eprintln!(self.rt; "ipld: {file}: {read} bytes read"),
         };
     }
 
-    // Writes how many bytes were read, of how many, and how much time is left, where the size is known.
+    // Writes the number of bytes that were read. If the size is known, also writes it and the time
+    // that is left.
     fn write_time(&self, read: u64, seconds: u64) {
         match self.total {
             Some(total) if read > 0 && read <= total => {
                 let file = self.file;
                 let left = u128::from(seconds) * u128::from(total - read) / u128::from(read);
-                // Where this can't be written, nothing is lost.
+                // If this can't be written, nothing is lost.
                 let _ = eprintln!(self.rt;
                     "ipld: {file}: {read} of {total} bytes read, {left} seconds left"
                 );
@@ -70,18 +72,18 @@ impl<'a> ProgressLine<'a> {
     }
 }
 
-/// A reader that shows how much of it was read, once a second.
+/// A reader that shows how much was read, once a second.
 #[derive(Drop)]
 pub struct Progress<'a, R> {
     reader: R,
     shown: ProgressLine<'a>,
     read: u64,
-    // How many seconds had passed at the last line.
+    // The number of seconds that had passed at the last line.
     seconds: u64,
 }
 
 impl<'a, R: Read> Progress<'a, R> {
-    /// A reader that nothing was read of.
+    /// Creates a reader that has read nothing yet.
     pub fn new(reader: R, shown: ProgressLine<'a>) -> Self {
         Progress {
             reader,

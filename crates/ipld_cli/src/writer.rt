@@ -2,14 +2,14 @@
 
 use std::io::{self, BufWriter, ErrorKind, Write};
 
-/// A writer that takes what nobody reads any more too, so that what is checked is checked to its end.
+/// A writer that also accepts output that nobody reads any more, so that a check runs to its end.
 #[derive(Drop)]
 pub struct UntilClosed<'a, W> {
     writer: &'a mut W,
 }
 
 impl<'a, W: Write> UntilClosed<'a, W> {
-    /// Writes to this writer.
+    /// Creates a writer to this writer.
     pub fn new(writer: &'a mut W) -> UntilClosed<'a, W> {
         UntilClosed { writer }
     }
@@ -28,8 +28,8 @@ impl<'a, W: Write> Write for UntilClosed<'a, W> {
     }
 }
 
-/// Ends what is written through a buffer: it is written out, unless a write failed. What could not be written is not tried again, as dropping the
-/// buffer would.
+/// Ends output through a buffer. Flushes it, unless a write failed. Bytes that could not be written
+/// are not tried again; dropping the buffer would retry them.
 pub fn end_writer<W: Write + Drop>(writer: BufWriter<W>, has_failed: bool) -> io::Result<()> {
     let mut writer = writer;
     let ended = if has_failed { Ok(()) } else { writer.flush() };

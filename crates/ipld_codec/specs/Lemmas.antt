@@ -1,2 +1,3 @@
--- Proofs that the source cites, of laws that a trait asks for: no definitions.
+-- This file lists proofs of laws that a trait requires. The source cites them, and they contain no
+-- definitions.
 pub mod RawLaws

@@ -12,15 +12,17 @@ ghost use mir.Syntax.{named};
 
 use std::io::{self, BufRead, Error, ErrorKind, Read};
 
-/// A reader that yields some bytes and then fails for good. It never comes to an end. It is for tests of what reads, and does not
-/// allocate.
+/// A reader that yields some bytes and then fails for good. It never ends.
+///
+/// It is for tests of code that reads. It does not allocate.
 #[derive(Debug, Drop)]
 pub struct FaultReader<'a> {
     bytes: &'a [u8],
 }
 
 impl<'a> FaultReader<'a> {
-    /// A reader that yields the first `count` of the bytes, or all where there are fewer, and then fails.
+    /// Creates a reader that yields the first `count` of the bytes, or all bytes if there are
+    /// fewer, and then fails.
     pub fn new(bytes: &'a [u8], count: usize) -> FaultReader<'a>
         ensures { bytes_left result ≡ take count bytes.entry.now }
     {
@@ -33,11 +35,11 @@ impl<'a> FaultReader<'a> {
 impl<'a> Read for FaultReader<'a> {
     ghost remaining = { λ reader. Some (bytes_left reader) };
 
-    /// Reads as many bytes as are left and fit, or fails where none is left.
+    /// Reads as many bytes as are left and fit into the buffer, or fails if no byte is left.
     ///
     /// # Errors
     ///
-    /// `ErrorKind::Other` where no byte is left, also where the buffer is empty.
+    /// `ErrorKind::Other` if no byte is left, even if the buffer is empty.
     fn read(&mut self, buf: &mut [u8]) -> io::Result<usize>
         ensures bound { ReadsAtMost result buf.new }
         ensures bytes { ReadConsumes (Some (bytes_left self.old))
@@ -53,11 +55,12 @@ impl<'a> Read for FaultReader<'a> {
 }
 
 impl<'a> BufRead for FaultReader<'a> {
-    /// All the bytes that are left, or a failure where none is. It takes none of them: that is [`BufRead::consume`]'s.
+    /// Returns all the bytes that are left, or fails if no byte is left. The bytes are not taken:
+    /// [`BufRead::consume`] takes them.
     ///
     /// # Errors
     ///
-    /// `ErrorKind::Other` where no byte is left.
+    /// `ErrorKind::Other` if no byte is left.
     fn fill_buf(&mut self) -> io::Result<&[u8]>
         ensures front { IfOk result (λ s. StartsWith (bytes_left self.old) s.now) }
         ensures end { IfOk result (λ s. length s.now ≡ 0 → bytes_left self.old ≡ []) }
@@ -74,7 +77,7 @@ impl<'a> BufRead for FaultReader<'a> {
         Ok(self.bytes)
     }
 
-    /// Takes so many bytes off the front, or all where there are fewer.
+    /// Takes `amount` bytes off the front, or all bytes if fewer are left.
     fn consume(&mut self, amount: usize)
         ensures bytes { DropsConsumable (Some (bytes_left self.old))
             (Some (bytes_left self.new)) None amount }

@@ -8,15 +8,17 @@ ghost use Rattle.ipld_codec.specs.FailingEnds.{writes_left, unreported, TakesAll
 
 use std::io::{self, Error, ErrorKind, Write};
 
-/// A writer whose first writes succeed, whole, and which then fails for good. It is for tests of what writes: it keeps nothing,
-/// does not allocate, and no contract says what it was given.
+/// A writer whose first writes succeed and take the whole buffer. After them it fails for good.
+///
+/// It is for tests of code that writes. It keeps nothing and does not allocate, and no contract
+/// specifies the bytes that it was given.
 #[derive(Debug, Drop)]
 pub struct FaultWriter {
     writes: usize,
 }
 
 impl FaultWriter {
-    /// A writer whose first `count` writes succeed, of whatever length, and which then fails.
+    /// Creates a writer whose first `count` writes succeed, of any length, and which then fails.
     pub fn new(count: usize) -> FaultWriter
         ensures { writes_left result ≡ count }
     {
@@ -25,11 +27,12 @@ impl FaultWriter {
 }
 
 impl Write for FaultWriter {
-    /// Takes all of the buffer, or fails where no write is left. An empty buffer counts as a write.
+    /// Takes all of the buffer, or fails if no write is left. A write of an empty buffer counts as
+    /// a write.
     ///
     /// # Errors
     ///
-    /// `ErrorKind::Other` where no write is left.
+    /// `ErrorKind::Other` if no write is left.
     fn write(&mut self, buf: &[u8]) -> io::Result<usize>
         ensures bound { WritesAtMost result buf.now }
         ensures bytes { WriteAppends unreported unreported result buf.now }
@@ -43,11 +46,11 @@ impl Write for FaultWriter {
         Ok(buf.len())
     }
 
-    /// Fails where no write is left. It counts as none.
+    /// Fails if no write is left. A flush does not count as a write.
     ///
     /// # Errors
     ///
-    /// `ErrorKind::Other` where no write is left.
+    /// `ErrorKind::Other` if no write is left.
     fn flush(&mut self) -> io::Result<()>
         ensures bytes { Keeps unreported unreported }
         ensures outcome { MatchResult result (λ _. writes_left self.old ≢ 0) (λ _.

@@ -1,4 +1,4 @@
-//! What holds of every codec.
+//! Laws about every codec.
 
 ghost use Rattle.ipld_codec.specs.CodecLaws.{EncodedOnce, DecodesEncoded, WritesEncoded, RoundTrip};
 ghost use Rattle.ipld_codec.specs.TreeCodec.{SameTrees, LinksWhereDecoded, LinksOfTree, TreeRoundTrip};
@@ -6,11 +6,12 @@ ghost use Rattle.ipld_codec.specs.TreeCodec.{SameTrees, LinksWhereDecoded, Links
 use crate::traits::Codec;
 use crate::tree_codec::TreeCodec;
 
-/// What holds of every codec. A call does nothing.
+/// States laws about every codec. A call does nothing.
 ///
 /// - No block encodes two values.
-/// - A block decodes to the value that it encodes, and to nothing where it encodes none.
-/// - The block that is written of a value encodes that value, and so it decodes to the same value.
+/// - A block decodes to the value that it encodes. A block that doesn't encode a value does not
+///   decode.
+/// - The block that is written for a value encodes that value, so it decodes to the same value.
 pub fn codec_law<T, C: Codec<T>>()
     ensures encoded_once { EncodedOnce C.Encodes }
     ensures decodes_encoded { DecodesEncoded C.Encodes C.decoded }
@@ -18,11 +19,11 @@ pub fn codec_law<T, C: Codec<T>>()
     ensures round_trip { RoundTrip C.writes C.decoded }
 {}
 
-/// What holds of every codec of trees. A call does nothing.
+/// States laws about every codec of trees. A call does nothing.
 ///
-/// - Values have the same contents exactly where they are the same tree.
-/// - What is written of a value decodes to its tree and to no other.
-/// - A block has links exactly where it decodes, and then each link as often as the tree has it.
+/// - Values have the same contents if and only if they are the same tree.
+/// - The block that is written for a value decodes to its tree and to no other tree.
+/// - A block has links if and only if it decodes. It then has every link as often as the tree does.
 pub fn tree_codec_law<C: TreeCodec>()
     ensures same_trees { SameTrees C.contents }
     ensures round_trip { TreeRoundTrip C.contents C.writes C.decoded }

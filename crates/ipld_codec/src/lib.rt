@@ -1,7 +1,8 @@
 //! Codecs: formats that turn values into blocks of bytes and back, and find the links of a block.
 //!
-//! A type says by [`Links`] and [`Codec`] what its format is, and code that is generic over the codec relies on that. [`RawCodec`]
-//! is the codec of plain bytes. [`TreeCodec`] ties a codec of trees to the trees.
+//! A type defines its format with [`Links`] and [`Codec`], and code that is generic over the codec
+//! relies on them. [`RawCodec`] is the codec of plain bytes. [`TreeCodec`] is for codecs of trees,
+//! with laws about the trees.
 //!
 //! ```
 //! use ipld_codec::{Codec, RawCodec};
@@ -11,9 +12,9 @@
 //! let value: Ipld = RawCodec::decode_from_slice(alloc, &block)?; // the Bytes 01 02
 //! ```
 //!
-//! [`FaultReader`] and [`FaultWriter`] are ends that fail, for tests of codecs.
+//! [`FaultReader`] and [`FaultWriter`] are a reader and a writer that fail, for tests of codecs.
 //!
-//! `ipld_core::codec` has these names too.
+//! `ipld_core::codec` also exports these names.
 #![tactic(auto)]
 
 mod fault_reader;

@@ -8,14 +8,15 @@ use ipld_cid::Cid;
 use std::alloc::Global;
 use std::vec;
 
-/// CIDs, in order. After the last it returns `None` always. It does not allocate.
+/// An iterator over CIDs, in order. After the last CID it always returns `None`. It does not
+/// allocate.
 #[derive(Drop)]
 pub struct LinkIter {
     rest: vec::IntoIter<Cid, Global>,
 }
 
 impl LinkIter {
-    /// These CIDs, in their order, each as often as it stands there.
+    /// Creates an iterator over these CIDs, in their order and with repetitions.
     pub fn new(cids: Vec<Cid>) -> LinkIter
         ensures { cids_left result ≡ cids.items }
     {

@@ -22,29 +22,32 @@ use std::alloc::{AllocError, Global};
 use std::io::{BufRead, Write};
 use std::{error, fmt};
 
-/// The codec of plain bytes: the block of a Bytes is the bytes themselves, and no other value is written. Every block decodes,
-/// and none has links, whatever its bytes look like.
+/// The codec of plain bytes. The block of a Bytes is the bytes themselves, and no other value can
+/// be written. Every block decodes, and blocks never have links, even if their bytes look like
+/// links.
 ///
 /// Its number, 0x55, is that of `raw` in the table of multicodecs.
 #[derive(Clone, Copy, Debug, PartialEq, Eq)]
 pub struct RawCodec;
 
-/// Why a call of [`RawCodec`] failed. Its `Display` is the variant's name, without its content; with `#`, as in `{error:#}`, it is a
-/// sentence that says what is wrong.
+/// The reason why a call of [`RawCodec`] failed.
+///
+/// Its `Display` prints the variant's name without its content. With `#`, for example `{error:#}`,
+/// it prints a sentence that describes the error.
 #[derive(Debug, PartialEq, Eq, Drop)]
 pub enum RawError {
-    /// An allocation failed, here or, as they report it, in the reader or in the writer.
+    /// An allocation failed here, or the reader or the writer reported that one failed in it.
     Memory,
-    /// The reader failed otherwise, or did not end: it is given up after 2^64 - 1 buffers.
+    /// The reader failed for another reason, or did not end within 2^64 - 1 buffers.
     Read,
-    /// The writer failed otherwise. Not all was written.
+    /// The writer failed for another reason. Not all bytes were written.
     Write,
-    /// The value is no Bytes, but of this kind. Nothing was written.
+    /// The value is not a Bytes, but has this kind. Nothing was written.
     NotBytes(IpldKind),
 }
 
 impl RawError {
-    // What is wrong, in a sentence.
+    // Writes the error as a sentence.
     fn describe<W: fmt::Write>(&self, f: &mut fmt::Formatter<W>) -> fmt::Result
         ensures { DisplaysStyledOnOk W.write_str_gives f.old result (sentence_of self.now) f.new }
     {
@@ -97,7 +100,7 @@ impl Links for RawCodec {
 
     ghost links_failure_of = { raw_failure };
 
-    /// No links. It does not allocate and never fails.
+    /// Returns no links, whatever the bytes are. Does not allocate and never fails.
     fn links(alloc: Global, _bytes: &[u8]) -> Result<LinkIter, RawError>
         ensures ok { IfOk result (λ links. raw_found _bytes.now ≡ Some (links_left links)) }
         ensures err { IfErr result (λ error. MatchOption (raw_failure error)
@@ -130,14 +133,15 @@ impl Codec<Ipld> for RawCodec {
 
     ghost failure_of = { raw_failure };
 
-    /// Reads the reader to its end, and returns a Bytes of what it gave. A read that was interrupted is tried again.
+    /// Reads the reader to its end, and returns its bytes as a Bytes. An interrupted read is tried
+    /// again.
     ///
     /// # Errors
     ///
-    /// - `Memory` where an allocation failed, here or, as the reader reports, in it.
-    /// - `Read` where the reader failed otherwise, or 2^64 - 1 buffers weren't all.
+    /// - `Memory` if an allocation fails here, or if the reader reports that one failed in it.
+    /// - `Read` if the reader fails for another reason, or does not end within 2^64 - 1 buffers.
     ///
-    /// The reader then has given some of its bytes, from the first on.
+    /// After an error, some of the reader's bytes may have been read, from the first on.
     fn decode<R: BufRead>(alloc: Global, reader: &mut R) -> Result<Ipld, RawError>
         ensures ok { IfOk result (λ value. IfSome (R.remaining reader.old) (λ block.
             raw_decoded block ≡ Some (tree_of value))) }
@@ -153,15 +157,19 @@ impl Codec<Ipld> for RawCodec {
         Ok(Ipld::Bytes(read_to_end(alloc, reader)?))
     }
 
-    /// Writes the bytes of a Bytes, and doesn't flush. A write that was interrupted is tried again. It does not allocate.
+    /// Writes the bytes of a Bytes. Does not flush the writer and does not allocate. An interrupted
+    /// write is tried again.
     ///
     /// # Errors
     ///
-    /// - `NotBytes` for a value of another kind, and for no other. The writer is then as it was.
-    /// - `Memory` where the writer reports that an allocation failed, as a vector does.
-    /// - `Write` where the writer failed otherwise or took no byte, or 2^64 - 1 writes didn't do.
+    /// - `NotBytes` for a value of another kind, and only for such a value. The writer is then
+    ///   unchanged.
+    /// - `Memory` if the writer reports that an allocation failed. A vector reports this.
+    /// - `Write` if the writer fails for another reason or takes no byte, or if 2^64 - 1 writes are
+    ///   not enough.
     ///
-    /// After `Memory` and `Write` some of the bytes may have been written, from the first on, but never all.
+    /// After `Memory` and `Write`, some of the bytes may have been written, from the first on, but
+    /// never all of them.
     fn encode<W: Write>(_alloc: Global, writer: &mut W, value: &Ipld) -> Result<(), RawError>
         ensures ok { OnOk result (Writes (raw_written (tree_of value.now)) (W.contents writer.old)
             (W.contents writer.new)) }
@@ -179,11 +187,11 @@ impl Codec<Ipld> for RawCodec {
         write_block(writer, bytes)
     }
 
-    /// The bytes, as a Bytes. It allocates once, and of no bytes nothing.
+    /// Returns the bytes as a Bytes. Allocates once, or not at all for empty bytes.
     ///
     /// # Errors
     ///
-    /// `Memory` where the allocation failed, and no other.
+    /// Only `Memory`, if the allocation fails.
     fn decode_from_slice(alloc: Global, bytes: &[u8]) -> Result<Ipld, RawError>
         ensures ok { IfOk result (λ value. raw_decoded bytes.now ≡ Some (tree_of value)) }
         ensures err { IfErr result (λ error. MatchOption (raw_failure error)
@@ -194,12 +202,12 @@ impl Codec<Ipld> for RawCodec {
         Ok(Ipld::Bytes(copy_of(alloc, bytes)?))
     }
 
-    /// The bytes of a Bytes. It allocates once, and of no bytes nothing.
+    /// Returns the bytes of a Bytes. Allocates once, or not at all for empty bytes.
     ///
     /// # Errors
     ///
-    /// - `NotBytes` for a value of another kind, and for no other.
-    /// - `Memory` where the allocation failed.
+    /// - `NotBytes` for a value of another kind, and only for such a value.
+    /// - `Memory` if the allocation fails.
     fn encode_to_vec(alloc: Global, value: &Ipld) -> Result<Vec<u8>, RawError>
         ensures ok { IfOk result (λ bytes. raw_written (tree_of value.now) ≡ Some bytes.items) }
         ensures err { IfErr result (λ error. MatchOption (raw_failure error)
@@ -233,7 +241,7 @@ impl TreeCodec for RawCodec {
     ghost links_of_tree = { raw_links_of_tree };
 }
 
-// A copy of bytes. Of none nothing is allocated.
+// Returns a copy of the bytes. Does not allocate for empty bytes.
 fn copy_of(alloc: Global, bytes: &[u8]) -> Result<Vec<u8>, RawError>
     ensures ok { IfOk result (λ copy. copy.items ≡ bytes.now) }
     ensures err { IfErr result (λ error. error ≡ RawError.Memory) }

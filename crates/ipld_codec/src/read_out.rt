@@ -8,7 +8,7 @@ use crate::raw::RawError;
 use std::alloc::Global;
 use std::io::{BufRead, ErrorKind};
 
-// The bytes that the reader still has. One that never ends has failed.
+// Returns the bytes that the reader still has. A reader that never ends counts as failed.
 #[tactic(auto, using(crate::proofs::Buffers::none_taken, crate::proofs::Buffers::buffer_taken, crate::proofs::Buffers::all_taken))]
 pub(crate) fn read_to_end<R: BufRead>(alloc: Global, reader: &mut R) -> Result<Vec<u8>, RawError>
     ensures ok { IfOk result (λ bytes. IsRead (R.remaining reader.old)
@@ -25,8 +25,8 @@ pub(crate) fn read_to_end<R: BufRead>(alloc: Global, reader: &mut R) -> Result<V
     Err(RawError::Read)
 }
 
-// Takes what the reader has buffered, and returns whether that was its end. A read that was interrupted takes nothing, nor does one
-// that failed.
+// Takes the bytes that the reader has buffered, and returns whether this was its end. An
+// interrupted read takes no bytes, and neither does a failed one.
 fn take_buffer<R: BufRead>(reader: &mut R, bytes: &mut Vec<u8>) -> Result<bool, RawError>
     ensures ok { IfOk result (λ at_end. TakesBuffer at_end (R.remaining reader.old)
         (R.remaining reader.new) bytes.old.items bytes.new.items) }
@@ -50,7 +50,7 @@ fn take_buffer<R: BufRead>(reader: &mut R, bytes: &mut Vec<u8>) -> Result<bool, 
     Ok(count == 0)
 }
 
-// What a reader's error means, or nothing where the read was only interrupted.
+// Returns the meaning of a reader's error, or nothing if the read was only interrupted.
 fn error_of_read(kind: ErrorKind) -> Option<RawError>
     ensures { result ≡ read_error kind }
 {

@@ -1,4 +1,4 @@
-//! What a codec is.
+//! The traits of codecs.
 
 ghost use Rattle.std.specs.Prelude.{◌≡◌, ℕ, List, Option, Some, None, IfOk, OnOk, IfErr, IfSome, MatchOption};
 ghost use Rattle.ipld_cid.specs.Cid.{Link};
@@ -12,20 +12,21 @@ use std::io::{BufRead, Write};
 
 /// A format whose blocks have links.
 pub trait Links {
-    /// Why a block has no links.
+    /// The reason why the links of a block can't be found.
     type LinksError: Drop;
 
     // The links of a block, or nothing if the bytes are not a block of the format.
     ghost found: { List ℕ → Option (List Link) };
 
-    // which failure an error reports, or none where it reports that the bytes are no block
+    // the failure that an error reports, or nothing if it reports that the bytes are not a block
     ghost links_failure_of: { Self.LinksError → Option Failure };
 
-    /// The links of a block, in the order that the format says, each as often as it stands there.
+    /// Returns the links of a block, in the order that the format defines and with repetitions.
     ///
     /// # Errors
     ///
-    /// An allocation failed, or the bytes are no block of the format. Which error reports which, the format says.
+    /// An error if an allocation fails, or if the bytes are not a block of the format. The format
+    /// defines which error reports which.
     fn links(alloc: Global, bytes: &[u8]) -> Result<LinkIter, Self::LinksError>
         ensures ok { IfOk result (λ links. found bytes.now ≡ Some (links_left links)) }
         ensures err { IfErr result (λ error. MatchOption (links_failure_of error)
@@ -34,11 +35,14 @@ pub trait Links {
 
 /// A format that turns values of a type into blocks of bytes and blocks back into values.
 ///
-/// A block encodes at most one value. What [`Codec::encode`] writes of a value encodes that value, so that it decodes to the same
-/// value, whatever its capacities. Which values can be written and which bytes are a block, the format says; its errors
-/// distinguish a value or a block that isn't one from a failure: an allocation failed, or the reader or the writer did.
+/// A block encodes at most one value. The block that [`Codec::encode`] writes for a value encodes
+/// that value, so it decodes to the same value, whatever its capacities.
 ///
-/// Nothing here is called on a value of the codec: a codec is named by its type.
+/// The format defines which values can be written and which bytes are a block. Its errors
+/// distinguish an invalid value or block from a failure: of an allocation, of the reader or of the
+/// writer.
+///
+/// No function is called on a value of the codec. A codec is named by its type.
 ///
 /// # Examples
 ///
@@ -56,19 +60,19 @@ pub trait Links {
 /// }
 /// ```
 pub trait Codec<T>: Links {
-    /// The number of the format in the table of multicodecs, which stands in the CIDs of its blocks.
+    /// The number of the format in the table of multicodecs. It is part of the CIDs of its blocks.
     const CODE: u64;
 
-    /// Why a block or a value is rejected.
+    /// The reason why a block or a value is rejected.
     type Error: Drop;
 
     // the code of the format among the multicodecs
     ghost CODE: { ℕ };
 
-    // what a value stands for, without capacities
+    // the models of values, without capacities
     ghost Contents: { Type 0 };
 
-    // what a value stands for
+    // the model of a value
     ghost contents: { T → Contents };
 
     // True if the bytes are a block of this value (IPLD, Codecs).
@@ -77,20 +81,21 @@ pub trait Codec<T>: Links {
     // The value that a block decodes to, or nothing if the bytes are not a block (IPLD, Codecs).
     ghost decoded: { List ℕ → Option Contents };
 
-    // The block that is written of a value, or nothing if none can be (IPLD, Codecs).
+    // The block written for a value, or nothing if it can't be written (IPLD, Codecs).
     ghost writes: { Contents → Option (List ℕ) };
 
-    // which failure an error reports, or none where it reports that the value can't be written or that the bytes are no block
+    // the failure that an error reports, or nothing if it reports that the value can't be written
+    // or that the bytes are not a block
     ghost failure_of: { Self.Error → Option Failure };
 
-    /// Reads the reader to its end, and decodes the block that it gave.
+    /// Reads the reader to its end, and decodes the block that it yields.
     ///
-    /// A reader that never ends is given up at last: this counts as a failure of the reader.
+    /// A reader that never ends is abandoned eventually. This counts as a failure of the reader.
     ///
     /// # Errors
     ///
-    /// An allocation failed, the reader failed, or what it gave is no block of the format. How far the reader was read is then not
-    /// said.
+    /// An error if an allocation fails, if the reader fails, or if its bytes are not a block of the
+    /// format. The position of the reader is then unspecified.
     fn decode<R: BufRead>(alloc: Global, reader: &mut R) -> Result<T, Self::Error>
         ensures ok { IfOk result (λ value. IfSome (R.remaining reader.old) (λ block.
             decoded block ≡ Some (contents value))) }
@@ -99,23 +104,25 @@ pub trait Codec<T>: Links {
         ensures err { IfErr result (λ error. MatchOption (failure_of error)
             (IfSome (R.remaining reader.old) (λ block. decoded block ≡ None)) (MemoryOr reading)) };
 
-    /// Writes the block of a value, and nothing else. It isn't flushed.
+    /// Writes the block of a value, and no other bytes. Does not flush the writer.
     ///
     /// # Errors
     ///
-    /// An allocation failed, the writer failed, or the value can't be written in the format. How much was written is then not said,
-    /// but where a codec says it.
+    /// An error if an allocation fails, if the writer fails, or if the value can't be written in
+    /// the format. It is then unspecified how many bytes were written, unless the codec specifies
+    /// it.
     fn encode<W: Write>(alloc: Global, writer: &mut W, value: &T) -> Result<(), Self::Error>
         ensures ok { OnOk result (Writes (writes (contents value.now)) (W.contents writer.old)
             (W.contents writer.new)) }
         ensures err { IfErr result (λ error. MatchOption (failure_of error)
             (writes (contents value.now) ≡ None) (MemoryOr writing)) };
 
-    /// Decodes a block, all of the bytes: what [`Codec::decode`] returns for a reader over them.
+    /// Decodes a block that consists of all the bytes. Returns the same as [`Codec::decode`] for a
+    /// reader over them.
     ///
     /// # Errors
     ///
-    /// An allocation failed, or the bytes are no block of the format.
+    /// An error if an allocation fails, or if the bytes are not a block of the format.
     fn decode_from_slice(alloc: Global, bytes: &[u8]) -> Result<T, Self::Error>
         ensures ok { IfOk result (λ value. decoded bytes.now ≡ Some (contents value)) }
         ensures err { IfErr result (λ error. MatchOption (failure_of error)
@@ -125,12 +132,13 @@ pub trait Codec<T>: Links {
         Self::decode(alloc, &mut reader)
     }
 
-    /// The block of a value: what [`Codec::encode`] writes.
+    /// Returns the block of a value, which is the bytes that [`Codec::encode`] writes.
     ///
     /// # Errors
     ///
-    /// An allocation failed, or the value can't be written in the format. Where the vector found no memory, the codec may report that as
-    /// a failed allocation or as a failure of the writer.
+    /// An error if an allocation fails, or if the value can't be written in the format. If the
+    /// vector is out of memory, the codec may report a failed allocation or a failure of the
+    /// writer.
     fn encode_to_vec(alloc: Global, value: &T) -> Result<Vec<u8>, Self::Error>
         ensures ok { IfOk result (λ bytes. writes (contents value.now) ≡ Some bytes.items) }
         ensures err { IfErr result (λ error. MatchOption (failure_of error)
@@ -147,6 +155,6 @@ pub trait Codec<T>: Links {
     // the law that a block decodes to the value that it encodes
     ghost decodes_encoded: { DecodesEncoded Encodes decoded };
 
-    // the law that what is written encodes the value
+    // the law that the block that is written encodes the value
     ghost writes_encoded: { WritesEncoded Encodes writes };
 }

@@ -1,24 +1,25 @@
-//! What ties a codec of trees to the trees.
+//! The trait that relates a codec of trees to the trees.
 
 ghost use Rattle.ipld_codec.specs.TreeCodec.{SameTrees, LinksWhereDecoded, LinksOfTree};
 
 use crate::traits::Codec;
 use ipld_tree::Ipld;
 
-/// A codec of trees, all of whose promises hold of the trees themselves.
+/// A codec of trees, whose promises are about the trees themselves.
 ///
-/// [`Codec`] says what it says of a value's contents, which a codec chooses, and [`Links`](crate::Links) says nothing of values. A codec
-/// whose contents leave out a part of the tree, or whose links are others than the tree's, has no such laws:
+/// [`Codec`] only promises something about a value's contents, which a codec chooses.
+/// [`Links`](crate::Links) promises nothing about values. A codec does not have the following laws
+/// if its contents leave out a part of the tree, or if its links differ from the tree's:
 ///
-/// - values have the same contents exactly where they are the same tree;
-/// - a block has links exactly where it decodes, and then each as often as the tree has it.
+/// - Values have the same contents if and only if they are the same tree.
+/// - A block has links if and only if it decodes. It then has every link as often as the tree does.
 ///
-/// There is no function to write.
+/// The trait does not have functions to implement.
 pub trait TreeCodec: Codec<Ipld> {
     // the law that the contents of a value are its tree
     ghost same_trees: { SameTrees Self.contents };
 
-    // the law that a block has links where it decodes
+    // the law that a block has links if and only if it decodes
     ghost links_where_decoded: { LinksWhereDecoded Self.decoded Self.found };
 
     // the law that the links of a block are those of its tree

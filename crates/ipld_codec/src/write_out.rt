@@ -7,7 +7,7 @@ ghost use Rattle.ipld_codec.specs.WriteOut.{WritesPart, write_error};
 use crate::raw::RawError;
 use std::io::{ErrorKind, Write};
 
-// Writes all of the bytes. A write that was interrupted is tried again.
+// Writes all of the bytes. An interrupted write is tried again.
 #[tactic(auto, using(crate::proofs::Pieces::nothing_written, crate::proofs::Pieces::piece_written, crate::proofs::Pieces::none_written, crate::proofs::Pieces::all_written))]
 pub(crate) fn write_block<W: Write>(writer: &mut W, block: &[u8]) -> Result<(), RawError>
     ensures ok { OnOk result (Appends (W.contents writer.old) (W.contents writer.new) block.now) }
@@ -29,7 +29,7 @@ pub(crate) fn write_block<W: Write>(writer: &mut W, block: &[u8]) -> Result<(), 
     Err(RawError::Write)
 }
 
-// Writes some of the bytes, and returns how many: none where the write was interrupted.
+// Writes some of the bytes, and returns how many. An interrupted write writes zero bytes.
 #[tactic(auto, using(crate::proofs::Pieces::appended_none, crate::proofs::Pieces::kept_for_none))]
 fn write_piece<W: Write>(writer: &mut W, rest: &[u8]) -> Result<usize, RawError>
     ensures ok { IfOk result (λ count. (count ≤ length rest.now) × Appends (W.contents writer.old)
@@ -47,7 +47,7 @@ fn write_piece<W: Write>(writer: &mut W, rest: &[u8]) -> Result<usize, RawError>
     }
 }
 
-// What a writer's error means, or nothing where the write was only interrupted.
+// Returns the meaning of a writer's error, or nothing if the write was only interrupted.
 fn error_of_write(kind: ErrorKind) -> Option<RawError>
     ensures { result ≡ write_error kind }
 {

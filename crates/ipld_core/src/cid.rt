@@ -12,7 +12,7 @@ pub use ipld_cid::{
     Cid, CidError, CidGeneric, DAG_CBOR, DAG_PB, IDENTITY, Multihash, RAW, SHA2_256, Version, laws,
 };
 
-/// What the writing of CIDs as typed values rests on.
+/// The name that marks a CID when typed values are written and read.
 pub mod serde {
     pub use ipld_cid::CID_SERDE_PRIVATE_IDENTIFIER;
 }

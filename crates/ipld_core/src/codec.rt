@@ -1,7 +1,7 @@
 //! Codecs: formats that turn values into blocks of bytes and back, and find the links of a block.
 //!
-//! A type says by [`Links`] and [`Codec`] what its format is, and code that is generic over the codec relies on that. [`RawCodec`]
-//! is the codec of plain bytes.
+//! A type specifies its format by [`Links`] and [`Codec`], and code that is generic over the codec
+//! relies on that. [`RawCodec`] is the codec of plain bytes.
 //!
 //! ```
 //! use ipld_core::codec::{Codec, RawCodec};
@@ -11,7 +11,7 @@
 //! let value: Ipld = RawCodec::decode_from_slice(alloc, &block)?; // the Bytes 01 02
 //! ```
 //!
-//! [`FaultReader`] and [`FaultWriter`] are ends that fail, for tests of codecs.
+//! [`FaultReader`] and [`FaultWriter`] are a reader and a writer that fail, for tests of codecs.
 
 pub use ipld_codec::{
     Codec, FaultReader, FaultWriter, LinkIter, Links, RawCodec, RawError, TreeCodec, laws,

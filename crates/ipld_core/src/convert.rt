@@ -1,4 +1,4 @@
-//! Conversions between values of the IPLD data model and the types of Rust.
+//! Conversions between values of the IPLD data model and Rust types.
 //!
 //! ```
 //! use ipld_core::convert::ConversionError;

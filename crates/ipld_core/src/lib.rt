@@ -1,9 +1,11 @@
 //! The IPLD data model: content identifiers, values, conversions, tokens, links and codecs.
 //!
 //! - [`cid`]: content identifiers (CIDs), their bytes and texts.
-//! - [`ipld`]: the value [`ipld::Ipld`], its indexes, its walk and its links; the macro [`ipld!`] makes one.
-//! - [`convert`]: conversions between such values and the types of Rust.
-//! - [`serde`]: typed values written as trees and read back, values as tokens, and the links in them.
+//! - [`ipld`]: the value [`ipld::Ipld`], its indexes, its walk and its links. The macro [`ipld!`]
+//!   creates a value.
+//! - [`convert`]: conversions between such values and Rust types.
+//! - [`serde`]: typed values written as trees and read back, values as tokens, and the links in
+//!   them.
 //! - [`codec`]: formats that turn values into blocks of bytes and back.
 //!
 //! # Examples
@@ -20,7 +22,7 @@
 //! tree.references(alloc, &mut links)?; // three times that CID
 //! ```
 //!
-//! An encoder for any codec of any type, whose contract is that of the codec:
+//! An encoder for any codec of any type. Its contract is the contract of the codec:
 //!
 //! ```
 //! use ipld_core::codec::{Codec, RawCodec};
@@ -50,7 +52,7 @@
 //! }
 //! ```
 //!
-//! What allocates is given the allocator and returns a `Result`; nothing stops the process.
+//! Calls that allocate take the allocator and return a `Result`.
 #![tactic(auto)]
 
 pub mod cid;

@@ -1,8 +1,9 @@
-//! Typed values written as trees and read back, values as tokens, and what is read from tokens.
+//! Typed values written as trees and read back, values as tokens, and the reading of tokens.
 //!
-//! [`to_ipld`] writes a value of a type that is [`Serialize`] as the tree that the type says, and [`from_ipld`] reads a tree as a type
-//! that is [`Deserialize`]; values of a [`Lawful`] type round-trip. [`read_ipld`] reads a tree from a [`TokenSource`], and
-//! [`ExtractLinks`] finds the links of a value in tokens without building the value.
+//! [`to_ipld`] writes a value of a [`Serialize`] type as the tree that the type specifies.
+//! [`from_ipld`] reads a tree as a value of a [`Deserialize`] type. Values of a [`Lawful`] type
+//! round-trip. [`read_ipld`] reads a tree from a [`TokenSource`]. [`ExtractLinks`] finds the links
+//! of a value in tokens without building the value.
 //!
 //! ```
 //! use ipld_core::serde::{IpldTokens, read_ipld, to_ipld};

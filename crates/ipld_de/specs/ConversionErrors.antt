@@ -1,4 +1,4 @@
--- The error of a conversion, as one of reading: the kind found, or a number out of range.
+-- The reading error of a conversion error: the kind found, or a number out of range.
 use Rattle.ipld_tree.specs.declared.convert.ConversionError.{ConversionError}
 use Rattle.ipld_tree.specs.declared.convert.ConversionError.TheVariants.{WrongIpldKind, FromIpld}
 use Rattle.ipld_ser.specs.declared.error.SerdeError.{SerdeError}

@@ -1,4 +1,4 @@
--- What the cursors hold, and what each of their steps reads.
+-- The contents of the cursors, and the readings of their steps.
 use Rattle.std.specs.Prelude.{◌≡◌, ℕ, zero, suc, Option, Some, None, option_map, Result, Ok, Err, string_bytes}
 use Rattle.std.specs.Vec.Iter.{into_iter_items}
 use Rattle.ipld_tree.specs.Tree.{Tree, text, Items, no_items, item, Members, no_members, member}
@@ -11,7 +11,8 @@ use Rattle.ipld_de.specs.declared.map.MapDeserializer.{MapDeserializer}
 use Rattle.ipld_de.specs.declared.variants.EnumDeserializer.{EnumDeserializer}
 use Rattle.ipld_de.specs.declared.variants.VariantDeserializer.{VariantDeserializer}
 
--- nothing left, or how many are
+-- The result at the end of a cursor: success if nothing is left, and otherwise `Leftover` with the
+-- number that is left.
 abbrev pub ended : ℕ → Result (Unit {0}) SerdeError
 ended zero = Ok tt
 ended (suc n) = Err (Leftover (suc n))
@@ -22,22 +23,22 @@ ended (suc n) = Err (Leftover (suc n))
 abbrev pub left : SeqDeserializer → Items
 left c = items_of (into_iter_items c.items)
 
--- The result of the next item: what it reads as, or nothing at the end.
+-- The result of the next item: its reading, or `None` at the end.
 abbrev pub read_next : {C : Type 0} → (Tree → Option C) → Items → Option (Option C)
 read_next reads no_items = Some None
 read_next reads (item t ts) = option_map Some (reads t)
 
--- the error of the next item, where one has to be there
+-- True if `e` is the error of the next item, or `WrongLength` at the end.
 abbrev pub FirstError : (Tree → SerdeError → Type 0) → Items → SerdeError → Type 0
 FirstError error no_items e = e ≡ WrongLength
 FirstError error (item t ts) e = error t e
 
--- what the next item reads as, where there is one
+-- the reading of the next item, or nothing at the end
 abbrev pub read_first : {C : Type 0} → (Tree → Option C) → Items → Option C
 read_first reads no_items = None
 read_first reads (item t ts) = reads t
 
--- the error of the next item
+-- True if there is a next item and `e` is its error.
 abbrev pub NextError : (Tree → SerdeError → Type 0) → Items → SerdeError → Type 0
 NextError error no_items e = ⊥
 NextError error (item t ts) e = error t e
@@ -53,16 +54,16 @@ after_item (item t ts) = ts
 abbrev pub entries_left : MapDeserializer → Members
 entries_left c = members_of c.entries
 
--- The value that waits for its turn, after its key was taken.
+-- The value that is read next, after its key was taken, if there is one.
 abbrev pub waiting : MapDeserializer → Option Tree
 waiting c = option_map tree_of c.value
 
--- The result of the next key: what it reads as, as a string, or nothing at the end.
+-- The result of the next key: the reading of it in a String, or `None` at the end.
 abbrev pub read_key : {C : Type 0} → (Tree → Option C) → Members → Option (Option C)
 read_key reads no_members = Some None
 read_key reads (member k t ms) = option_map Some (reads (text k))
 
--- the error of the next key, seen as a String
+-- True if there is a next key and `e` is the error of the String that it is.
 abbrev pub KeyError : (Tree → SerdeError → Type 0) → Members → SerdeError → Type 0
 KeyError error no_members e = ⊥
 KeyError error (member k t ms) e = error (text k) e
@@ -72,17 +73,17 @@ abbrev pub after_member : Members → Members
 after_member no_members = no_members
 after_member (member k t ms) = ms
 
--- the value that waits once the next key was taken: at the end the one that waited before
+-- the value to be read after the next key was taken: at the end, the one from before
 abbrev pub waiting_after : Members → Option Tree → Option Tree
 waiting_after no_members before = before
 waiting_after (member k t ms) before = Some t
 
 -- ---- enums
 
--- the variant's name, and its content where there is some
+-- the variant's name, and its content if it has one
 abbrev pub variant_of : EnumDeserializer → Variant
 variant_of c = (string_bytes c.variant, option_map tree_of c.content)
 
--- the variant's content, where there is some
+-- the variant's content, if it has one
 abbrev pub content_of : VariantDeserializer → Option Tree
 content_of c = option_map tree_of c.content

@@ -1,4 +1,5 @@
--- Enums described once: the variants in order, each by its name and what it holds (serde's form of an enum in the IPLD data model).
+-- Enums described once: the variants in order, with their names and contents (serde's form of an
+-- enum in the IPLD data model).
 use Rattle.std.proofs.Common.{◌≡◌, ◌⊎◌, inl, inr, ℕ, List, [], ◌∷◌, Bool, true, false, cond, Option, Some, None, Ok, Err, option_map, option_and_then, if◌then◌else◌, codes, refl, ap, subst, ◌∙◌}
 use Rattle.std.specs.Prelude.{⊤}
 use Rattle.std.specs.Result.{result_ok}
@@ -16,7 +17,8 @@ use Rattle.ipld_de.specs.Lemmas.StructLaw.{named_apart}
 use Rattle.ipld_de.specs.Law.{RoundTrip}
 use Rattle.ipld_de.specs.Reading.{IsCustom, ContentError}
 
--- a variant's value reads back from what it is written as: the variant's name, and its content where there is some
+-- True if the value `h` of a variant reads back from `t`, which has the name of the variant and its
+-- content, if any.
 pub record VariantBack {H C : Type 0} (image : H → Option Tree) (contents : H → C) (reads : Option Tree → Option C) (plain : H → Type 0) (name : List ℕ) (h : H) (t : Tree) : Type 0 where
   pub content : Option Tree
   pub named : variant_in t ≡ Ok (name, content)
@@ -25,7 +27,7 @@ pub record VariantBack {H C : Type 0} (image : H → Option Tree) (contents : H 
   pub same_image : (w : H) → contents w ≡ reading → image w ≡ Some t
   pub same : plain h → contents h ≡ reading
 
--- a variant: its name, and how what it holds is written and read
+-- a variant: its name, and how its value is written and read
 pub record Variant : Type 1 where
   pub name : List ℕ
   pub Held : Type 0
@@ -45,7 +47,7 @@ unit_back name h t is =
     subst (λ u. VariantBack (λ (v : Unit {0}). Some (text name)) (λ v. v) (λ content. result_ok (unit_in content)) (λ v. ⊤) name h u) same
     (record { content = None; named = refl; reading = tt; read = refl; same_image = λ w is. refl; same = λ p. refl })
 
--- a variant that holds nothing
+-- a variant without content
 abbrev pub unit : List ℕ → Variant
 unit name = record {
   name = name;
@@ -80,7 +82,7 @@ holds_back {image = image} {contents = contents} {reads = reads} {plain = plain}
       same = r.same;
     })
 
--- a variant that holds a value, or several as a tuple or as a struct
+-- a variant that holds one value, or several in a tuple or a struct
 abbrev pub holds : {V : Type 0} → List ℕ → Known V → Variant
 holds {V} name known = record {
   name = name;
@@ -95,18 +97,19 @@ holds {V} name known = record {
   back = holds_back known.law name;
 }
 
--- a named value of a variant, of a type of which this is known
+-- A named value of a variant: its name, the description of its type, and the contents for a missing
+-- name, if any.
 pub record Named : Type 1 where
   pub name : List ℕ
   pub Got : Type 0
   pub known : Known Got
   pub missing : Option known.Contents
 
--- a value whose name has to be there
+-- a value whose name is required
 abbrev pub named : {A : Type 0} → List ℕ → Known A → Named
 named {A} name known = record { name = name; Got = A; known = known; missing = None }
 
--- a value that is nothing where its name is missing
+-- an optional value, which is `None` if its name is missing
 abbrev pub named_optional : {A : Type 0} → List ℕ → Known A → Named
 named_optional {A} name known = record {
   name = name;
@@ -115,11 +118,11 @@ named_optional {A} name known = record {
   missing = Some None;
 }
 
--- the field of this name and this type
+-- the field with the name and the type of the named value `n`
 abbrev pub field_of : {V : Type 0} → (n : Named) → (V → n.Got) → Field V
 field_of n get = record { name = n.name; Got = n.Got; get = get; known = n.known; missing = n.missing }
 
--- the values of these names, in nested pairs
+-- the type of the values of these names, in nested pairs
 abbrev pub ValuesFrom : Named → List {1} Named → Type 0
 ValuesFrom n [] = n.Got
 ValuesFrom n (m ∷ ms) = n.Got × ValuesFrom m ms
@@ -136,18 +139,18 @@ abbrev pub fields_named : (ns : List {1} Named) → List {1} (Field (Values ns))
 fields_named [] = []
 fields_named (n ∷ ns) = fields_from_values n ns (λ v. v)
 
--- a variant that holds named values. `λ v. refl` shows that no two names are equal
+-- A variant that holds named values. `λ v. refl` proves that no two names are equal.
 abbrev pub has_fields : List ℕ → (ns : List {1} Named) → ((v : Values ns) → named_apart (fields_of (fields_named ns) v) ≡ true) → Variant
 has_fields name ns apart = holds name (structure (fields_named ns) apart)
 
 -- ---- the variants of an enum
 
--- what one of them holds
+-- the value of one of the variants
 abbrev pub OneOf : List {1} Variant → Type 0
 OneOf [] = ⊥
 OneOf (c ∷ cs) = c.Held ⊎ OneOf cs
 
--- what it stands for
+-- the contents of the value of one of the variants
 abbrev pub OneContents : List {1} Variant → Type 0
 OneContents [] = ⊥
 OneContents (c ∷ cs) = c.Contents ⊎ OneContents cs
@@ -157,7 +160,7 @@ one_contents [] o = absurd o
 one_contents (c ∷ cs) (inl h) = inl (c.contents h)
 one_contents (c ∷ cs) (inr o) = inr (one_contents cs o)
 
--- what it is written as
+-- the image of the value of one of the variants
 abbrev pub one_image : (cs : List {1} Variant) → OneOf cs → Option Tree
 one_image [] o = absurd o
 one_image (c ∷ cs) (inl h) = c.image h
@@ -173,23 +176,24 @@ OnePlain [] o = absurd o
 OnePlain (c ∷ cs) (inl h) = c.plain h
 OnePlain (c ∷ cs) (inr o) = OnePlain cs o
 
--- what the variant of a name reads from its content
+-- the reading of the content of the variant `name`, or nothing for an unknown name
 abbrev pub one_reads : (cs : List {1} Variant) → List ℕ → Option Tree → Option (OneContents cs)
 one_reads [] name content = None
 one_reads (c ∷ cs) name content = if bytes_eq name c.name then option_map inl (c.reads content) else option_map inr (one_reads cs name content)
 
--- its error
+-- True if `e` is the error of the variant `name`, or "unknown variant" for an unknown name.
 abbrev pub OneReadError : List {1} Variant → List ℕ → Option Tree → SerdeError → Type 0
 OneReadError [] name content e = IsCustom (codes "unknown variant") e
 OneReadError (c ∷ cs) name content e =
     ((bytes_eq name c.name ≡ true) × c.read_error content e) ⊎ ((bytes_eq name c.name ≡ false) × OneReadError cs name content e)
 
--- whether none of them has this name
+-- Returns true if no variant has this name.
 abbrev pub none_named : List ℕ → List {1} Variant → Bool
 none_named name [] = true
 none_named name (c ∷ cs) = if bytes_eq c.name name then false else none_named name cs
 
--- whether no two of them have one name; where the names are written out, `refl` shows it
+-- Returns true if no two variants have the same name. If the names are written out, `refl` proves
+-- it.
 abbrev pub variants_apart : List {1} Variant → Bool
 variants_apart [] = true
 variants_apart (c ∷ cs) = if none_named c.name cs then variants_apart cs else false
@@ -202,7 +206,7 @@ not_here : (a b : Bool) → cond a false b ≡ true → (a ≡ false) × (b ≡ 
 not_here true b is = absurd cc
 not_here false b is = (refl, is)
 
--- one of the variants reads back from what it is written as
+-- True if the value `o` of one of the variants reads back from its image `t`.
 record OneBack (cs : List {1} Variant) (o : OneOf cs) (t : Tree) : Type 0 where
   name : List ℕ
   content : Option Tree
@@ -264,7 +268,8 @@ enum_round_trip cs one apart = record {
       };
 }
 
--- an enum of these variants, each value of which is one of them. `refl` shows that no two names are equal
+-- An enum with these variants. `one` returns the variant of a value. `refl` proves that no two
+-- names are equal.
 abbrev pub enumeration : {V : Type 0} (cs : List {1} Variant) (one : V → OneOf cs) → variants_apart cs ≡ true → Known V
 enumeration cs one apart = record {
   Contents = OneContents cs;

@@ -1,4 +1,5 @@
--- Enums (serde's form of an enum in the IPLD data model): a string is the name of a variant without content, a map of one key a name with its content.
+-- Enums in serde's form in the IPLD data model: a string is the name of a variant without content,
+-- and a map of one key is a name with its content.
 use Rattle.std.proofs.Common.{◌≡◌, ℕ, List, Option, Some, None, Result, Ok, Err, option_map, option_and_then, refl}
 use Rattle.std.specs.Result.{result_ok}
 use Rattle.ipld_tree.specs.Tree.{Tree}
@@ -12,16 +13,18 @@ use Rattle.ipld_de.specs.Law.{ReadsBack, RoundTrip}
 abbrev pub enum_reading : {C : Type 0} → (List ℕ → Option Tree → Option C) → Tree → Option C
 enum_reading variant t = option_and_then (λ v. variant v.0 v.1) (result_ok (variant_in t))
 
--- the error of a variant of this name and this content, where there is a variant
+-- True if `e` is the error of the variant with its name and content, or, without a variant, the
+-- error of the tree.
 abbrev pub VariantError : (List ℕ → Option Tree → SerdeError → Type 0) → Result Variant SerdeError → SerdeError → Type 0
 VariantError variant (Ok v) e = variant v.0 v.1 e
 VariantError variant (Err other) e = e ≡ other
 
--- the error of an enum: that of a tree that has no variant, else that of the variant
+-- True if `e` is the error of an enum: that of the tree if it does not have a variant, and
+-- otherwise that of the variant.
 abbrev pub EnumReadError : (List ℕ → Option Tree → SerdeError → Type 0) → Tree → SerdeError → Type 0
 EnumReadError variant t e = VariantError variant (variant_in t) e
 
--- what a variant with content is written as: its content reads back
+-- True if `t` is the tree of the variant `name` with content, and `v` reads back from the content.
 pub record VariantRoundTrip {V C : Type 0} (image : V → Option Tree) (contents : V → C) (reads : Tree → Option C) (plain : V → Type 0) (name : List ℕ) (v : V) (t : Tree) : Type 0 where
   pub tree : Tree
   pub same_tree : variant_tree name tree ≡ t
@@ -31,7 +34,7 @@ beneath : (o : Option Tree) (name : List ℕ) (t : Tree) → option_map (variant
 beneath None name t is = absurd cc
 beneath (Some u) name t is = (u, refl, cc)
 
--- by the law of the content
+-- A variant with content reads back if the type of the content round-trips.
 pub variant_round_trip : {V C : Type 0} {image : V → Option Tree} {contents : V → C} {reads : Tree → Option C} {plain : V → Type 0} → RoundTrip image contents reads plain
     → (name : List ℕ) (v : V) (t : Tree) → option_map (variant_tree name) (image v) ≡ Some t → VariantRoundTrip image contents reads plain name v t
 variant_round_trip {image = image} law name v t is =

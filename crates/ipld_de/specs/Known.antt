@@ -1,5 +1,6 @@
--- Types described once: how the values of a type are written, how they are read and that they round-trip, each type and each form in one word. What `Serialize`,
--- `Deserialize` and `Lawful` say of a type of one's own are the parts of such a description.
+-- Types described once: how their values are written and read, and that they round-trip. Every type
+-- and every form has one name. `Serialize`, `Deserialize` and `Lawful` of a custom type consist of
+-- the parts of such a description.
 use Rattle.std.proofs.Common.{◌≡◌, ℕ, ℤ, List, [], ◌∷◌, map, Bool, true, false, Option, Some, None, option_map, String, Global, string_bytes, encode_utf8, refl}
 use Rattle.std.specs.Prelude.{⊤}
 use Rattle.std.specs.BTreeMap.{BTreeMap}
@@ -25,7 +26,8 @@ use Rattle.ipld_de.specs.Law.{RoundTrip, OptionPlain, ListPlain, EntriesPlain}
 use Rattle.ipld_de.specs.Lemmas.LawOf.{around_round_trip, option_round_trip, list_round_trip, array_round_trip, PartsRoundTrip, end_parts, first_part, tuple_round_trip, keyed_round_trip, unsigned_round_trip, signed_round_trip, whole_round_trip, not_negative_round_trip, char_round_trip, boolean_round_trip, text_round_trip, bytes_round_trip, link_round_trip, tree_round_trip}
 use Rattle.ipld_de.specs.Lemmas.StructLaw.{FieldsRoundTrip, one_read, more_read, named_apart, struct_round_trip}
 
--- how the values of a type are written and read, which of them are plain, and the law that they round-trip
+-- The description of a type: how its values are written and read, when they are plain, and the law
+-- that they round-trip.
 pub record Known (V : Type 0) : Type 1 where
   pub Contents : Type 0
   pub image : V → Option Tree
@@ -181,7 +183,7 @@ ipld = record {
 
 -- ---- forms
 
--- a type around a value of another, as a newtype is
+-- a type around a value of another, such as a newtype
 abbrev pub around : {W V : Type 0} → (W → V) → Known V → Known W
 around inner known = record {
   Contents = known.Contents;
@@ -218,7 +220,7 @@ vec known = record {
   law = around_round_trip (λ v. v.items) (list_round_trip known.law);
 }
 
--- an array of so many bytes, as a list of numbers
+-- an array of `n` bytes, written as a list of numbers
 abbrev pub byte_array : ℕ → Known (List ℕ)
 byte_array n = record {
   Contents = List ℕ;
@@ -231,7 +233,8 @@ byte_array n = record {
   law = array_round_trip n (unsigned_round_trip 8);
 }
 
--- a map whose keys are written as these texts; `is_key` says which texts are read, and `key_error` which error another is rejected with
+-- A map whose keys are written as texts by `text_of`. Reading accepts the texts that pass `is_key`,
+-- and rejects others with `key_error`.
 abbrev pub keyed_map : {K A : Type 0} → (K → List ℕ) → (List ℕ → Bool) → (List ℕ → SerdeError → Type 0) → Known A → Known (BTreeMap K A)
 keyed_map text_of is_key key_error known = record {
   Contents = List (List ℕ × known.Contents);
@@ -244,17 +247,17 @@ keyed_map text_of is_key key_error known = record {
   law = around_round_trip (λ m. m.entries) (keyed_round_trip text_of is_key known.law);
 }
 
--- a map under strings
+-- a map with string keys
 abbrev pub btree_map : {A : Type 0} → Known A → Known (BTreeMap (String Global) A)
 btree_map known = keyed_map string_bytes any_text NoError known
 
--- a map under characters
+-- a map with character keys
 abbrev pub char_map : {A : Type 0} → Known A → Known (BTreeMap ℕ A)
 char_map known = keyed_map encode_utf8 one_char NotOneCharacter known
 
 -- ---- tuples
 
--- how the parts of a tuple, in nested pairs, are written and read, one after the other
+-- the parts of a tuple, in nested pairs: how they are written and read, one after another
 pub record Parts (V : Type 0) : Type 1 where
   pub Contents : Type 0
   pub images : V → List (Option Tree)
@@ -265,7 +268,7 @@ pub record Parts (V : Type 0) : Type 1 where
   pub plain : V → Type 0
   pub law : PartsRoundTrip images contents reads plain
 
--- no part
+-- no parts
 abbrev end : Parts (Unit {0})
 end = record {
   Contents = Unit {0};
@@ -278,7 +281,7 @@ end = record {
   law = end_parts;
 }
 
--- a part in front of others
+-- a part followed by others
 abbrev and_parts : {V W : Type 0} → Known V → Parts W → Parts (V × W)
 and_parts known others = record {
   Contents = known.Contents × others.Contents;
@@ -291,7 +294,7 @@ and_parts known others = record {
   law = first_part known.law others.law;
 }
 
--- a tuple of these parts
+-- a tuple with these parts
 abbrev tuple : {V W : Type 0} → (W → V) → Parts V → Known W
 tuple parts known = record {
   Contents = known.Contents;
@@ -336,7 +339,8 @@ tuple10 a b c d e f g h i j = tuple (λ v. (v.0, (v.1, (v.2, (v.3, (v.4, (v.5, (
 
 -- ---- structs
 
--- a field: its name, how it is got, what is known of its type, and what stands for a missing name
+-- A field: its name, its getter, the description of its type, and the contents for a missing name,
+-- if any.
 pub record Field (V : Type 0) : Type 1 where
   pub name : List ℕ
   pub Got : Type 0
@@ -344,7 +348,7 @@ pub record Field (V : Type 0) : Type 1 where
   pub known : Known Got
   pub missing : Option known.Contents
 
--- a field whose name has to be there
+-- a field whose name is required
 abbrev pub field : {V A : Type 0} → List ℕ → (V → A) → Known A → Field V
 field {A = A} name get known = record {
   name = name;
@@ -354,7 +358,7 @@ field {A = A} name get known = record {
   missing = None;
 }
 
--- a field that is nothing where its name is missing
+-- an optional field, which is `None` if its name is missing
 abbrev pub optional : {V A : Type 0} → List ℕ → (V → Option A) → Known A → Field V
 optional {A = A} name get known = record {
   name = name;
@@ -374,17 +378,17 @@ abbrev pub written : {V : Type 0} → List {1} (Field V) → V → List {1} (Opt
 written [] v = []
 written (f ∷ fs) v = (f.known.image (f.get v), f.known.write_error (f.get v)) ∷ written fs v
 
--- the names
+-- the names of the fields
 abbrev pub names_of : {V : Type 0} → List {1} (Field V) → List (List ℕ)
 names_of [] = []
 names_of (f ∷ fs) = f.name ∷ names_of fs
 
--- how the fields are read
+-- the readings and the errors of the fields
 abbrev pub parts_of : {V : Type 0} → List {1} (Field V) → List {1} Part
 parts_of [] = []
 parts_of (f ∷ fs) = part f.known.reads f.known.read_error ∷ parts_of fs
 
--- what a field and the fields after it hold, in nested pairs
+-- the type of the contents of a field and of the fields after it, in nested pairs
 abbrev ContentsFrom : {V : Type 0} → Field V → List {1} (Field V) → Type 0
 ContentsFrom f [] = f.known.Contents
 ContentsFrom f (g ∷ gs) = f.known.Contents × ContentsFrom g gs
@@ -401,7 +405,7 @@ abbrev PlainFrom : {V : Type 0} → Field V → List {1} (Field V) → V → Typ
 PlainFrom f [] v = f.known.plain (f.get v)
 PlainFrom f (g ∷ gs) v = f.known.plain (f.get v) × PlainFrom g gs v
 
--- what the fields hold
+-- the type of the contents of the fields
 abbrev pub ContentsOf : {V : Type 0} → List {1} (Field V) → Type 0
 ContentsOf [] = Unit {0}
 ContentsOf (f ∷ fs) = ContentsFrom f fs
@@ -410,12 +414,12 @@ abbrev pub contents_of : {V : Type 0} → (fs : List {1} (Field V)) → V → Co
 contents_of [] v = tt
 contents_of (f ∷ fs) v = contents_from f fs v
 
--- what they read from the entries of a map
+-- the reading of the fields from the entries of a map
 abbrev pub reads_of : {V : Type 0} → (fs : List {1} (Field V)) → Members → Option (ContentsOf fs)
 reads_of [] = λ ms. Some tt
 reads_of (f ∷ fs) = reads_from f fs
 
--- where they are plain
+-- True if the values of the fields are plain.
 abbrev pub PlainOf : {V : Type 0} → List {1} (Field V) → V → Type 0
 PlainOf [] v = ⊤
 PlainOf (f ∷ fs) v = PlainFrom f fs v
@@ -428,7 +432,8 @@ pub fields_round_trip : {V : Type 0} → (fs : List {1} (Field V)) → FieldsRou
 fields_round_trip [] = record { back = λ v ms held. record { reading = tt; read = refl; same_fields = λ w same. refl; same = λ plain. refl } }
 fields_round_trip (f ∷ fs) = fields_from f fs
 
--- a struct of these fields; other names are ignored where it is read. `λ v. refl` shows that no two names are equal
+-- A struct with these fields. Reading ignores other names. `λ v. refl` proves that no two names are
+-- equal.
 abbrev pub structure : {V : Type 0} → (fs : List {1} (Field V)) → ((v : V) → named_apart (fields_of fs v) ≡ true) → Known V
 structure fs apart = record {
   Contents = ContentsOf fs;

@@ -1,4 +1,4 @@
--- Proofs that the source cites, of laws that a trait asks for: no definitions.
+-- Proofs of laws that traits require, which the source cites.
 pub mod FaithfulOf
 pub mod LawOf
 pub mod Skipping

@@ -1,4 +1,5 @@
--- The sample enums: the trees that they are written as, what they read, and that they round-trip (serde's form of an enum in the IPLD data model).
+-- The sample enums: their images, their readings, and the proofs that they round-trip (serde's form
+-- of an enum in the IPLD data model).
 use Rattle.ipld_tree.specs.Tree.{Tree, boolean, text, Items, entries, no_members, member}
 use Rattle.ipld_ser.specs.Builders.{variant_tree}
 use Rattle.ipld_ser.specs.Composites.{list_of, struct_image}
@@ -30,21 +31,21 @@ use Rattle.ipld_de.specs.Enums.{enum_reading, variant_round_trip}
 use Rattle.ipld_de.specs.Reading.{OtherKind, ContentError, IsCustom}
 use Rattle.ipld_de.specs.Scalars.{unsigned_reading, NumberError}
 
--- the tree that the sample enum is written as
+-- the image of the sample enum
 abbrev pub my_enum_image : MyEnum → Option Tree
 my_enum_image One = Some (text (codes "One"))
 my_enum_image (Two n) = option_map (variant_tree (codes "Two")) (unsigned_image 8 n)
 my_enum_image (Three b) = option_map (variant_tree (codes "Three")) (struct_image ((codes "value", Some (boolean b)) ∷ []))
 
--- the tree that the sample enum with a variant of two fields is written as
+-- the image of the sample enum with a variant of two fields
 abbrev pub my_pair_image : MyPair → Option Tree
 my_pair_image (pairs.Two n b) = option_map (variant_tree (codes "Two")) (list_of (unsigned_image 8 n ∷ Some (boolean b) ∷ []))
 
--- the values themselves, which hold no capacity
+-- the contents of the sample enum: the values themselves, which have no capacities
 abbrev pub Variants : Type 0
 Variants = MyEnum
 
--- the sample enum with a variant of two fields
+-- the contents of the sample enum with a variant of two fields: the values themselves
 abbrev pub Pairs : Type 0
 Pairs = MyPair
 
@@ -55,11 +56,11 @@ my_enum_variant name content =
     else if bytes_eq name (codes "Three") then option_map Three (option_and_then (struct_reading (field_named (codes "value") boolean_in)) content)
     else None
 
--- what the sample enum reads from a tree
+-- the reading of the sample enum
 abbrev pub my_enum_reading : Tree → Option MyEnum
 my_enum_reading = enum_reading my_enum_variant
 
--- the error of a variant of the sample enum, by its name and its content
+-- True if `e` is the error of a variant of the sample enum, by its name and its content.
 abbrev pub MyEnumError : List ℕ → Option Tree → SerdeError → Type 0
 MyEnumError name content e =
     ((bytes_eq name (codes "One") ≡ true) × (unit_in content ≡ Err e))
@@ -73,16 +74,18 @@ abbrev pub my_pair_variant : List ℕ → Option Tree → Option MyPair
 my_pair_variant name content =
     if bytes_eq name (codes "Two") then option_map (λ p. pairs.Two p.0 p.1.0) (option_and_then (tuple_reading (read_part (unsigned_reading 8) (read_part boolean_in read_end))) content) else None
 
--- what the sample enum with a variant of two fields reads from a tree
+-- the reading of the sample enum with a variant of two fields
 abbrev pub my_pair_reading : Tree → Option MyPair
 my_pair_reading = enum_reading my_pair_variant
 
--- the error of two parts in a variant: that of another content than two items, else that of the first item that doesn't read
+-- True if `e` is the error of the content of a variant of two fields. It is that of `tuple_in` if
+-- the content is not a list of two items, and otherwise that of the first item that is not read.
 abbrev pub TwoPartsError : Option Tree → SerdeError → Type 0
 TwoPartsError content e = (tuple_in 2 content ≡ Err e)
     ⊎ ((ts : Items) × (tuple_in 2 content ≡ Ok ts) × PartError (unsigned_reading 8) NumberError (PartError boolean_in OtherKind LeftoverError) ts e)
 
--- the error of a variant of the sample enum with a variant of two fields
+-- True if `e` is the error of a variant of the sample enum with a variant of two fields, by its
+-- name and its content.
 abbrev pub MyPairError : List ℕ → Option Tree → SerdeError → Type 0
 MyPairError name content e =
     ((bytes_eq name (codes "Two") ≡ true) × TwoPartsError content e) ⊎ ((bytes_eq name (codes "Two") ≡ false) × IsCustom (codes "unknown variant") e)
@@ -106,7 +109,7 @@ my_pair_exact (pairs.Two n b) t is =
 pub my_pair_round_trip : RoundTrip my_pair_image (λ v. v) my_pair_reading (λ v. ⊤)
 my_pair_round_trip = exact_round_trip my_pair_exact (λ v w same. ap my_pair_image same)
 
--- ---- the enums are what their contents are
+-- ---- the enums are equal if and only if their contents are
 
 my_enum_decides : (v w : MyEnum) → Decides (my_enum.eq-value.it v w) (v ≡ w)
 my_enum_decides One One = (λ e. refl, λ e. refl)

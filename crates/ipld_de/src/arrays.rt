@@ -1,4 +1,4 @@
-//! Arrays of bytes, as they are read.
+//! The reading of arrays of bytes.
 
 ghost use Rattle.std.specs.Prelude.{◌≡◌, ◌≢◌, ℕ, List, length, map, IfOk, IfErr};
 ghost use Rattle.ipld_de.specs.Composites.{array_reading, ArrayReadError};
@@ -9,8 +9,9 @@ use ipld_ser::SerdeError;
 use ipld_tree::Ipld;
 use std::alloc::Global;
 
-/// A List of exactly `N` Integers, each of which is a byte: [`SerdeError::WrongLength`] where all are, and there are fewer or more.
-/// Bytes aren't a list of numbers: they are read as a [`ByteBuf`](ipld_ser::ByteBuf).
+/// A List of exactly `N` Integers that are bytes. The error is [`SerdeError::WrongLength`] if all
+/// items are bytes, but there are fewer or more than `N`. Bytes are not a list of numbers: they are
+/// read as a [`ByteBuf`](ipld_ser::ByteBuf).
 impl<const N: usize> Deserialize for [u8; N] {
     ghost Contents = { List ℕ };
 
@@ -26,7 +27,7 @@ impl<const N: usize> Deserialize for [u8; N] {
     }
 }
 
-// The array of the bytes, where there are as many.
+// Returns the array of the bytes if there are exactly `N`.
 fn array_of<const N: usize>(items: &[u8]) -> Result<[u8; N], SerdeError>
     ensures ok { IfOk result (λ a. (a ≡ items.now) × (length items.now ≡ N)) }
     ensures err { IfErr result (λ e. (e ≡ SerdeError.WrongLength) × (length items.now ≢ N)) }

@@ -1,18 +1,23 @@
-//! Types of one's own that say once how they are written and read.
+//! Custom types that describe once how they are written and read.
 
 ghost use Rattle.ipld_de.specs.Known.{Known};
 
-/// A type of one's own that says once how its values are written and read: by the list of its fields, or of its variants.
+/// A custom type that describes once how its values are written and read: by the list of its
+/// fields, or of its variants.
 ///
-/// The ghost items of [`Serialize`], [`Deserialize`](crate::Deserialize) and [`Lawful`](crate::Lawful) are then parts of the
-/// description, so that nothing is said twice, and the law is proved for every list.
+/// The ghost items of [`Serialize`], [`Deserialize`](crate::Deserialize) and
+/// [`Lawful`](crate::Lawful) are then parts of the description. So nothing is stated twice, and the
+/// law is proved for every list.
 pub trait Described {
     // how the values are written and read, and their law
     ghost known: { Known Self };
 }
 
-/// The body of `serialize` of a struct: `serialize_struct!(alloc, serializer, self => Photo { title, taken as "takenAt" })` writes the
-/// fields in this order, each under its name or under the key behind `as`. A struct without fields is `Photo {}`.
+/// Expands to the body of `serialize` of a struct.
+///
+/// `serialize_struct!(alloc, serializer, self => Photo { title, taken as "takenAt" })` writes the
+/// fields in this order. It writes a field under its name, or under the key after `as`. A struct
+/// without fields is `Photo {}`.
 #[macro_export]
 macro_rules! serialize_struct {
     ($alloc:expr, $serializer:expr, $value:expr => $name:ident {}) => {
@@ -25,8 +30,11 @@ macro_rules! serialize_struct {
     }};
 }
 
-/// The body of `write_image` of a struct: `write_struct!(alloc, writer, self => Photo { title, taken as "takenAt" })` writes the fields that
-/// `serialize_struct!` puts into a tree, with no tree, and in the order of the writer. A struct without fields is `Photo {}`.
+/// Expands to the body of `write_image` of a struct.
+///
+/// `write_struct!(alloc, writer, self => Photo { title, taken as "takenAt" })` writes the fields
+/// that `serialize_struct!` puts into a tree. It does not make the tree, and writes in the order of
+/// the writer. A struct without fields is `Photo {}`.
 #[macro_export]
 macro_rules! write_struct {
     ($alloc:expr, $writer:expr, $value:expr => $name:ident { $($field:ident $(as $key:literal)?),* $(,)? }) => {{
@@ -35,16 +43,19 @@ macro_rules! write_struct {
     }};
 }
 
-/// The body of `deserialize` of a struct: `deserialize_struct!(alloc, value => Photo { title, taken as "takenAt": optional })` reads the
-/// fields by [`read_struct`](crate::read_struct), each from its name or from the key behind `as`. A field with `optional` beside it is an
-/// `Option`, which is `None` where its name is missing. A struct without fields is `Photo {}`.
+/// Expands to the body of `deserialize` of a struct.
+///
+/// `deserialize_struct!(alloc, value => Photo { title, taken as "takenAt": optional })` reads the
+/// fields by [`read_struct`](crate::read_struct). It reads a field from its name, or from the key
+/// after `as`. A field marked `optional` is an `Option`, which is `None` if its name is missing. A
+/// struct without fields is `Photo {}`.
 #[macro_export]
 macro_rules! deserialize_struct {
     ($alloc:expr, $value:expr => $name:ident {}) => {{
         $crate::read_struct::<()>($alloc, $value, stringify!($name), &[])?;
         Ok($name {})
     }};
-    // No `?`, which the borrow checker doesn't take of fields that hold a CID and own no memory.
+    // No `?`: the borrow checker rejects it for fields that have a CID and own no memory.
     ($alloc:expr, $value:expr => $name:ident { $($field:ident $(as $key:literal)? $(: $note:ident)?),+ $(,)? }) => {
         match $crate::read_struct::<$crate::nested_fields!($($field $(: $note)?),+)>(
             $alloc,
@@ -58,8 +69,11 @@ macro_rules! deserialize_struct {
     };
 }
 
-/// The body of `read_image` of a struct: `read_struct_image!(alloc, reader, levels => Photo { title, taken as "takenAt": optional })` reads
-/// the fields by [`read_struct_image`](crate::read_struct_image), as `deserialize_struct!` reads them from a tree. The struct has a field.
+/// Expands to the body of `read_image` of a struct.
+///
+/// `read_struct_image!(alloc, reader, levels => Photo { title, taken as "takenAt": optional })`
+/// reads the fields by [`read_struct_image`](crate::read_struct_image). It reads them like
+/// `deserialize_struct!` reads them from a tree. The struct must have at least one field.
 #[macro_export]
 macro_rules! read_struct_image {
     // No `?`, as in `deserialize_struct!`.
@@ -76,8 +90,11 @@ macro_rules! read_struct_image {
     };
 }
 
-/// The arm of a variant with named fields in `serialize` of an enum: `serialize_variant!(alloc, serializer => Rectangle { width, height
-/// })`, where the names are the fields, lent, and the arm is what the function returns. `width as "w"` writes a field under that key.
+/// Expands to the arm of a variant with named fields in `serialize` of an enum.
+///
+/// In `serialize_variant!(alloc, serializer => Rectangle { width, height })` the names are the
+/// borrowed fields. The value of the arm is the return value of the function. `width as "w"` writes
+/// a field under that key.
 #[macro_export]
 macro_rules! serialize_variant {
     ($alloc:expr, $serializer:expr => $variant:ident { $($field:ident $(as $key:literal)?),* $(,)? }) => {
@@ -89,9 +106,11 @@ macro_rules! serialize_variant {
     };
 }
 
-/// The arm of a variant with named fields in `deserialize` of an enum: `deserialize_variant!(alloc, content => Shape::Rectangle {
-/// width, height })`. A field with `optional` beside it is an `Option`, which is `None` where its name is missing; `width as "w"` is
-/// read from that key.
+/// Expands to the arm of a variant with named fields in `deserialize` of an enum:
+/// `deserialize_variant!(alloc, content => Shape::Rectangle { width, height })`.
+///
+/// A field marked `optional` is an `Option`, which is `None` if its name is missing. `width as "w"`
+/// is read from that key.
 #[macro_export]
 macro_rules! deserialize_variant {
     ($alloc:expr, $content:expr => $name:ident::$variant:ident {}) => {{
@@ -107,21 +126,22 @@ macro_rules! deserialize_variant {
     };
 }
 
-/// The key of a field: its name, or the string beside it.
+/// Expands to the key of a field: its name, or the string after it.
 #[macro_export]
 macro_rules! key_of {
     ($field:ident) => { stringify!($field) };
     ($field:ident $key:literal) => { $key };
 }
 
-/// Names in nested pairs, as [`Fields`](crate::Fields) are.
+/// Expands to the names in nested pairs, like [`Fields`](crate::Fields).
 #[macro_export]
 macro_rules! nested {
     ($first:ident) => { $first };
     ($first:ident, $($others:ident),+) => { ($first, $crate::nested!($($others),+)) };
 }
 
-/// Values that are lent, each with its key, in nested pairs, as [`SerializeFields`](ipld_ser::SerializeFields) are.
+/// Expands to the borrowed values with their keys, in nested pairs like
+/// [`SerializeFields`](ipld_ser::SerializeFields).
 #[macro_export]
 macro_rules! nested_values {
     () => { () };
@@ -130,7 +150,8 @@ macro_rules! nested_values {
     };
 }
 
-/// The [`Fields`](crate::Fields) of these names, of the types that they are used as.
+/// Expands to the [`Fields`](crate::Fields) type of these names. The types of the fields are
+/// inferred from their use.
 #[macro_export]
 macro_rules! nested_fields {
     ($first:ident) => { $crate::Field<_> };

@@ -14,10 +14,13 @@ use std::alloc::Global;
 
 /// A type that is read from trees of the IPLD data model.
 ///
-/// Its meaning is `reads`: what the type reads from a tree, or nothing where it doesn't read that tree. What is read is said by its
-/// `contents`, so that two values of the same contents differ in capacities at most. A type of one's own states both, and reads by one
-/// call of the [`Deserializer`](crate::Deserializer), or by one of its cursors. It can also state by `read_error` which error a tree that
-/// it doesn't read is rejected with.
+/// Its meaning is `reads`: the type's reading of a tree, or nothing if the type does not read that
+/// tree. A reading is the `contents` of a value, so two values of the same contents differ at most
+/// in capacities.
+///
+/// A custom type states both. It reads by one call of the [`Deserializer`](crate::Deserializer), or
+/// by one of its cursors. It can also state by `read_error` the error for a tree that it does not
+/// read.
 pub trait Deserialize: Sized + Drop {
     // The type of the contents of values, without capacities.
     ghost Contents: { Type 0 };
@@ -29,32 +32,38 @@ pub trait Deserialize: Sized + Drop {
     // each part does.
     ghost reads: { Tree → Option Contents };
 
-    // which error a tree that isn't read is rejected with; by default any
+    // the error for a tree that the type does not read; by default any
     ghost read_error: { Tree → error.SerdeError → Type 0 } = { λ _ _. ⊤ };
 
-    /// What the type reads from the tree, which is consumed.
+    /// Reads a value of this type from the tree, which is consumed.
     ///
     /// # Errors
     ///
-    /// [`SerdeError::Memory`] where an allocation failed; another kind, the type's `read_error`, only where the type doesn't read the
-    /// tree.
+    /// [`SerdeError::Memory`] if an allocation fails. Returns any other error, the type's
+    /// `read_error`, only if the type does not read the tree.
     fn deserialize(alloc: Global, value: Ipld) -> Result<Self, SerdeError>
         ensures ok { IfOk result (λ v. reads (tree_of value) ≡ Some (contents v)) }
         ensures err { IfErr result (λ e. RejectsAs (reads (tree_of value))
             (read_error (tree_of value)) e) };
 
-    /// What the type reads from the tree that comes next, which nests no deeper than so many levels, part by part: no tree is made, where
-    /// the type has a call of its own for this. By default the tree is made, and read by [`deserialize`](Deserialize::deserialize).
+    /// Reads the next tree part by part. The tree nests at most `levels` levels deep.
     ///
-    /// A struct of one's own reads its fields by [`read_struct_image`](crate::read_struct_image). A type that holds values of itself calls
-    /// this for them with fewer levels, as lists, tuples and structs do for what they hold.
+    /// A type with its own `read_image` does not make the tree. By default the tree is made, and
+    /// read by [`deserialize`](Deserialize::deserialize).
+    ///
+    /// A custom struct reads its fields by [`read_struct_image`](crate::read_struct_image). A type
+    /// that contains values of itself calls `read_image` for them with fewer levels, as lists,
+    /// tuples and structs do for their parts.
     ///
     /// # Errors
     ///
-    /// [`Unread::Memory`] where an allocation failed. [`Unread::MissingField`] only where the value was read to its end, and
-    /// [`deserialize`](Deserialize::deserialize) rejects its tree with `Custom("missing field")`; a type that holds others returns what
-    /// [`Unread::of_part`] makes of theirs. Else [`Unread::Rejected`], where the type doesn't read the tree, or there is none that nests so
-    /// little: [`deserialize`](Deserialize::deserialize) says why.
+    /// - [`Unread::Memory`] if an allocation fails.
+    /// - [`Unread::MissingField`] only if the value was read to its end, and
+    ///   [`deserialize`](Deserialize::deserialize) rejects its tree with `Custom("missing field")`.
+    ///   A type that contains other values returns [`Unread::of_part`] of their errors.
+    /// - Otherwise [`Unread::Rejected`], if the type does not read the tree or the bytes do not
+    ///   begin with a tree of at most `levels` levels. [`deserialize`](Deserialize::deserialize)
+    ///   shows the reason.
     fn read_image<R: ImageReader>(
         alloc: Global,
         reader: &mut R,
@@ -72,20 +81,23 @@ pub trait Deserialize: Sized + Drop {
 
     /// Drops the value. Does not allocate.
     ///
-    /// What this crate has read of a vector, a map, a tuple or a struct is dropped by this call where a later part of it is rejected. By
-    /// default it is the ordinary drop. A type that holds an [`Ipld`], or a value of a type parameter, hands each of those on to their
-    /// own `discard`, so that none is dropped by recursion: that of an `Ipld` is [`Ipld::discard`].
+    /// If a later part of a vector, a map, a tuple or a struct is rejected, this crate calls
+    /// `discard` for the parts that it has read. The default is the ordinary drop.
+    ///
+    /// A type that contains an [`Ipld`], or a value of a type parameter, calls their `discard`, so
+    /// that they are not dropped by recursion. The `discard` of an `Ipld` is [`Ipld::discard`].
     fn discard(self) {
         drop(self);
     }
 }
 
-/// What a type reads from a tree, which is consumed.
+/// Reads a value of a type from a tree, which is consumed.
 ///
 /// # Errors
 ///
-/// [`SerdeError::Memory`] where an allocation failed; another kind only where the type doesn't read the tree: that of the first part
-/// that doesn't read, where the elements of a list are taken in order, and the entries of a map in the byte order of their keys.
+/// [`SerdeError::Memory`] if an allocation fails. Returns any other error only if the type does not
+/// read the tree: that of the first part that is not read. The elements of a list are read in
+/// order, and the entries of a map in the byte order of their keys.
 #[inline(always)]
 pub fn from_ipld<T: Deserialize>(alloc: Global, value: Ipld) -> Result<T, SerdeError>
     ensures ok { IfOk result (λ v. T.reads (tree_of value) ≡ Some (T.contents v)) }

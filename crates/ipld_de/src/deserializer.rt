@@ -23,91 +23,93 @@ use ipld_tree::Ipld;
 use ipld_tree::convert::ConversionError;
 use std::collections::BTreeMap;
 
-/// Reads a tree as one form of value. No call allocates, and what the tree holds is moved.
+/// Reads a tree as one form of value. The calls do not allocate, and move the contents of the tree.
 ///
-/// Each call consumes the tree. [`SerdeError::WrongKind`] with the kind of the tree comes exactly where the tree is of a kind that the
-/// call doesn't take.
+/// The `deserialize_` calls consume the tree. A call returns [`SerdeError::WrongKind`] with the
+/// kind of the tree if and only if it does not take trees of that kind. The exception is
+/// `deserialize_unit_struct`, which always returns [`SerdeError::UnitStruct`].
 pub trait Deserializer: Sized {
     // the tree that is read
     ghost held: { Self → Tree };
 
-    /// The `bool` of a Bool.
+    /// Returns the `bool` of a Bool.
     fn deserialize_bool(self) -> Result<bool, SerdeError>
         ensures { result ≡ taken boolean_in (held self) };
 
-    /// The number of an Integer, or [`SerdeError::OutOfRange`] where an `i8` doesn't hold it.
+    /// Returns the number of an Integer, or [`SerdeError::OutOfRange`] if an `i8` can't hold it.
     fn deserialize_i8(self) -> Result<i8, SerdeError>
         ensures { result ≡ ok_or (signed_reading 8 (held self)) (number_error (held self)) };
 
-    /// The number of an Integer, or [`SerdeError::OutOfRange`] where an `i16` doesn't hold it.
+    /// Returns the number of an Integer, or [`SerdeError::OutOfRange`] if an `i16` can't hold it.
     fn deserialize_i16(self) -> Result<i16, SerdeError>
         ensures { result ≡ ok_or (signed_reading 16 (held self)) (number_error (held self)) };
 
-    /// The number of an Integer, or [`SerdeError::OutOfRange`] where an `i32` doesn't hold it.
+    /// Returns the number of an Integer, or [`SerdeError::OutOfRange`] if an `i32` can't hold it.
     fn deserialize_i32(self) -> Result<i32, SerdeError>
         ensures { result ≡ ok_or (signed_reading 32 (held self)) (number_error (held self)) };
 
-    /// The number of an Integer, or [`SerdeError::OutOfRange`] where an `i64` doesn't hold it.
+    /// Returns the number of an Integer, or [`SerdeError::OutOfRange`] if an `i64` can't hold it.
     fn deserialize_i64(self) -> Result<i64, SerdeError>
         ensures { result ≡ ok_or (signed_reading 64 (held self)) (number_error (held self)) };
 
-    /// The number of an Integer: an `i128` holds each.
+    /// Returns the number of an Integer. An `i128` can hold every Integer.
     fn deserialize_i128(self) -> Result<i128, SerdeError>
         ensures { result ≡ taken integer_in (held self) };
 
-    /// The number of an Integer, or [`SerdeError::OutOfRange`] where a `u8` doesn't hold it.
+    /// Returns the number of an Integer, or [`SerdeError::OutOfRange`] if a `u8` can't hold it.
     fn deserialize_u8(self) -> Result<u8, SerdeError>
         ensures { result ≡ ok_or (unsigned_reading 8 (held self)) (number_error (held self)) };
 
-    /// The number of an Integer, or [`SerdeError::OutOfRange`] where a `u16` doesn't hold it.
+    /// Returns the number of an Integer, or [`SerdeError::OutOfRange`] if a `u16` can't hold it.
     fn deserialize_u16(self) -> Result<u16, SerdeError>
         ensures { result ≡ ok_or (unsigned_reading 16 (held self)) (number_error (held self)) };
 
-    /// The number of an Integer, or [`SerdeError::OutOfRange`] where a `u32` doesn't hold it.
+    /// Returns the number of an Integer, or [`SerdeError::OutOfRange`] if a `u32` can't hold it.
     fn deserialize_u32(self) -> Result<u32, SerdeError>
         ensures { result ≡ ok_or (unsigned_reading 32 (held self)) (number_error (held self)) };
 
-    /// The number of an Integer, or [`SerdeError::OutOfRange`] where a `u64` doesn't hold it.
+    /// Returns the number of an Integer, or [`SerdeError::OutOfRange`] if a `u64` can't hold it.
     fn deserialize_u64(self) -> Result<u64, SerdeError>
         ensures { result ≡ ok_or (unsigned_reading 64 (held self)) (number_error (held self)) };
 
-    /// The number of an Integer, or [`SerdeError::OutOfRange`] where it is negative.
+    /// Returns the number of an Integer, or [`SerdeError::OutOfRange`] if it is negative.
     fn deserialize_u128(self) -> Result<u128, SerdeError>
         ensures { result ≡ ok_or (not_negative_reading (held self)) (number_error (held self)) };
 
-    /// The character of a String of exactly one, or [`SerdeError::NotOneChar`].
+    /// Returns the only character of a String, or [`SerdeError::NotOneChar`] if it does not have
+    /// exactly one.
     fn deserialize_char(self) -> Result<char, SerdeError>
         ensures { result ≡ ok_or (char_reading (held self)) (char_error (held self)) };
 
-    /// The content of a String.
+    /// Returns the content of a String.
     fn deserialize_str(self) -> Result<String, SerdeError>
         ensures { Returns string_bytes result (taken text_in (held self)) };
 
-    /// The content of a String.
+    /// Returns the content of a String.
     fn deserialize_string(self) -> Result<String, SerdeError>
         ensures { Returns string_bytes result (taken text_in (held self)) };
 
-    /// The content of a String: the name of a field or of a variant.
+    /// Returns the content of a String: the name of a field or of a variant.
     fn deserialize_identifier(self) -> Result<String, SerdeError>
         ensures { Returns string_bytes result (taken text_in (held self)) };
 
-    /// The bytes of a Bytes. A Link isn't bytes.
+    /// Returns the content of Bytes. A Link is not Bytes.
     fn deserialize_bytes(self) -> Result<ByteBuf, SerdeError>
         ensures { Returns (λ b. b) result (taken bytes_in (held self)) };
 
-    /// The bytes of a Bytes. A Link isn't bytes.
+    /// Returns the content of Bytes. A Link is not Bytes.
     fn deserialize_byte_buf(self) -> Result<ByteBuf, SerdeError>
         ensures { Returns (λ b. b) result (taken bytes_in (held self)) };
 
-    /// `None` of a Null, else `Some` of the tree. It never fails.
+    /// Returns `None` for a Null, and otherwise `Some` of the tree. Never fails.
     fn deserialize_option(self) -> Result<Option<Ipld>, SerdeError>
         ensures { Returns (option_map tree_of) result (Ok (something_in (held self))) };
 
-    /// Nothing, of a Null.
+    /// Returns `()` for a Null.
     fn deserialize_unit(self) -> Result<(), SerdeError>
         ensures { result ≡ taken nothing_in (held self) };
 
-    /// A unit struct isn't read from any tree.
+    /// Returns an error, since a unit struct is not read from any tree.
     ///
     /// # Errors
     ///
@@ -115,53 +117,57 @@ pub trait Deserializer: Sized {
     fn deserialize_unit_struct(self, name: &str) -> Result<(), SerdeError>
         ensures { result ≡ Err error.UnitStruct };
 
-    /// The tree, to be read as the content of a newtype struct. Under the name
-    /// [`CID_SERDE_PRIVATE_IDENTIFIER`](ipld_cid::CID_SERDE_PRIVATE_IDENTIFIER) a Link alone is taken.
+    /// Returns the tree, to be read as the content of a newtype struct. Under the name
+    /// [`CID_SERDE_PRIVATE_IDENTIFIER`](ipld_cid::CID_SERDE_PRIVATE_IDENTIFIER) it takes only a
+    /// Link.
     fn deserialize_newtype_struct(self, name: &str) -> Result<Ipld, SerdeError>
         ensures { Returns tree_of result (newtype_in name.now (held self)) };
 
-    /// The items of a List, to be read one by one.
+    /// Returns the items of a List, to be read one by one.
     fn deserialize_seq(self) -> Result<SeqDeserializer, SerdeError>
         ensures { Returns left result (taken list_in (held self)) };
 
-    /// The items of a List, to be read one by one. The length isn't looked at: [`SeqDeserializer::end`] reports what is left over.
+    /// Returns the items of a List, to be read one by one. Ignores the length:
+    /// [`SeqDeserializer::end`] reports leftover items.
     fn deserialize_tuple(self, len: usize) -> Result<SeqDeserializer, SerdeError>
         ensures { Returns left result (taken list_in (held self)) };
 
-    /// The items of a List, to be read one by one. Neither name nor length is looked at.
+    /// Returns the items of a List, to be read one by one. Ignores the name and the length.
     fn deserialize_tuple_struct(self, name: &str, len: usize) -> Result<SeqDeserializer, SerdeError>
         ensures { Returns left result (taken list_in (held self)) };
 
-    /// The entries of a Map, to be read one by one in byte order of their keys.
+    /// Returns the entries of a Map, to be read one by one in the byte order of their keys.
     fn deserialize_map(self) -> Result<MapDeserializer, SerdeError>
         ensures content { Returns entries_left result (taken entries_in (held self)) }
         ensures none { IfOk result (λ c. waiting c ≡ None) }
         ensures ascends { IfOk result (λ c. Ascends (entries_left c)) };
 
-    /// The entries of a Map, to be read one by one in byte order of their keys. Neither the name nor the fields are looked at.
+    /// Returns the entries of a Map, to be read one by one in the byte order of their keys. Ignores
+    /// the name and the fields.
     fn deserialize_struct(self, name: &str, fields: &[&str]) -> Result<MapDeserializer, SerdeError>
         ensures content { Returns entries_left result (taken entries_in (held self)) }
         ensures none { IfOk result (λ c. waiting c ≡ None) }
         ensures ascends { IfOk result (λ c. Ascends (entries_left c)) };
 
-    /// The variant of an enum: a String is its name, a Map of exactly one key its name with its content. Neither the name nor the
-    /// variants are looked at.
+    /// Returns the variant of an enum. A String is its name. A Map of exactly one key is its name
+    /// with its content. Ignores the name of the enum and the variants.
     ///
     /// # Errors
     ///
-    /// [`SerdeError::NoKey`] for the empty Map, [`SerdeError::MoreKeys`] for a Map of several keys, and [`SerdeError::WrongKind`].
+    /// [`SerdeError::NoKey`] for an empty Map, [`SerdeError::MoreKeys`] for a Map of several keys,
+    /// and [`SerdeError::WrongKind`] for any other kind.
     fn deserialize_enum(self, name: &str, variants: &[&str]) -> Result<EnumDeserializer, SerdeError>
         ensures { Returns variant_of result (variant_in (held self)) };
 
-    /// Any tree, which is dropped. It never fails.
+    /// Drops the tree, whatever its kind. Never fails.
     fn deserialize_ignored_any(self) -> Result<IgnoredAny, SerdeError>
         ensures { IsOk result };
 
-    /// The tree itself. It never fails.
+    /// Returns the tree itself. Never fails.
     fn deserialize_any(self) -> Result<Ipld, SerdeError>
         ensures { Returns tree_of result (Ok (held self)) };
 
-    /// Whether the form is for people to read: never.
+    /// Returns whether the form is for people to read, which is always `false`.
     fn is_human_readable(&self) -> bool
         ensures { result ≡ false };
 }
@@ -344,7 +350,7 @@ impl Deserializer for Ipld {
     }
 }
 
-// What a conversion returns, its error as one of reading.
+// Converts the error of a conversion to an error of reading.
 #[inline(always)]
 fn or_serde_error<T>(converted: Result<T, ConversionError>) -> Result<T, SerdeError>
     ensures { result ≡ result_map_both (λ v. v) serde_error_of converted }
@@ -356,7 +362,7 @@ fn or_serde_error<T>(converted: Result<T, ConversionError>) -> Result<T, SerdeEr
     }
 }
 
-// The character of a string of exactly one.
+// Returns the character of a string of exactly one.
 pub(crate) fn single_char(text: &str) -> Result<char, SerdeError>
     ensures { result ≡ ok_or (only_char (chars text.now)) error.NotOneChar }
 {
@@ -370,7 +376,7 @@ pub(crate) fn single_char(text: &str) -> Result<char, SerdeError>
     }
 }
 
-// A Link alone.
+// Takes only a Link.
 #[inline(always)]
 fn only_link(value: Ipld) -> Result<Ipld, SerdeError>
     ensures { Returns tree_of result (taken only_link (tree_of value)) }
@@ -381,7 +387,7 @@ fn only_link(value: Ipld) -> Result<Ipld, SerdeError>
     }
 }
 
-// The error at a tree of a kind that isn't taken.
+// Drops a tree of a kind that is not taken, and returns the error.
 fn wrong_kind(found: Ipld) -> SerdeError
     ensures { result ≡ kind_found (tree_of found) }
 {
@@ -389,7 +395,7 @@ fn wrong_kind(found: Ipld) -> SerdeError
     discard_for_error(found, SerdeError::WrongKind(kind))
 }
 
-// The error, once what it rejects has been dropped by a loop.
+// Drops the rejected value by a loop, and returns the error.
 fn discard_for_error(value: Ipld, error: SerdeError) -> SerdeError
     ensures { result ≡ error }
 {
@@ -397,7 +403,7 @@ fn discard_for_error(value: Ipld, error: SerdeError) -> SerdeError
     error
 }
 
-// The only entry of a map: a variant and its content.
+// Returns the only entry of a map: a variant and its content.
 fn enum_of_single_entry(entries: BTreeMap<String, Ipld>) -> Result<EnumDeserializer, SerdeError>
     ensures { Returns variant_of result (only_entry (members_of entries.entries)) }
 {

@@ -26,51 +26,55 @@ use ipld_tree::Ipld;
 use std::alloc::Global;
 use std::marker::PhantomData;
 
-/// The fields of a struct, as far as they were found in a map: a [`Field`], an [`OptionalField`], or a pair of one and the fields after
-/// it; `()` where there are none. A struct of a `u8`, a `bool` and a `String` is read by `(Field<u8>, (Field<bool>, Field<String>))`.
+/// The fields of a struct, with the values that were found in a map so far: a [`Field`], an
+/// [`OptionalField`], or a pair of one and the fields after it. A struct without fields has `()`. A
+/// struct of a `u8`, a `bool` and a `String` is read by
+/// `(Field<u8>, (Field<bool>, Field<String>))`.
 ///
-/// Its meaning is `named_reads`: each field is what its name holds among the members of the map, where the names are given in the order
-/// of the fields.
+/// Its meaning is `named_reads`: every field is read from the value of its name among the members
+/// of the map. The names are given in the order of the fields.
 ///
 /// The trait is sealed: no other type can implement it.
 pub trait Fields: sealed::Sealed + Sized + Drop {
-    /// What the fields are read as: the values, in pairs as the fields are.
+    /// The values of the fields, in pairs like the fields.
     type Values: Drop;
 
-    // what the fields stand for, in nested pairs
+    // the contents of the fields, in nested pairs
     ghost Contents: { Type 0 };
 
-    // what the fields that were found stand for
+    // the contents of the values that were found
     ghost contents: { Self.Values → Contents };
 
-    // how many fields there are
+    // the number of fields
     ghost count: { ℕ };
 
-    // what the fields of these names read from the entries of a map
+    // the reading of the fields of these names from the entries of a map
     ghost named_reads: { List (List ℕ) → Members → Option Contents };
 
-    // how each field reads, in the order of the fields
+    // the reading of every field, in the order of the fields
     ghost parts: { List {1} Part };
 
-    // what the fields read from the entries of a map, beside what was found so far
+    // the reading of the fields from the values that were found so far and the entries of a map
     ghost reads: { Self → List (List ℕ) → Members → Option Contents };
 
-    // whether the field at an index was handed nothing yet
+    // whether the field at an index has no value yet
     ghost waits: { Self → ℕ → Bool };
 
-    /// Nothing found yet.
+    /// Creates fields without values: nothing was found yet.
     fn new() -> Self
         ensures reads { (names : List (List ℕ)) (ms : Members)
             → reads result names ms ≡ named_reads names ms }
         ensures wait { (i : ℕ) → i < count → waits result i ≡ true };
 
-    /// Hands the field at this index what its name holds, and drops it where there are no fields. A field keeps what it was handed
-    /// first. On an error each field stands as it did before the call: those that have a value keep it, and the one at this index still
-    /// waits.
+    /// Reads a value as the field at `index`, or drops it if the fields are `()`. A field keeps its
+    /// first value, and drops later ones.
+    ///
+    /// If the call fails, every field is as before: a field with a value keeps it, and the field at
+    /// `index` still waits for one.
     ///
     /// # Errors
     ///
-    /// That of the field's type, or [`SerdeError::Memory`].
+    /// The error of the field's type, or [`SerdeError::Memory`] if an allocation fails.
     fn offer(&mut self, alloc: Global, index: usize, value: Ipld) -> Result<(), SerdeError>
         requires { index ≤ count - 1 }
         ensures ok { (names : List (List ℕ)) (k : List ℕ) → AreDistinct names
@@ -88,12 +92,14 @@ pub trait Fields: sealed::Sealed + Sized + Drop {
         ensures unchanged { (names : List (List ℕ)) → OnErr result ((ms : Members)
             → reads self.new names ms ≡ reads self.old names ms) };
 
-    /// Hands the field at this index the value that comes next, which nests no deeper than so many levels, read part by part.
+    /// Reads the next value part by part as the field at `index`. The value nests at most `levels`
+    /// levels deep.
     ///
     /// # Errors
     ///
-    /// [`Unread::Memory`] where an allocation failed. [`Unread::Rejected`] where the field's type doesn't read the value, and always where
-    /// the field was handed one or there are no fields.
+    /// [`Unread::Memory`] if an allocation fails. [`Unread::Rejected`] if the field's type does not
+    /// read the value. It is always `Rejected` if the field already has a value or the fields are
+    /// `()`.
     fn read_value<R: ImageReader>(
         &mut self,
         alloc: Global,
@@ -110,11 +116,11 @@ pub trait Fields: sealed::Sealed + Sized + Drop {
         ensures never_missing { IfErr result (λ e. e ≢ Unread.MissingField) }
         ensures second { waits self.old index ≡ false → result ≡ Err Unread.Rejected };
 
-    /// The values, once each member of the map was seen.
+    /// Returns the values, after every member of the map was read.
     ///
     /// # Errors
     ///
-    /// `Custom("missing field")` where a field was handed nothing.
+    /// `Custom("missing field")` if a required field has no value.
     fn finish(self) -> Result<Self::Values, SerdeError>
         ensures ok { (names : List (List ℕ)) → length names ≡ count
             → IfOk result (λ v. reads self names no_members ≡ Some (contents v)) }
@@ -125,7 +131,7 @@ pub trait Fields: sealed::Sealed + Sized + Drop {
     // the law that an entry of another name changes nothing
     ghost skips: { (f : Self) (names : List (List ℕ)) (k : List ℕ) (t : _) (ms : Members) → among k names ≡ false → reads f names (member k t ms) ≡ reads f names ms };
 
-    // the law that they read the same of entries in which each name holds the same
+    // the law that entries with the same values at the same names are read the same
     ghost by_name: { (f : Self) (names : List (List ℕ)) (es ms : Members) → ((name : List ℕ) → value_at name es ≡ value_at name ms) → reads f names es ≡ reads f names ms };
 }
 
@@ -133,15 +139,17 @@ pub(crate) mod sealed {
     pub trait Sealed {}
 }
 
-/// A field of a struct, as far as it was found. Its name has to be there, unless `M` is [`Optional`].
+/// A field of a struct, with its value if that was found. Its name is required, unless `M` is
+/// [`Optional`].
 ///
-/// Its drop is the [`discard`](Deserialize::discard) of what was found.
+/// Its drop is the [`discard`](Deserialize::discard) of the value.
 pub struct Field<T: Deserialize, M: IfMissing<T> = Required> {
     value: Option<T>,
     missing: PhantomData<M>,
 }
 
-/// A field of a struct whose name may be missing: it is then `None`, as where it holds Null.
+/// A field of a struct whose name may be missing. It is `None` if its name is missing or holds
+/// Null.
 ///
 /// ```
 /// use ipld_de::{Field, OptionalField, read_struct};
@@ -296,7 +304,7 @@ impl<T: Deserialize, M: IfMissing<T>, F: Fields> Fields for (Field<T, M>, F) {
 
 impl sealed::Sealed for () {}
 
-/// No fields: any Map is read, and where it is strict the empty one.
+/// No fields. Any Map is read, or only the empty Map if the reading is strict.
 impl Fields for () {
     type Values = ();
 
@@ -344,12 +352,14 @@ impl Fields for () {
     ghost by_name = { λ _ _ _ _ _. refl };
 }
 
-/// What the fields are in a map, under these names; other entries are ignored. The keys are taken in byte order.
+/// Reads the fields with these names from a map. Ignores other entries. Reads the keys in byte
+/// order.
 ///
 /// # Errors
 ///
-/// The first rejection of a field's type; where there is none, `Custom("missing field")` where a name isn't in the map; or
-/// [`SerdeError::Memory`].
+/// - The error of the first field that does not read its value.
+/// - Otherwise `Custom("missing field")` if a required name is not in the map.
+/// - [`SerdeError::Memory`] if an allocation fails.
 pub fn read_fields<F: Fields>(
     alloc: Global,
     map: MapDeserializer,
@@ -367,12 +377,14 @@ pub fn read_fields<F: Fields>(
     read_named::<F>(alloc, map, names, false)
 }
 
-/// What the fields are in a map that has these names and no others. The keys are taken in byte order.
+/// Reads the fields from a map that has these names and no others. Reads the keys in byte order.
 ///
 /// # Errors
 ///
-/// The first rejection: that of a field's type, or `Custom("unknown field")` at a key that is no name; where there is none,
-/// `Custom("missing field")` where a name isn't in the map; or [`SerdeError::Memory`].
+/// - The first error in the order of the keys: that of a field's type, or `Custom("unknown field")`
+///   for a key that is not one of the names.
+/// - Otherwise `Custom("missing field")` if a required name is not in the map.
+/// - [`SerdeError::Memory`] if an allocation fails.
 pub fn read_only_fields<F: Fields>(
     alloc: Global,
     map: MapDeserializer,
@@ -390,7 +402,7 @@ pub fn read_only_fields<F: Fields>(
     read_named::<F>(alloc, map, names, true)
 }
 
-// What the fields are in a map, where it is strict in one that has no other names.
+// Reads the fields from a map. If `strict`, the map may not have other names.
 #[inline(always)]
 fn read_named<F: Fields>(
     alloc: Global,
@@ -421,11 +433,12 @@ fn read_named<F: Fields>(
     fields.finish()
 }
 
-/// What the fields of a struct are in a Map, under these names; other entries are ignored. The struct's name isn't looked at.
+/// Reads the fields of a struct with these names from a Map. Ignores other entries and the name of
+/// the struct.
 ///
 /// # Errors
 ///
-/// [`SerdeError::WrongKind`] where the tree is no Map, else as [`read_fields`].
+/// [`SerdeError::WrongKind`] if the tree is not a Map. Otherwise the errors of [`read_fields`].
 #[inline(always)]
 pub fn read_struct<F: Fields>(
     alloc: Global,
@@ -444,11 +457,13 @@ pub fn read_struct<F: Fields>(
     read_fields::<F>(alloc, map, names)
 }
 
-/// What the fields of a struct are in a Map that has these names and no others. The struct's name isn't looked at.
+/// Reads the fields of a struct from a Map that has these names and no others. Ignores the name of
+/// the struct.
 ///
 /// # Errors
 ///
-/// [`SerdeError::WrongKind`] where the tree is no Map, else as [`read_only_fields`].
+/// [`SerdeError::WrongKind`] if the tree is not a Map. Otherwise the errors of
+/// [`read_only_fields`].
 #[inline(always)]
 pub fn read_strict_struct<F: Fields>(
     alloc: Global,
@@ -468,7 +483,8 @@ pub fn read_strict_struct<F: Fields>(
     read_only_fields::<F>(alloc, map, names)
 }
 
-/// The index of a key among the names, `None` where it is none of them. Does not allocate.
+/// Returns the index of a key among the names, or `None` if it is not one of them. Does not
+/// allocate.
 pub fn position_of(names: &[&str], key: &str) -> Option<usize>
     ensures found { IfSome result (λ i. slice_get (strings names.now) i ≡ Some key.now) }
     ensures within { IfSome result (λ i. i < length names.now) }
@@ -477,7 +493,8 @@ pub fn position_of(names: &[&str], key: &str) -> Option<usize>
     names.iter().position(|name| is_same_name(name, key))
 }
 
-// Whether the strings are equal. Short ones are compared byte by byte, which takes fewer steps than to compare them as words.
+// Returns whether the strings are equal. Short ones are compared byte by byte, which takes fewer
+// steps than to compare them as words.
 #[inline(always)]
 fn is_same_name(a: &str, b: &str) -> bool
     ensures { result ≡ bytes_eq a.now b.now }

@@ -1,4 +1,4 @@
-//! A value that isn't looked at.
+//! A value that is ignored.
 
 ghost use Rattle.std.specs.Prelude.{Some, IsOk};
 ghost use Rattle.ipld_ser.specs.Image.{NoError};
@@ -12,11 +12,11 @@ use ipld_ser::SerdeError;
 use ipld_tree::Ipld;
 use std::alloc::Global;
 
-/// What is read from every tree, and holds nothing of it.
+/// A value that is read from every tree and keeps nothing of it.
 #[derive(Debug, PartialEq, Eq, Drop)]
 pub struct IgnoredAny;
 
-/// Every tree, which is dropped. Does not allocate.
+/// Every tree, which is dropped. `deserialize` does not allocate.
 impl Deserialize for IgnoredAny {
     ghost Contents = { Unit {0} };
 

@@ -1,4 +1,4 @@
-//! Structs read part by part, with no tree of the map.
+//! Structs read part by part, without a tree of the map.
 
 ghost use Rattle.std.specs.Prelude.{◌≡◌, ◌≢◌, ◌∷◌, ℕ, false, length, Some, option_map, IfOk, IfErr, OnOk};
 ghost use Rattle.ipld_de.specs.Fields.{strings, struct_reading, accepts_named, StructReadError};
@@ -11,8 +11,10 @@ use crate::image_reader::{ImageReader, Unread};
 use ipld_ser::key_precedes;
 use std::alloc::Global;
 
-/// What the fields of a struct are in a Map that nests no deeper than so many levels, under these names, read part by part; other
-/// entries are read past. It allocates what the fields do, and the tree of a list or a map that no field reads.
+/// Reads the fields of a struct with these names from a Map, part by part. The Map nests at most
+/// `levels` levels deep. Skips other entries.
+///
+/// Allocates for the fields, and for the tree of a list or a map that no field reads.
 ///
 /// ```
 /// use ipld_de::{Field, read_struct_image};
@@ -23,8 +25,10 @@ use std::alloc::Global;
 ///
 /// # Errors
 ///
-/// [`Unread::Memory`] where an allocation failed. [`Unread::Rejected`] where no Map comes, it nests deeper, its keys don't come in
-/// order, or a field doesn't read what its name holds. [`Unread::MissingField`] where none of these is so, and a name is missing.
+/// - [`Unread::Memory`] if an allocation fails.
+/// - [`Unread::Rejected`] if the next value is not a Map, it nests deeper, its keys are not in
+///   order, or a field does not read its value.
+/// - Otherwise [`Unread::MissingField`] if a required name is missing.
 pub fn read_struct_image<F: Fields, R: ImageReader>(
     alloc: Global,
     reader: &mut R,
@@ -53,7 +57,7 @@ pub fn read_struct_image<F: Fields, R: ImageReader>(
     }
 }
 
-// Hands the fields what their names hold among so many entries.
+// Reads `count` entries into the fields of their names.
 #[inline(always)]
 fn read_entries<F: Fields, R: ImageReader>(
     alloc: Global,
@@ -81,7 +85,7 @@ fn read_entries<F: Fields, R: ImageReader>(
     Ok(())
 }
 
-// Hands the field that the next key names what it holds, and returns the key, which comes after the last.
+// Reads an entry into the field of its key, and returns the key, which has to come after the last.
 #[inline(always)]
 fn read_entry<F: Fields, R: ImageReader>(
     alloc: Global,
@@ -111,7 +115,7 @@ fn read_entry<F: Fields, R: ImageReader>(
     Ok(key)
 }
 
-// Hands the field of this name the value that comes next; where there is none, the value is read past.
+// Reads the next value into the field of this name, or skips it if no field has the name.
 #[inline(always)]
 fn read_field<F: Fields, R: ImageReader>(
     alloc: Global,

@@ -1,4 +1,4 @@
-//! Values read part by part, with no tree of them.
+//! Values read part by part, without a tree of them.
 
 ghost use Rattle.std.specs.Prelude.{◌≡◌, ◌≢◌, ℕ, List, true, false, IfOk, IfErr, OnOk, string_bytes};
 ghost use Rattle.ipld_cid.specs.LinkOf.{link_of};
@@ -11,22 +11,26 @@ use ipld_ser::SerdeError;
 use ipld_tree::Ipld;
 use std::alloc::{AllocError, AllocFailed, Global};
 
-/// Why a value wasn't read by an [`ImageReader`]. What the reader holds is of no use then, except after [`Unread::MissingField`].
+/// The reason why an [`ImageReader`] did not read a value. The reader is then of no use, except
+/// after [`Unread::MissingField`].
 #[derive(Clone, Copy, Debug, PartialEq, Eq, Drop)]
 pub enum Unread {
     /// An allocation failed.
     Memory,
-    /// The value can't be read so: the bytes have an error, the type doesn't read what they hold, or the reader leaves it to be read by
-    /// its tree. Who called it reads the tree by [`Deserialize::deserialize`](crate::Deserialize::deserialize), by which it is seen why.
+    /// The value can't be read part by part: the bytes have an error, the type does not read their
+    /// value, or the reader leaves the value to be read from its tree. The caller reads the tree by
+    /// [`Deserialize::deserialize`](crate::Deserialize::deserialize), which shows the reason.
     Rejected,
-    /// The value was read to its end, and a name that has to be there is missing in it: `Custom("missing field")` is the error that
-    /// [`Deserialize::deserialize`](crate::Deserialize::deserialize) returns of its tree. The reader has moved past it.
+    /// The value was read to its end, and a required name is missing in it. For its tree
+    /// [`Deserialize::deserialize`](crate::Deserialize::deserialize) returns
+    /// `Custom("missing field")`. The reader has moved past the value.
     MissingField,
 }
 
 impl Unread {
-    /// Why a value isn't read of which a part isn't: `Rejected` of `MissingField`, since what follows the part wasn't looked at, and may
-    /// be rejected with another error. Else it is the part's.
+    /// Returns the error of a value that has a part with this error. For `MissingField` it is
+    /// `Rejected`: the bytes after the part were not read, and may be rejected with another error.
+    /// Otherwise it is the error of the part.
     #[inline(always)]
     pub fn of_part(self) -> Unread
         ensures exact { result ≡ unread_whole self }
@@ -44,7 +48,7 @@ impl From<AllocError> for Unread {
 
     ghost from_gives = { λ _ error. error ≡ Memory };
 
-    /// A failed allocation.
+    /// Returns `Memory`: an allocation failed.
     #[inline(always)]
     fn from(_error: AllocError) -> Unread {
         Unread::Memory
@@ -56,7 +60,7 @@ impl<T: Drop> From<AllocFailed<T>> for Unread {
 
     ghost from_gives = { λ _ error. error ≡ Memory };
 
-    /// A failed allocation; what couldn't be stored is dropped.
+    /// Returns `Memory`: an allocation failed. Drops the value that could not be stored.
     #[inline(always)]
     fn from(_error: AllocFailed<T>) -> Unread {
         Unread::Memory
@@ -69,7 +73,7 @@ impl From<SerdeError> for Unread {
 
     ghost from_gives = { λ error unread. (unread ≡ unread_of error) × (unread ≢ MissingField) };
 
-    /// `Memory` of `Memory`, and `Rejected` of each other.
+    /// Returns `Memory` for `Memory`, and `Rejected` for any other error.
     #[inline(always)]
     fn from(error: SerdeError) -> Unread {
         match error {
@@ -79,35 +83,41 @@ impl From<SerdeError> for Unread {
     }
 }
 
-/// What hands out a tree part by part, from the front of bytes that it has: a block that is being read.
+/// A reader that returns a tree part by part, from the front of its bytes: a block that is being
+/// read.
 ///
-/// A list is its head, with the number of its items, and then these. A map is its head, with the number of its entries, and then these,
-/// of each the key and the value; the keys come by length, and by bytes where the lengths are the same. Each call says what the bytes
-/// began with where it returns `Ok`, and has moved past that. After an error what the reader holds isn't said. No call returns
-/// [`Unread::MissingField`]. A call that takes no allocator doesn't allocate, and never returns [`Unread::Memory`].
+/// A list is its head, with the number of its items, and then the items. A map is its head, with
+/// the number of its entries, and then the entries. An entry is its key and then its value. The
+/// keys come in length-first order: by length, and by bytes if the lengths are the same.
+///
+/// If a call returns `Ok`, the bytes began with its result, and the reader has moved past that.
+/// After an error the contents of the reader are unspecified. The calls never return
+/// [`Unread::MissingField`]. A call without an allocator does not allocate, and never returns
+/// [`Unread::Memory`].
 pub trait ImageReader: Sized {
-    /// A key of a map, as the reader hands it out.
+    /// The reader's form of a key of a map.
     type Key: Copy;
 
     // the bytes that are left
     ghost contents: { Self → List ℕ };
 
-    // the bytes begin with the tree, which nests no deeper than so many levels, and the rest follows it
+    // the bytes begin with the tree, which nests at most that many levels deep, and the rest
+    // follows it
     ghost Begins: { ℕ → Tree → List ℕ → List ℕ → Type 0 };
 
-    // the bytes begin with the head of a list of so many items, and these follow it
+    // the bytes begin with the head of a list of that many items, and the rest follows it
     ghost BeginsList: { ℕ → List ℕ → List ℕ → Type 0 };
 
-    // the bytes begin with the head of a map of so many entries, and these follow it
+    // the bytes begin with the head of a map of that many entries, and the rest follows it
     ghost BeginsMap: { ℕ → List ℕ → List ℕ → Type 0 };
 
     // the bytes begin with the key, and its value follows it
     ghost BeginsKey: { List ℕ → List ℕ → List ℕ → Type 0 };
 
-    // the string that a key is
+    // the string of a key
     ghost key_bytes: { Self.Key → List ℕ };
 
-    /// Whether a Null comes. It is then read, and else nothing is.
+    /// Reads a Null if it comes next, and returns whether it did. Otherwise reads nothing.
     fn read_null(&mut self) -> bool
         ensures null { result ≡ true → (levels : ℕ) → Begins levels null (contents self.old)
             (contents self.new) }
@@ -145,37 +155,39 @@ pub trait ImageReader: Sized {
             (contents self.old) (contents self.new)) }
         ensures rejected { IfErr result (λ e. e ≡ Unread.Rejected) };
 
-    /// Reads any tree that nests no deeper than so many levels.
+    /// Reads any tree that nests at most `levels` levels deep.
     fn read_tree(&mut self, alloc: Global, levels: usize) -> Result<Ipld, Unread>
         ensures ok { IfOk result (λ v. Begins levels (tree_of v) (contents self.old)
             (contents self.new)) }
         ensures never_missing { IfErr result (λ e. e ≢ Unread.MissingField) };
 
-    /// Reads past any tree that nests no deeper than so many levels.
+    /// Skips any tree that nests at most `levels` levels deep.
     fn skip_tree(&mut self, alloc: Global, levels: usize) -> Result<(), Unread>
         ensures ok { OnOk result ((t : Tree) × Begins levels t (contents self.old)
             (contents self.new)) }
         ensures never_missing { IfErr result (λ e. e ≢ Unread.MissingField) };
 
-    /// Reads the head of a List, and returns the number of the items that follow. It is what the head claims, and they may not come.
+    /// Reads the head of a List, and returns the number of items that it announces. They may not
+    /// follow.
     fn begin_list(&mut self) -> Result<usize, Unread>
         ensures ok { IfOk result (λ count. BeginsList count (contents self.old)
             (contents self.new)) }
         ensures rejected { IfErr result (λ e. e ≡ Unread.Rejected) };
 
-    /// Reads the head of a Map, and returns the number of the entries that follow. It is what the head claims, and they may not come.
+    /// Reads the head of a Map, and returns the number of entries that it announces. They may not
+    /// follow.
     fn begin_map(&mut self) -> Result<usize, Unread>
         ensures ok { IfOk result (λ count. BeginsMap count (contents self.old)
             (contents self.new)) }
         ensures rejected { IfErr result (λ e. e ≡ Unread.Rejected) };
 
-    /// Reads a key, which its value follows.
+    /// Reads a key. Its value follows it.
     fn read_key(&mut self) -> Result<Self::Key, Unread>
         ensures ok { IfOk result (λ key. BeginsKey (key_bytes key) (contents self.old)
             (contents self.new)) }
         ensures rejected { IfErr result (λ e. e ≡ Unread.Rejected) };
 
-    /// The string that a key is.
+    /// Returns the string of a key.
     fn key_text(key: &Self::Key) -> &str
         ensures { result.now ≡ key_bytes key.now };
 

@@ -10,16 +10,18 @@ use crate::deserializer::single_char;
 use ipld_ser::{SerdeError, SerializeKey};
 use std::alloc::Global;
 
-/// A type whose values are read from the keys of a map: from each string that is a key, the value that is written as it.
+/// A type whose values are read from the keys of a map. A string that is a key is read as the value
+/// that is written as that string.
 pub trait DeserializeKey: SerializeKey + Sized + Drop {
-    // which error a string that is no key is rejected with; by default any
+    // the error for a string that is not a key; by default any
     ghost key_error: { List ℕ → error.SerdeError → Type 0 } = { λ _ _. ⊤ };
 
-    /// The key that is written as the string, which is consumed.
+    /// Returns the key that is written as the string, which is consumed.
     ///
     /// # Errors
     ///
-    /// [`SerdeError::Memory`] where an allocation failed; another kind, the type's `key_error`, only where the string is no key.
+    /// [`SerdeError::Memory`] if an allocation fails. Returns any other error, the type's
+    /// `key_error`, only if the string is not a key.
     fn from_text(alloc: Global, text: String) -> Result<Self, SerdeError>
         ensures ok { IfOk result (λ k. key_in Self.is_key (string_bytes text) ≡ Some
             (Self.text_of k)) }
@@ -39,7 +41,7 @@ impl DeserializeKey for String {
     }
 }
 
-/// The one character, or [`SerdeError::NotOneChar`].
+/// The only character, or [`SerdeError::NotOneChar`] if the string does not have exactly one.
 impl DeserializeKey for char {
     ghost key_error = { NotOneCharacter };
 

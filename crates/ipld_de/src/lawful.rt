@@ -14,14 +14,21 @@ use ipld_ser::{SerdeError, Serialize, to_ipld};
 use ipld_tree::Ipld;
 use std::alloc::Global;
 
-/// A type whose values round-trip: where a value has an image, the type reads that image; all that is read from it has the same image;
-/// and it is the value itself, up to its contents, where the value is plain.
+/// A type whose values round-trip. If a value has an image:
 ///
-/// A value is `plain` where no `Some` in it holds a value whose image is Null: `Some(None)` is written as `None` is, so it reads back
-/// as `None`. Every type of this crate that is both written and read is lawful, and forms over other types from the laws of their
-/// parts alone. A type of one's own states which values are plain, mostly those whose parts are, and cites the law of its form.
+/// - The type reads that image.
+/// - Every value that is read from the image has the same image.
+/// - If the value is plain, the value that is read is the value itself, up to its contents.
 ///
-/// The law has no function: it holds for every value, of all types at once, and [`write_and_read`] and [`read_written`] make use of it.
+/// A value is `plain` if no `Some` in it holds a value whose image is Null. `Some(None)` is written
+/// like `None`, so it reads back as `None`.
+///
+/// Every type of this crate that is both written and read is lawful. The law of a type over other
+/// types needs only the laws of its parts. A custom type states which values are plain, mostly
+/// those whose parts are plain, and cites the law of its form.
+///
+/// The law does not have a function: it holds for every value, of all types at once.
+/// [`write_and_read`] and [`read_written`] make use of it.
 pub trait Lawful: Serialize + Deserialize {
     // True if no `Some` in the value holds a value whose image is Null (serde's data model writes
     // `None` and such a `Some` alike).
@@ -31,13 +38,15 @@ pub trait Lawful: Serialize + Deserialize {
     ghost round_trip: { RoundTrip Self.image Self.contents Self.reads plain };
 }
 
-/// The value after a round trip: it is written as its image, and the image is read.
+/// Returns the value after a round trip: writes it as its image, and reads the image.
 ///
-/// What is read has the value's image, and is the value itself, up to its contents, where the value is plain.
+/// The value that is read has the image of `value`. If `value` is plain, the value that is read is
+/// `value` itself, up to its contents.
 ///
 /// # Errors
 ///
-/// [`SerdeError::Memory`] where an allocation failed; another kind only where the value has no image.
+/// [`SerdeError::Memory`] if an allocation fails. Returns any other error only if the value does
+/// not have an image.
 #[inline(always)]
 pub fn write_and_read<T: Lawful>(alloc: Global, value: &T) -> Result<T, SerdeError>
     ensures written { IfOk result (λ _. IsSome (T.image value.now)) }
@@ -49,15 +58,16 @@ pub fn write_and_read<T: Lawful>(alloc: Global, value: &T) -> Result<T, SerdeErr
     from_ipld(alloc, image)
 }
 
-/// What is read from a tree that a value of the type was written as; the tree is consumed.
+/// Reads a tree that a value of the type was written as. The tree is consumed.
 ///
-/// Where some value has the tree as its image, what is read has the same image, and it is that value itself, up to its contents,
-/// where that value is plain. For any other tree it is what the type reads.
+/// If some value has the tree as its image, the value that is read has the same image. If that
+/// value is plain, the value that is read is that value itself, up to its contents. For any other
+/// tree, the result is the type's reading of it.
 ///
 /// # Errors
 ///
-/// [`SerdeError::Memory`] where an allocation failed; another kind only where the type doesn't read the tree, which is then no value's
-/// image.
+/// [`SerdeError::Memory`] if an allocation fails. Returns any other error only if the type does not
+/// read the tree, which is then not the image of any value.
 #[inline(always)]
 pub fn read_written<T: Lawful>(alloc: Global, tree: Ipld) -> Result<T, SerdeError>
     ensures ok { IfOk result (λ w. T.reads (tree_of tree) ≡ Some (T.contents w)) }

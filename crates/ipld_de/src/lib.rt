@@ -1,7 +1,8 @@
 //! Trees of the IPLD data model read as typed values.
 //!
-//! A type says by the trait [`Deserialize`] what it reads from a tree. [`from_ipld`] reads it. The trait is implemented for numbers,
-//! strings, CIDs, options, lists, arrays, tuples of up to ten and maps. What a tree holds is moved into the value and not copied.
+//! A type states by the trait [`Deserialize`] how it reads a tree, and [`from_ipld`] reads it. The
+//! trait is implemented for numbers, strings, CIDs, options, lists, arrays, tuples of up to ten
+//! parts and maps. The contents of a tree are moved into the value and not copied.
 //!
 //! ```
 //! use ipld_de::from_ipld;

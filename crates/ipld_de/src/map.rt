@@ -17,9 +17,10 @@ use ipld_tree::Ipld;
 use std::alloc::Global;
 use std::collections::{BTreeMap, btree_map};
 
-/// Reads the entries of a Map in byte order of their keys, from
-/// [`Deserializer::deserialize_map`](crate::Deserializer::deserialize_map): a key by [`next_key`](MapDeserializer::next_key), and then
-/// its value by [`next_value`](MapDeserializer::next_value). Its drop is a loop, however deep the values nest.
+/// A reader of the entries of a Map in the byte order of their keys, from
+/// [`Deserializer::deserialize_map`](crate::Deserializer::deserialize_map). It reads a key by
+/// [`next_key`](MapDeserializer::next_key), and then its value by
+/// [`next_value`](MapDeserializer::next_value). Its drop is a loop, however deeply the values nest.
 pub struct MapDeserializer {
     entries: btree_map::IntoIter<String, Ipld, Global>,
     value: Option<Ipld>,
@@ -38,7 +39,7 @@ impl MapDeserializer {
         }
     }
 
-    // The next entry, which is moved. A value that waits still does.
+    // Returns the next entry, which is moved. A value that waits still waits.
     #[inline(always)]
     pub(crate) fn next_entry(&mut self) -> Option<(String, Ipld)>
         ensures { MatchOption result
@@ -49,12 +50,15 @@ impl MapDeserializer {
         self.entries.next()
     }
 
-    /// The next key, read as a `K` from a String; `None` at the end. Its value waits for [`next_value`](MapDeserializer::next_value),
-    /// in place of one that waited; at the end one that waited still does. A rejected key is consumed too, and its value waits.
+    /// Reads the next key as a `K`, from a String. Returns `None` at the end.
+    ///
+    /// The value of the key then waits for [`next_value`](MapDeserializer::next_value). It replaces
+    /// a value that waited before. At the end a value that waited still waits. A rejected key is
+    /// consumed too, and its value waits.
     ///
     /// # Errors
     ///
-    /// That of `K`, or [`SerdeError::Memory`].
+    /// The error of `K`, or [`SerdeError::Memory`] if an allocation fails.
     #[inline(always)]
     pub fn next_key<K: Deserialize>(&mut self, alloc: Global) -> Result<Option<K>, SerdeError>
         ensures ok { IfOk result (λ o. read_key K.reads (entries_left self.old) ≡ Some
@@ -77,11 +81,12 @@ impl MapDeserializer {
         }
     }
 
-    /// The value that waits, read as a `T`. No value waits afterwards, also where it is rejected.
+    /// Reads the value that waits as a `T`. No value waits afterwards, even if it is rejected.
     ///
     /// # Errors
     ///
-    /// [`SerdeError::MissingValue`] where no value waits; that of `T`, or [`SerdeError::Memory`].
+    /// [`SerdeError::MissingValue`] if no value waits. Otherwise the error of `T`, or
+    /// [`SerdeError::Memory`] if an allocation fails.
     #[inline(always)]
     pub fn next_value<T: Deserialize>(&mut self, alloc: Global) -> Result<T, SerdeError>
         ensures ok { IfOk result (λ v. option_and_then T.reads (waiting self.old) ≡ Some
@@ -98,7 +103,7 @@ impl MapDeserializer {
         }
     }
 
-    /// How many keys weren't taken yet. A value that waits isn't counted.
+    /// Returns the number of keys that were not taken yet. A value that waits is not counted.
     #[inline(always)]
     pub fn remaining(&self) -> usize
         ensures { result ≡ count_members (entries_left self.now) }
@@ -106,7 +111,8 @@ impl MapDeserializer {
         self.entries.len()
     }
 
-    /// How many keys weren't taken yet, which is always known. A value that waits isn't counted.
+    /// Returns the number of keys that were not taken yet, which is always known. A value that
+    /// waits is not counted.
     #[inline(always)]
     pub fn size_hint(&self) -> Option<usize>
         ensures { result ≡ Some (count_members (entries_left self.now)) }
@@ -114,11 +120,12 @@ impl MapDeserializer {
         Some(self.remaining())
     }
 
-    /// Ends the reading. A value that waits is dropped. Does not allocate.
+    /// Ends the reading. Drops a value that waits. Does not allocate.
     ///
     /// # Errors
     ///
-    /// [`SerdeError::Leftover`] with their number exactly where entries are left whose key wasn't taken.
+    /// [`SerdeError::Leftover`] with the number of entries whose key was not taken, if and only if
+    /// there are any.
     #[inline(always)]
     pub fn end(self) -> Result<(), SerdeError>
         ensures { result ≡ ended (count_members (entries_left self)) }
@@ -140,7 +147,8 @@ impl Drop for MapDeserializer {
     }
 }
 
-// Drops the values that were left over. It is kept out of line, so that a map that is read to its end pays for a test alone.
+// Drops the values that were left over. Out of line, so that a map that is read to its end costs
+// only a test.
 #[inline(never)]
 fn discard_values(entries: btree_map::IntoIter<String, Ipld, Global>) {
     for (_, value) in entries.rev() {

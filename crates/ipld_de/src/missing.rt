@@ -1,4 +1,4 @@
-//! What a field of a struct is where its name is missing.
+//! The value of a struct field whose name is missing.
 
 ghost use Rattle.std.specs.Prelude.{◌≡◌, Option, Some, None, codes, IfOk, IfErr};
 ghost use Rattle.ipld_de.specs.Reading.{IsCustom};
@@ -6,25 +6,26 @@ ghost use Rattle.ipld_de.specs.Reading.{IsCustom};
 use crate::fields::sealed::Sealed;
 use ipld_ser::SerdeError;
 
-/// What a [`Field`](crate::Field) of a type `T` is where its name is missing: an error by [`Required`], and `None` by [`Optional`].
+/// The result for a [`Field`](crate::Field) of a type `T` whose name is missing: an error for
+/// [`Required`], and `None` for [`Optional`].
 ///
 /// The trait is sealed: no other type can implement it.
 pub trait IfMissing<T>: Sealed {
-    // the value that stands for a missing name, if there is one
+    // the value for a missing name, if there is one
     ghost missing: { Option T };
 
-    /// The value that stands for a missing name. Does not allocate.
+    /// Returns the value for a missing name. Does not allocate.
     ///
     /// # Errors
     ///
-    /// `Custom("missing field")` where the name has to be there.
+    /// `Custom("missing field")` if the name is required.
     fn if_missing() -> Result<T, SerdeError>
         ensures ok { IfOk result (λ v. missing ≡ Some v) }
         ensures err { IfErr result (λ _. missing ≡ None) }
         ensures why { IfErr result (IsCustom (codes "missing field")) };
 }
 
-/// The name of a field has to be there.
+/// The rule that a field's name is required.
 pub enum Required {}
 
 impl Sealed for Required {}
@@ -38,7 +39,7 @@ impl<T> IfMissing<T> for Required {
     }
 }
 
-/// The name of a field may be missing: the field is then `None`.
+/// The rule that a field's name may be missing. The field is then `None`.
 pub enum Optional {}
 
 impl Sealed for Optional {}

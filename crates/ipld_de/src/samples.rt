@@ -1,10 +1,12 @@
-//! Types of one's own, written as a user of the crates would write them.
+//! Custom types, written as a user of the crates would write them.
 //!
-//! Each states its image, and writes it by one call of the [`Serializer`] or by one of its builders, with the calls in the order of
-//! the image. The contract of [`Serialize::serialize`] then proves that what is written is the image.
+//! Every type states its image. It writes the image by one call of the [`Serializer`], or by one of
+//! its builders with the calls in the order of the image. The contract of [`Serialize::serialize`]
+//! then proves that the image is written.
 //!
-//! A struct states what it reads by the names of its fields, and reads them by [`read_struct`]; an enum goes by the name of its variant.
-//! The law of each, that what is written is read as the same value, is put together of the laws of its parts.
+//! A struct states its reading by the names of its fields, and reads them by [`read_struct`]. An
+//! enum is read by the name of its variant. The law of a type is that a written value is read as
+//! the same value. It is composed of the laws of the type's parts.
 
 ghost use Rattle.std.specs.Prelude.{◌≡◌, [], ◌∷◌, Some, None, codes, string_bytes, ⊤, ℕ, List, Bool, true, false, IfOk, IfErr, refl, map};
 ghost use Rattle.ipld_cid.specs.LinkOf.{link_of};
@@ -50,7 +52,7 @@ pub struct Person {
     pub link: Cid,
 }
 
-/// The fields are put in the order of the struct; the Map has them in the order of their names.
+/// The fields are added in the order of the struct. The Map has them in the order of their names.
 impl Serialize for Person {
     ghost image = { λ p. struct_image (
         (codes "name", Some (text (string_bytes p.name)))
@@ -89,7 +91,7 @@ impl Serialize for Person {
     }
 }
 
-/// A Map of the five fields; other names are ignored.
+/// A Map of the five fields. Other names are ignored.
 impl Deserialize for Person {
     ghost Contents = { List ℕ × (ℕ × (List (List ℕ) × (Bool × Link))) };
 
@@ -191,7 +193,7 @@ impl Serialize for MyStruct {
     }
 }
 
-/// A Map with an Integer under `hello` and a Bool under `world`; other names are ignored.
+/// A Map with an Integer under `hello` and a Bool under `world`. Other names are ignored.
 impl Deserialize for MyStruct {
     ghost Contents = { ℕ × Bool };
 
@@ -224,7 +226,7 @@ impl Faithful for MyStruct {
     ghost equal_by_contents = { around_faithful (λ (s : Self). (s.hello, s.world)) (pair_faithful unsigned_faithful boolean_faithful) };
 }
 
-/// A struct with the image of [`MyStruct`], for one that is read strictly: with no field but its own.
+/// A struct with the image of [`MyStruct`] that is read strictly: from a Map with only its fields.
 #[derive(Debug, PartialEq, Eq, Drop)]
 pub struct MyStrict {
     /// A small integer.
@@ -289,7 +291,7 @@ pub struct Tagged<T> {
     pub item: T,
 }
 
-/// The image is stated over every `T`, by the image of the item.
+/// The image is stated for every `T`, by the image of the item.
 impl<T: Serialize> Serialize for Tagged<T> {
     ghost image = { λ v. struct_image (
         (codes "label", Some (text (string_bytes v.label))) ∷ (codes "item", T.image v.item) ∷ []) };
@@ -312,7 +314,7 @@ impl<T: Serialize> Serialize for Tagged<T> {
     }
 }
 
-/// A Map with a String under `label` and what the item reads under `item`; other names are ignored.
+/// A Map with a String under `label` and the item under `item`. Other names are ignored.
 impl<T: Deserialize> Deserialize for Tagged<T> {
     ghost Contents = { List ℕ × T.Contents };
 
@@ -340,7 +342,7 @@ impl<T: Deserialize> Deserialize for Tagged<T> {
     // [end: discard]
 }
 
-/// Plain where the item is.
+/// Plain if the item is.
 impl<T: Lawful> Lawful for Tagged<T> {
     ghost plain = { λ v. T.plain v.item };
 
@@ -396,7 +398,7 @@ impl Faithful for TupleStruct {
     ghost equal_by_contents = { regrouped (λ (c : ℕ × Bool). (c.0, (c.1, tt))) (λ (d : ℕ × (Bool × Unit {0})). (d.0, d.1.0)) (λ c. refl) (around_faithful (λ (s : Self). (s.0, s.1)) (pair_faithful unsigned_faithful boolean_faithful)) };
 }
 
-/// A struct without fields: the data model has nothing for it, so it has no image.
+/// A struct without fields. The data model has nothing for it, so it does not have an image.
 #[derive(Debug, PartialEq, Eq, Drop)]
 pub struct UnitStruct;
 
@@ -410,7 +412,7 @@ impl Serialize for UnitStruct {
     }
 }
 
-/// No tree.
+/// Not read from any tree.
 impl Deserialize for UnitStruct {
     ghost Contents = { Unit {0} };
 
@@ -436,11 +438,11 @@ impl Faithful for UnitStruct {
     ghost equal_by_contents = { only_faithful };
 }
 
-/// A newtype: its content alone.
+/// A newtype, written as only its content.
 #[derive(Debug, PartialEq, Eq, Drop)]
 pub struct Wrapped<T>(pub T);
 
-/// The image is whatever the content's is, so it is stated over every `T`.
+/// The image is the image of the content, so it is stated for every `T`.
 impl<T: Serialize> Serialize for Wrapped<T> {
     ghost image = { λ w. T.image w.0 };
 
@@ -451,7 +453,7 @@ impl<T: Serialize> Serialize for Wrapped<T> {
     }
 }
 
-/// What the content reads.
+/// Read as the content.
 impl<T: Deserialize> Deserialize for Wrapped<T> {
     ghost Contents = { T.Contents };
 
@@ -472,7 +474,7 @@ impl<T: Deserialize> Deserialize for Wrapped<T> {
     }
 }
 
-/// Plain where the content is.
+/// Plain if the content is.
 impl<T: Lawful> Lawful for Wrapped<T> {
     ghost plain = { λ w. T.plain w.0 };
 
@@ -483,7 +485,8 @@ impl<T: Faithful> Faithful for Wrapped<T> {
     ghost equal_by_contents = { around_faithful (λ (w : Self). w.0) T.equal_by_contents };
 }
 
-/// An enum with a variant of each form but the tuple: the name alone, or a Map of the name to the content.
+/// An enum with a variant of every form except the tuple: only the name, or a Map of the name to
+/// the content.
 #[derive(Debug, PartialEq, Eq, Drop)]
 pub enum MyEnum {
     /// Without content: the String `One`.
@@ -517,7 +520,11 @@ impl Serialize for MyEnum {
     }
 }
 
-/// `One`, also as a Map of `One` to Null; a Map of `Two` to an Integer; or a Map of `Three` to a Map with a Bool under `value`.
+/// Read from one of these trees:
+///
+/// - the String `One`, or a Map of `One` to Null
+/// - a Map of `Two` to an Integer
+/// - a Map of `Three` to a Map with a Bool under `value`
 impl Deserialize for MyEnum {
     ghost Contents = { Variants };
 
@@ -535,7 +542,7 @@ impl Deserialize for MyEnum {
     }
 }
 
-// The variant of this name, with its content.
+// Reads the variant of this name from its content.
 fn read_variant(
     alloc: Global,
     name: &str,

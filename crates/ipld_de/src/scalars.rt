@@ -1,4 +1,4 @@
-//! Bools, numbers, strings, bytes, CIDs and trees, as they are read.
+//! The reading of bools, numbers, strings, bytes, CIDs and trees.
 
 ghost use Rattle.std.specs.Prelude.{◌≡◌, ℕ, ℤ, List, Bool, Some, Ok, ok_or, string_bytes};
 ghost use Rattle.ipld_cid.specs.Cid.{Link};
@@ -449,7 +449,7 @@ impl Deserialize for String {
     }
 }
 
-/// Bytes, moved. A Link isn't bytes.
+/// Bytes, moved. A Link is not Bytes.
 impl Deserialize for ByteBuf {
     ghost Contents = { List ℕ };
 
@@ -477,7 +477,7 @@ impl Deserialize for ByteBuf {
     }
 }
 
-/// A Link. Bytes aren't a link, also where they encode a CID.
+/// A Link. Bytes are not a Link, even if they encode a CID.
 impl Deserialize for Cid {
     ghost Contents = { Link };
 
@@ -507,7 +507,7 @@ impl Deserialize for Cid {
     }
 }
 
-/// Any tree: itself.
+/// Any tree, unchanged.
 impl Deserialize for Ipld {
     ghost Contents = { Tree };
 

@@ -12,8 +12,9 @@ use ipld_tree::Ipld;
 use std::alloc::Global;
 use std::vec;
 
-/// Reads the items of a List in order, from [`Deserializer::deserialize_seq`](crate::Deserializer::deserialize_seq). Its drop is a
-/// loop, however deep the items nest.
+/// A reader of the items of a List in order, from
+/// [`Deserializer::deserialize_seq`](crate::Deserializer::deserialize_seq). Its drop is a loop,
+/// however deeply the items nest.
 pub struct SeqDeserializer {
     items: vec::IntoIter<Ipld>,
 }
@@ -28,11 +29,12 @@ impl SeqDeserializer {
         }
     }
 
-    /// The next item, read as a `T`; `None` at the end. The item is consumed, also where it is rejected.
+    /// Reads the next item as a `T`. Returns `None` at the end. The item is consumed, even if it is
+    /// rejected.
     ///
     /// # Errors
     ///
-    /// That of `T`, or [`SerdeError::Memory`].
+    /// The error of `T`, or [`SerdeError::Memory`] if an allocation fails.
     #[inline(always)]
     pub fn next_element<T: Deserialize>(&mut self, alloc: Global) -> Result<Option<T>, SerdeError>
         ensures ok { IfOk result (λ o. read_next T.reads (left self.old) ≡ Some
@@ -47,7 +49,7 @@ impl SeqDeserializer {
         }
     }
 
-    /// How many items weren't taken yet.
+    /// Returns the number of items that were not taken yet.
     #[inline(always)]
     pub fn remaining(&self) -> usize
         ensures { result ≡ count_items (left self.now) }
@@ -55,7 +57,7 @@ impl SeqDeserializer {
         self.items.len()
     }
 
-    /// How many items weren't taken yet, which is always known.
+    /// Returns the number of items that were not taken yet, which is always known.
     #[inline(always)]
     pub fn size_hint(&self) -> Option<usize>
         ensures { result ≡ Some (count_items (left self.now)) }
@@ -67,7 +69,8 @@ impl SeqDeserializer {
     ///
     /// # Errors
     ///
-    /// [`SerdeError::Leftover`] with their number exactly where items are left.
+    /// [`SerdeError::Leftover`] with the number of items that are left, if and only if there are
+    /// any.
     #[inline(always)]
     pub fn end(self) -> Result<(), SerdeError>
         ensures { result ≡ ended (count_items (left self)) }
@@ -86,7 +89,7 @@ impl Drop for SeqDeserializer {
     }
 }
 
-// The end, where nothing is left.
+// Checks that nothing is left.
 #[inline(always)]
 pub(crate) fn check_end(remaining: usize) -> Result<(), SerdeError>
     ensures { result ≡ ended remaining }

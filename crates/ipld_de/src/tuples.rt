@@ -1,4 +1,4 @@
-//! Tuples of up to ten, as they are read.
+//! The reading of tuples of up to ten parts.
 
 ghost use Rattle.std.specs.Prelude.{◌≡◌, ◌≢◌, ℕ, suc, Option, Some, IfOk, IfErr};
 ghost use Rattle.ipld_de.specs.Composites.{read_end, read_part, tuple_reading, PartError, LeftoverError, TupleReadError};
@@ -23,12 +23,12 @@ trait Parts: Sized + Drop {
 
     ghost contents: { Self → Contents };
 
-    // what they read from the items that are left, as the last of a tuple
+    // the reading of the parts from the items that are left, as the last parts of a tuple
     ghost reads: { Items → Option Contents };
 
     ghost read_error: { Items → error.SerdeError → Type 0 };
 
-    // how many there are
+    // the number of parts
     ghost count: { ℕ };
 
     // Reads the items that are left.
@@ -36,7 +36,7 @@ trait Parts: Sized + Drop {
         ensures ok { IfOk result (λ v. reads (left items) ≡ Some (contents v)) }
         ensures err { IfErr result (λ e. RejectsAs (reads (left items)) (read_error (left items)) e) };
 
-    // Reads as many items part by part.
+    // Reads `count` items part by part.
     fn read_each<R: ImageReader>(
         alloc: Global,
         reader: &mut R,
@@ -46,7 +46,7 @@ trait Parts: Sized + Drop {
             (R.contents reader.old) (R.contents reader.new)) }
         ensures never_missing { IfErr result (λ e. e ≢ Unread.MissingField) };
 
-    // Hands each on to its own `discard`.
+    // Calls `discard` for every part.
     fn discard_all(self);
 }
 
@@ -116,7 +116,7 @@ impl<T: Deserialize, P: Parts> Parts for (T, P) {
     }
 }
 
-// The next item of a tuple.
+// Reads the next item of a tuple.
 #[inline(always)]
 fn next_part<T: Deserialize>(alloc: Global, items: &mut SeqDeserializer) -> Result<T, SerdeError>
     ensures ok { IfOk result (λ v. read_first T.reads (left items.old) ≡ Some (T.contents v)) }
@@ -127,7 +127,7 @@ fn next_part<T: Deserialize>(alloc: Global, items: &mut SeqDeserializer) -> Resu
     items.next_element(alloc)?.ok_or(SerdeError::WrongLength)
 }
 
-// Reads a List of so many items part by part, as a tuple.
+// Reads a List of `count` items part by part, as a tuple.
 #[inline(always)]
 fn read_tuple_image<P: Parts, R: ImageReader>(
     alloc: Global,
@@ -150,8 +150,8 @@ fn read_tuple_image<P: Parts, R: ImageReader>(
     P::read_each(alloc, reader, inner)
 }
 
-/// A List of exactly one, which is read: [`SerdeError::WrongLength`] where there is none, [`SerdeError::Leftover`] where there are
-/// more.
+/// A List of exactly one item. A missing item is [`SerdeError::WrongLength`], and leftover items
+/// are [`SerdeError::Leftover`].
 impl<A: Deserialize> Deserialize for (A,) {
     ghost Contents = { A.Contents × Unit {0} };
 
@@ -184,8 +184,8 @@ impl<A: Deserialize> Deserialize for (A,) {
     }
 }
 
-/// A List of exactly two, each of which is read: [`SerdeError::WrongLength`] where there are fewer, [`SerdeError::Leftover`] where
-/// there are more.
+/// A List of exactly two items, which are read in order. A missing item is
+/// [`SerdeError::WrongLength`], and leftover items are [`SerdeError::Leftover`].
 impl<A: Deserialize, B: Deserialize> Deserialize for (A, B) {
     ghost Contents = { A.Contents × (B.Contents × Unit {0}) };
 
@@ -218,8 +218,8 @@ impl<A: Deserialize, B: Deserialize> Deserialize for (A, B) {
     }
 }
 
-/// A List of exactly three, each of which is read: [`SerdeError::WrongLength`] where there are fewer, [`SerdeError::Leftover`] where
-/// there are more.
+/// A List of exactly three items, which are read in order. A missing item is
+/// [`SerdeError::WrongLength`], and leftover items are [`SerdeError::Leftover`].
 impl<A: Deserialize, B: Deserialize, C: Deserialize> Deserialize for (A, B, C) {
     ghost Contents = { A.Contents × (B.Contents × (C.Contents × Unit {0})) };
 
@@ -252,8 +252,8 @@ impl<A: Deserialize, B: Deserialize, C: Deserialize> Deserialize for (A, B, C) {
     }
 }
 
-/// A List of exactly four, each of which is read: [`SerdeError::WrongLength`] where there are fewer, [`SerdeError::Leftover`] where
-/// there are more.
+/// A List of exactly four items, which are read in order. A missing item is
+/// [`SerdeError::WrongLength`], and leftover items are [`SerdeError::Leftover`].
 impl<A: Deserialize, B: Deserialize, C: Deserialize, D: Deserialize> Deserialize for (A, B, C, D) {
     ghost Contents = { A.Contents × (B.Contents × (C.Contents × (D.Contents × Unit {0}))) };
 
@@ -289,8 +289,8 @@ impl<A: Deserialize, B: Deserialize, C: Deserialize, D: Deserialize> Deserialize
     }
 }
 
-/// A List of exactly five, each of which is read: [`SerdeError::WrongLength`] where there are fewer, [`SerdeError::Leftover`] where
-/// there are more.
+/// A List of exactly five items, which are read in order. A missing item is
+/// [`SerdeError::WrongLength`], and leftover items are [`SerdeError::Leftover`].
 impl<A: Deserialize, B: Deserialize, C: Deserialize, D: Deserialize, E: Deserialize> Deserialize
     for (A, B, C, D, E) {
     ghost Contents = { A.Contents × (B.Contents × (C.Contents × (D.Contents × (E.Contents × Unit {0})))) };
@@ -329,8 +329,8 @@ impl<A: Deserialize, B: Deserialize, C: Deserialize, D: Deserialize, E: Deserial
     }
 }
 
-/// A List of exactly six, each of which is read: [`SerdeError::WrongLength`] where there are fewer, [`SerdeError::Leftover`] where
-/// there are more.
+/// A List of exactly six items, which are read in order. A missing item is
+/// [`SerdeError::WrongLength`], and leftover items are [`SerdeError::Leftover`].
 impl<
     A: Deserialize,
     B: Deserialize,
@@ -375,8 +375,8 @@ impl<
     }
 }
 
-/// A List of exactly seven, each of which is read: [`SerdeError::WrongLength`] where there are fewer, [`SerdeError::Leftover`] where
-/// there are more.
+/// A List of exactly seven items, which are read in order. A missing item is
+/// [`SerdeError::WrongLength`], and leftover items are [`SerdeError::Leftover`].
 impl<
     A: Deserialize,
     B: Deserialize,
@@ -425,8 +425,8 @@ impl<
     }
 }
 
-/// A List of exactly eight, each of which is read: [`SerdeError::WrongLength`] where there are fewer, [`SerdeError::Leftover`] where
-/// there are more.
+/// A List of exactly eight items, which are read in order. A missing item is
+/// [`SerdeError::WrongLength`], and leftover items are [`SerdeError::Leftover`].
 impl<
     A: Deserialize,
     B: Deserialize,
@@ -477,8 +477,8 @@ impl<
     }
 }
 
-/// A List of exactly nine, each of which is read: [`SerdeError::WrongLength`] where there are fewer, [`SerdeError::Leftover`] where
-/// there are more.
+/// A List of exactly nine items, which are read in order. A missing item is
+/// [`SerdeError::WrongLength`], and leftover items are [`SerdeError::Leftover`].
 impl<
     A: Deserialize,
     B: Deserialize,
@@ -532,8 +532,8 @@ impl<
     }
 }
 
-/// A List of exactly ten, each of which is read: [`SerdeError::WrongLength`] where there are fewer, [`SerdeError::Leftover`] where
-/// there are more.
+/// A List of exactly ten items, which are read in order. A missing item is
+/// [`SerdeError::WrongLength`], and leftover items are [`SerdeError::Leftover`].
 impl<
     A: Deserialize,
     B: Deserialize,

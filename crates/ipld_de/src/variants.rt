@@ -21,14 +21,16 @@ use ipld_ser::SerdeError;
 use ipld_tree::Ipld;
 use std::alloc::Global;
 
-/// Reads an enum, from [`Deserializer::deserialize_enum`](crate::Deserializer::deserialize_enum). Its drop is a loop, however deep the
-/// content nests.
+/// A reader of an enum, from
+/// [`Deserializer::deserialize_enum`](crate::Deserializer::deserialize_enum). Its drop is a loop,
+/// however deeply the content nests.
 pub struct EnumDeserializer {
     variant: String,
     content: Option<Ipld>,
 }
 
-/// Reads the content of an enum's variant, from [`EnumDeserializer::variant`]. Its drop is a loop, however deep the content nests.
+/// A reader of the content of an enum's variant, from [`EnumDeserializer::variant`]. Its drop is a
+/// loop, however deeply the content nests.
 pub struct VariantDeserializer {
     content: Option<Ipld>,
 }
@@ -41,7 +43,7 @@ impl EnumDeserializer {
         EnumDeserializer { variant, content }
     }
 
-    /// The variant's name, and its content to be read. Does not allocate.
+    /// Returns the variant's name, and its content to be read. Does not allocate.
     #[inline(always)]
     pub fn variant(self) -> (String, VariantDeserializer)
         ensures { (string_bytes result.0, content_of result.1) ≡ variant_of self }
@@ -52,11 +54,12 @@ impl EnumDeserializer {
 }
 
 impl EnumDeserializer {
-    /// The index of the variant's name among these names, and its content to be read. Does not allocate.
+    /// Returns the index of the variant's name among `names`, and the variant's content to be read.
+    /// Does not allocate.
     ///
     /// # Errors
     ///
-    /// `Custom("unknown variant")` where the name is none of them.
+    /// `Custom("unknown variant")` if the name is not one of them.
     pub fn variant_among(self, names: &[&str]) -> Result<(usize, VariantDeserializer), SerdeError>
         ensures found { IfOk result (λ v. (slice_get (strings names.now) v.0 ≡ Some
             (variant_of self).0) × (content_of v.1 ≡ (variant_of self).1)) }
@@ -73,11 +76,12 @@ impl EnumDeserializer {
 }
 
 impl VariantDeserializer {
-    /// A variant without content: there is none, or it is Null. Does not allocate.
+    /// Reads a variant without content: the content is missing or Null. Does not allocate.
     ///
     /// # Errors
     ///
-    /// [`SerdeError::WrongKind`] with the kind of the content exactly where there is another.
+    /// [`SerdeError::WrongKind`] with the kind of the content if and only if there is other
+    /// content.
     #[inline(always)]
     pub fn unit_variant(self) -> Result<(), SerdeError>
         ensures { result ≡ unit_in (content_of self) }
@@ -89,11 +93,12 @@ impl VariantDeserializer {
         }
     }
 
-    /// A variant of one value: the content, read as a `T`.
+    /// Reads a variant of one value: reads the content as a `T`.
     ///
     /// # Errors
     ///
-    /// [`SerdeError::VariantContent`] where there is no content; that of `T`, or [`SerdeError::Memory`].
+    /// [`SerdeError::VariantContent`] if the content is missing. Otherwise the error of `T`, or
+    /// [`SerdeError::Memory`] if an allocation fails.
     #[inline(always)]
     pub fn newtype_variant<T: Deserialize>(self, alloc: Global) -> Result<T, SerdeError>
         ensures ok { IfOk result (λ v. option_and_then T.reads (content_of self) ≡ Some
@@ -109,11 +114,13 @@ impl VariantDeserializer {
         }
     }
 
-    /// A variant of named fields: the fields of a Map, read as by [`read_struct`](crate::read_struct); other entries are ignored.
+    /// Reads a variant of named fields: reads the fields from a Map like
+    /// [`read_struct`](crate::read_struct). Ignores other entries.
     ///
     /// # Errors
     ///
-    /// [`SerdeError::VariantContent`] where there is no content, else those of [`read_struct`](crate::read_struct).
+    /// [`SerdeError::VariantContent`] if the content is missing. Otherwise the errors of
+    /// [`read_struct`](crate::read_struct).
     pub fn struct_fields<F: Fields>(
         self,
         alloc: Global,
@@ -136,12 +143,14 @@ impl VariantDeserializer {
         }
     }
 
-    /// A variant of so many values: the items of a List, to be read one by one. Does not allocate.
+    /// Reads a variant of `len` values: returns the items of a List, to be read one by one. Does
+    /// not allocate.
     ///
     /// # Errors
     ///
-    /// [`SerdeError::VariantContent`] where there is no content, [`SerdeError::WrongKind`] with the kind of the content where it is no
-    /// List, and [`SerdeError::WrongLength`] where it is a List of another length.
+    /// - [`SerdeError::VariantContent`] if the content is missing.
+    /// - [`SerdeError::WrongKind`] with the kind of the content if it is not a List.
+    /// - [`SerdeError::WrongLength`] if it is a List of another length.
     #[inline(always)]
     pub fn tuple_variant(self, len: usize) -> Result<SeqDeserializer, SerdeError>
         ensures { Returns left result (tuple_in len (content_of self)) }
@@ -158,12 +167,13 @@ impl VariantDeserializer {
         }
     }
 
-    /// A variant of named fields: the entries of a Map, to be read one by one. The names aren't looked at. Does not allocate.
+    /// Reads a variant of named fields: returns the entries of a Map, to be read one by one.
+    /// Ignores the names. Does not allocate.
     ///
     /// # Errors
     ///
-    /// [`SerdeError::VariantContent`] where there is no content, and [`SerdeError::WrongKind`] with the kind of the content where it is
-    /// no Map.
+    /// [`SerdeError::VariantContent`] if the content is missing. [`SerdeError::WrongKind`] with the
+    /// kind of the content if it is not a Map.
     #[inline(always)]
     pub fn struct_variant(self, _fields: &[&str]) -> Result<MapDeserializer, SerdeError>
         ensures content { Returns entries_left result (content_in entries_in (content_of self)) }

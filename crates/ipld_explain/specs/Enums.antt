@@ -15,96 +15,100 @@ use Rattle.ipld_explain.specs.Path.{key}
 use Rattle.ipld_explain.specs.Failures.{Failure, unknown_variant, FailsHere, Inside, Leads}
 use Rattle.ipld_explain.specs.declared.explanation.Expected.TheVariants as expected
 
--- the names of an enum's variants, in order, each with those of its fields
+-- the names of an enum's variants, in order, with the names of their fields
 abbrev pub Names : Type 0
 Names = List (List ℕ × List (List ℕ))
 
--- the names that are lent
+-- the model of borrowed names
 abbrev pub names_of : List (Bor (List ℕ) × Bor (List (Bor (List ℕ)))) → Names
 names_of names = map (λ n. (n.0.now, strings n.1.now)) names
 
--- the tree of a variant of this name and this content
+-- the tree of a variant with this name and this content
 abbrev pub whole : List ℕ → Option Tree → Tree
 whole name None = text name
 whole name (Some t) = entries (member name t no_members)
 
 -- ---- the variant of a name
 
--- what the first variant reads from the content, where it has the name, and else one of the others
+-- the reading of the content by the first variant if it has the name, and otherwise by the others
 abbrev pub first_reads : {C D : Type 0} → (List (List ℕ) → Option Tree → Option C) → (Names → List ℕ → Option Tree → Option D) → Names → List ℕ → Option Tree → Option (C ⊎ D)
 first_reads reads others [] name content = None
 first_reads reads others (n ∷ ns) name content = if bytes_eq name n.0 then option_map inl (reads n.1 content) else option_map inr (others ns name content)
 
--- its error
+-- True if `e` is the error of the first variant if it has the name, and otherwise of the others.
 abbrev pub FirstError : (List (List ℕ) → Option Tree → SerdeError → Type 0) → (Names → List ℕ → Option Tree → SerdeError → Type 0) → Names → List ℕ → Option Tree → SerdeError → Type 0
 FirstError error others [] name content e = ⊥
 FirstError error others (n ∷ ns) name content e = ((bytes_eq name n.0 ≡ true) × error n.1 content e) ⊎ ((bytes_eq name n.0 ≡ false) × others ns name content e)
 
--- its failure
+-- True if `f` is the failure of the first variant if it has the name, and otherwise of the others.
 abbrev pub FirstFails : (List (List ℕ) → List ℕ → Option Tree → Failure → Type 0) → (Names → List ℕ → Option Tree → Failure → Type 0) → Names → List ℕ → Option Tree → Failure → Type 0
 FirstFails fails others [] name content f = ⊥
 FirstFails fails others (n ∷ ns) name content f = ((bytes_eq name n.0 ≡ true) × fails n.1 name content f) ⊎ ((bytes_eq name n.0 ≡ false) × others ns name content f)
 
--- the names are those of a variant of so many fields and of the others
+-- True if the first names are those of a variant with `count` distinct fields, and the rest are
+-- those of the other variants.
 abbrev pub FirstNamed : ℕ → (Names → Type 0) → Names → Type 0
 FirstNamed count others [] = ⊥
 FirstNamed count others (n ∷ ns) = (length n.1 ≡ count) × AreDistinct n.1 × others ns
 
 -- ---- no variant is left
 
--- nothing is read
+-- Returns nothing: no variant is left to read the content.
 abbrev pub no_reading : Names → List ℕ → Option Tree → Option ⊥
 no_reading names name content = None
 
--- the error where no variant has the name
+-- True if `e` is the error that no variant has the name.
 abbrev pub UnknownError : Names → List ℕ → Option Tree → SerdeError → Type 0
 UnknownError names name content e = IsCustom (codes "unknown variant") e
 
--- no variant has the name
+-- True if `f` is the failure that no variant has the name.
 abbrev pub UnknownFails : Names → List ℕ → Option Tree → Failure → Type 0
 UnknownFails names name content f = (f.path ≡ []) × (f.expected ≡ expected.Variant) × IsCustom (codes "unknown variant") f.error × (f.wrong ≡ unknown_variant name)
 
--- there are no names
+-- True if the list of names is empty.
 abbrev pub NoneNamed : Names → Type 0
 NoneNamed names = names ≡ []
 
 -- ---- the content of a variant
 
--- nothing, or Null
+-- the unit value if the content is missing or Null
 abbrev pub unit_reading : Option Tree → Option (Unit {0})
 unit_reading content = result_ok (unit_in content)
 
--- the error of another content
+-- True if `e` is the error of a content that is neither missing nor Null.
 abbrev pub UnitError : Option Tree → SerdeError → Type 0
 UnitError content e = unit_in content ≡ Err e
 
--- the content is another value than Null
+-- True if there is content, and `f` is the failure that Null was expected as the content.
 abbrev pub UnitFails : List ℕ → Option Tree → Failure → Type 0
 UnitFails name None f = ⊥
 UnitFails name (Some t) f = Inside (key name) (FailsHere expected.Null (OtherKind t)) f
 
--- there is no content, so that the name alone is at fault; or the content fails
+-- True if the content is missing and `f` is the failure of the name itself, or the content fails.
 abbrev pub ContentFails : (Tree → Failure → Type 0) → List ℕ → Option Tree → Failure → Type 0
 ContentFails fails name None f = FailsHere expected.Map (λ e. e ≡ VariantContent) f
 ContentFails fails name (Some t) f = Inside (key name) (fails t) f
 
 -- ---- an enum
 
--- a tree that is no variant; or a variant that fails
+-- True if `f` is the failure of a tree that is not a variant, or of a variant.
 abbrev pub VariantFails : (List ℕ → Option Tree → Failure → Type 0) → Result forms.Variant SerdeError → Failure → Type 0
 VariantFails fails (Err other) f = FailsHere expected.Variant (λ e. e ≡ other) f
 VariantFails fails (Ok v) f = fails v.0 v.1 f
 
--- an enum whose variants fail so
+-- True if `f` is the failure of a tree that is read as an enum. `fails` has the failures of its
+-- variants.
 abbrev pub EnumFails : (List ℕ → Option Tree → Failure → Type 0) → Tree → Failure → Type 0
 EnumFails fails t f = VariantFails fails (variant_in t) f
 
--- what is returned of the variant of this name and this content: nothing where it is read, and else its failure, seen from the enum
+-- True if the result is nothing and the variant of this name and this content is read, or it is the
+-- failure of the variant, with the path from the enum.
 abbrev pub ExplainsVariant : {C : Type 0} → (List ℕ → Option Tree → Option C) → (List ℕ → Option Tree → Failure → Type 0) → List ℕ → Option Tree → Option Failure → Type 0
 ExplainsVariant reads fails name content None = IsSome (reads name content)
 ExplainsVariant reads fails name content (Some f) = (reads name content ≡ None) × Leads (whole name content) f × fails name content f
 
--- what is returned of a content: nothing where it is read, and else its failure, seen from the enum
+-- True if the result is nothing and the content is read, or it is the failure of the content, with
+-- the path from the enum.
 abbrev pub ExplainsContent : {C : Type 0} → (Option Tree → Option C) → (List ℕ → Option Tree → Failure → Type 0) → List ℕ → Option Tree → Option Failure → Type 0
 ExplainsContent reads fails name content None = IsSome (reads content)
 ExplainsContent reads fails name content (Some f) = (reads content ≡ None) × Leads (whole name content) f × fails name content f

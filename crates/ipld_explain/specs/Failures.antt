@@ -1,4 +1,4 @@
--- Where and why a tree isn't read.
+-- The place and the reason of a failure to read a tree.
 use Rattle.std.specs.Prelude.{◌≡◌, ℕ, List, [], ◌∷◌, map, reverse, Option, Some, None, IsSome, IsSomeAnd, string_bytes}
 use Rattle.ipld_tree.specs.Tree.{Tree}
 use Rattle.ipld_tree.specs.Kind.{kind_of}
@@ -12,20 +12,21 @@ use Rattle.ipld_explain.specs.declared.explanation.Reason.{Reason}
 use Rattle.ipld_explain.specs.declared.explanation.Reason.TheVariants.{Value, MissingField, UnknownField, UnknownVariant, Length}
 use Rattle.ipld_explain.specs.declared.explanation.Explanation.{Explanation}
 
--- what is wrong with the value at fault
+-- the reason why a value is at fault
 pub data Wrong : Type 0 where
-  -- it is another value than is expected
+  -- it differs from the expected value
   value : Wrong
   -- it is a map that lacks this name
   missing_field : List ℕ → Wrong
-  -- it stands under a name that no field has
+  -- its key is a name that no field has
   unknown_field : Wrong
-  -- it is a variant of this name, which none has
+  -- it names a variant that the enum doesn't have
   unknown_variant : List ℕ → Wrong
-  -- so many items are expected, and it is a list of so many
+  -- it is a list of another length: the number of expected items, and the number of items found
   length : ℕ → ℕ → Wrong
 
--- the path to the value at fault, what was found and expected there, the error, and what is wrong
+-- a failure: the path to the value at fault, the kind found and the value expected there, the
+-- error, and the reason
 pub record Failure : Type 0 where
   pub path : List Step
   pub found : IpldKind
@@ -33,12 +34,12 @@ pub record Failure : Type 0 where
   pub error : SerdeError
   pub wrong : Wrong
 
--- the step that a segment is
+-- the model of a segment
 abbrev pub step_of : Segment → Step
 step_of (Key k) = key (string_bytes k)
 step_of (Index n) = index n
 
--- what a reason says
+-- the model of a reason
 abbrev pub wrong_of : Reason → Wrong
 wrong_of Value = value
 wrong_of (MissingField name) = missing_field (string_bytes name)
@@ -46,7 +47,7 @@ wrong_of UnknownField = unknown_field
 wrong_of (UnknownVariant name) = unknown_variant (string_bytes name)
 wrong_of (Length expected found) = length expected found
 
--- what an explanation says: its segments are kept from the innermost on
+-- the model of an explanation, whose segments are kept from the innermost to the outermost
 abbrev pub failure_of : Explanation → Failure
 failure_of x = record {
   path = map step_of (reverse x.segments.items);
@@ -56,23 +57,24 @@ failure_of x = record {
   wrong = wrong_of x.reason;
 }
 
--- the failure of a value that a step leads to, seen from where the step begins
+-- the failure of a value that a step leads to, with the step at the front of its path
 abbrev pub under : Step → Failure → Failure
 under s f = record { path = s ∷ f.path; found = f.found; expected = f.expected; error = f.error; wrong = f.wrong }
 
--- it lies in what the step leads to
+-- True if `f` is the failure of the value that the step leads to.
 abbrev pub Inside : Step → (Failure → Type 0) → Failure → Type 0
 Inside s fails f = (g : Failure) × fails g × (f ≡ under s g)
 
--- its path leads to a value of the kind that was found
+-- True if the path of the failure leads to a value of the kind that was found.
 abbrev pub Leads : Tree → Failure → Type 0
 Leads t f = IsSomeAnd (at_path f.path t) (λ v. kind_of v ≡ f.found)
 
--- it is the value itself: this was expected, and this is the error
+-- True if `f` is the failure of the value itself, with this expected value and such an error.
 abbrev pub FailsHere : Expected → (SerdeError → Type 0) → Failure → Type 0
 FailsHere expected error f = (f.path ≡ []) × (f.expected ≡ expected) × error f.error × (f.wrong ≡ value)
 
--- what is returned of a tree: nothing where it is read, and else a failure that leads to a value in it
+-- True if the result is nothing and the tree is read, or it is its failure, which leads to a value
+-- in the tree.
 abbrev pub Explains : {C : Type 0} → (Tree → Option C) → (Tree → Failure → Type 0) → Tree → Option Failure → Type 0
 Explains reads fails t None = IsSome (reads t)
 Explains reads fails t (Some f) = (reads t ≡ None) × Leads t f × fails t f

@@ -1,2 +1,2 @@
--- Laws for use in ghost members, and no definitions.
+-- Laws for use in ghost members, without definitions.
 pub mod Deciding

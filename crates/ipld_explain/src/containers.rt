@@ -19,7 +19,7 @@ use ipld_tree::Ipld;
 use std::alloc::{AllocError, Global};
 use std::collections::BTreeMap;
 
-/// Null is read, and else it is the content that is explained.
+/// Null is read. Otherwise the content is explained.
 impl<T: Explain> Explain for Option<T> {
     ghost fails = { OptionFails T.fails };
 
@@ -44,7 +44,7 @@ impl<T: Explain> Explain for Vec<T> {
     }
 }
 
-// The first item that isn't read.
+// Explains the first item that isn't read.
 fn explain_items<T: Explain>(
     alloc: Global,
     mut items: SeqDeserializer,
@@ -81,7 +81,7 @@ impl<T: Explain> Explain for BTreeMap<String, T> {
     }
 }
 
-// The first value that isn't read.
+// Explains the first value that isn't read.
 fn explain_values<T: Explain>(
     alloc: Global,
     mut map: MapDeserializer,

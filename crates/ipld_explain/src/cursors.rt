@@ -9,7 +9,7 @@ use ipld_de::{MapDeserializer, SeqDeserializer};
 use ipld_tree::Ipld;
 use std::alloc::{AllocError, Global};
 
-// The next item of a list.
+// Returns the next item of a list.
 pub(crate) fn next_item(
     alloc: Global,
     items: &mut SeqDeserializer,
@@ -24,7 +24,7 @@ pub(crate) fn next_item(
     }
 }
 
-// The next entry of a map.
+// Returns the next entry of a map.
 pub(crate) fn next_entry(
     alloc: Global,
     map: &mut MapDeserializer,

@@ -23,30 +23,33 @@ use ipld_tree::{Ipld, IpldKind};
 use std::alloc::{AllocError, Global};
 use std::marker::PhantomData;
 
-/// What a variant of an enum holds, as it is explained: [`NoContent`], [`Holds`] or [`HasFields`].
+/// The content of a variant of an enum, as it is explained: [`NoContent`], [`Holds`] or
+/// [`HasFields`].
 ///
-/// Its call is for [`explain_enum`].
+/// Its function is meant for [`explain_enum`].
 pub trait ExplainContent {
-    // what the content stands for
+    // the model of the content
     ghost Contents: { Type 0 };
 
-    // how many named fields it has
+    // the number of its named fields
     ghost count: { ℕ };
 
-    // what is read from the content, where the fields have these names
+    // the reading of the content, for these names of the fields
     ghost reads: { List (List ℕ) → Option Tree → Option Contents };
 
-    // with which error it isn't read
+    // the error if it isn't read
     ghost read_error: { List (List ℕ) → Option Tree → error.SerdeError → Type 0 };
 
-    // where and why it isn't read, seen from the enum, by the names of the fields and of the variant
+    // the failure if it isn't read, seen from the enum, by the names of the fields and of the
+    // variant
     ghost fails: { List (List ℕ) → List ℕ → Option Tree → Failure → Type 0 };
 
-    /// Where and why the content of the variant of this name isn't read, seen from the enum; `None` where it is read.
+    /// Explains why the content of the variant of this name isn't read. The path begins at the
+    /// enum. Returns `None` if the content is read.
     ///
     /// # Errors
     ///
-    /// `AllocError` where an allocation failed.
+    /// `AllocError` if an allocation fails.
     fn explain_content(
         alloc: Global,
         name: String,
@@ -62,15 +65,15 @@ pub trait ExplainContent {
             (option_map tree_of content) explanation.error)) };
 }
 
-/// A variant that holds nothing, as `Started`.
+/// A variant that holds nothing, such as `Started`.
 pub struct NoContent;
 
-/// A variant that holds a value, as `Said(String)`, or a tuple of several.
+/// A variant that holds a value, such as `Said(String)`, or a tuple of several values.
 pub struct Holds<T: Explain> {
     held: PhantomData<T>,
 }
 
-/// A variant of named fields, as `Moved { from: i64, to: i64 }`.
+/// A variant with named fields, such as `Moved { from: i64, to: i64 }`.
 pub struct HasFields<F: ExplainFields> {
     fields: PhantomData<F>,
 }
@@ -156,7 +159,7 @@ impl<F: ExplainFields> ExplainContent for HasFields<F> {
     }
 }
 
-// A string that is the name of a variant with content.
+// Creates the explanation of a string that is the name of a variant with content.
 fn variant_needs_content(alloc: Global) -> Explanation
     ensures path { (failure_of result).path ≡ [] }
     ensures found { result.found ≡ IpldKind.String }
@@ -172,31 +175,32 @@ fn variant_needs_content(alloc: Global) -> Explanation
     )
 }
 
-/// The variants of an enum, as they are explained: `()` where there are none, or a pair of what the first holds and the variants after
-/// it.
+/// The variants of an enum, as they are explained: `()` for no variants, or a pair of the first
+/// variant's content and the variants after it.
 ///
-/// Its call is for [`explain_enum`].
+/// Its function is meant for [`explain_enum`].
 pub trait ExplainVariants {
-    // what the variants hold, one or another
+    // the content of one of the variants
     ghost Contents: { Type 0 };
 
-    // what is read of a variant of this name and this content
+    // the reading of a variant of this name and this content
     ghost reads: { Names → List ℕ → Option Tree → Option Contents };
 
-    // with which error it isn't read
+    // the error if it isn't read
     ghost read_error: { Names → List ℕ → Option Tree → error.SerdeError → Type 0 };
 
-    // where and why it isn't read, seen from the enum
+    // the failure if it isn't read, seen from the enum
     ghost fails: { Names → List ℕ → Option Tree → Failure → Type 0 };
 
     // these are the names of the variants and of their fields
     ghost named: { Names → Type 0 };
 
-    /// Where and why a variant of this name and this content isn't read, seen from the enum; `None` where it is read.
+    /// Explains why a variant of this name and this content isn't read. The path begins at the
+    /// enum. Returns `None` if the variant is read.
     ///
     /// # Errors
     ///
-    /// `AllocError` where an allocation failed.
+    /// `AllocError` if an allocation fails.
     fn explain_variant(
         alloc: Global,
         name: String,
@@ -269,7 +273,7 @@ impl<C: ExplainContent, V: ExplainVariants> ExplainVariants for (C, V) {
     }
 }
 
-// The content of a variant, where there is some.
+// Returns the content of a variant, if it has content.
 fn take_content(alloc: Global, content: VariantDeserializer) -> Result<Option<Ipld>, AllocError>
     ensures { IfOk result (λ o. option_map tree_of o ≡ content_of content) }
 {
@@ -280,13 +284,16 @@ fn take_content(alloc: Global, content: VariantDeserializer) -> Result<Option<Ip
     }
 }
 
-/// Where and why an enum of these variants isn't read from the tree, where these are the names of the variants, each with those of its
-/// fields: the tree itself, where it is neither a String nor a Map of one entry, or names no variant, or lacks the content of one; else what
-/// is at fault in the content, whose path begins with the variant's name.
+/// Explains where and why an enum of these variants isn't read from the tree. `names` are the names
+/// of the variants, each with the names of its fields.
+///
+/// The tree itself is at fault if it is neither a String nor a Map of one entry, if no variant has
+/// its name, or if it lacks the content of its variant. Otherwise a value in the content is at
+/// fault, and its path begins with the variant's name.
 ///
 /// # Errors
 ///
-/// `AllocError` where an allocation failed.
+/// `AllocError` if an allocation fails.
 pub fn explain_enum<V: ExplainVariants>(
     alloc: Global,
     value: Ipld,

@@ -11,21 +11,24 @@ use ipld_ser::SerdeError;
 use ipld_tree::Ipld;
 use std::alloc::{AllocError, Global};
 
-/// A type that says where and why it doesn't read a tree.
+/// A type that explains where and why it doesn't read a tree.
 pub trait Explain: Deserialize {
-    // True if this is where and why the type doesn't read a tree: of a value that is taken as a
-    // whole the value itself, of a composite type the first part that is not read. Each type states
-    // it.
+    // True if this failure is the place and the reason for which the type doesn't read a tree. For
+    // a value that is read as a whole, it is the value itself. For a composite type, it is the
+    // first part that is not read. Each type defines it.
     ghost fails: { Tree → Failure → Type 0 };
 
-    /// Where and why the type doesn't read the tree, which is consumed. `None` exactly where it reads it. The error is the one with which
-    /// [`from_ipld`](ipld_de::from_ipld) rejects the tree, unless an allocation fails there.
+    /// Explains where and why the type doesn't read the tree. Returns `None` if and only if it
+    /// reads the tree. The tree is consumed.
     ///
-    /// It reads the tree once more, and allocates what that takes and the path.
+    /// The error is the one with which [`from_ipld`](ipld_de::from_ipld) rejects the tree, unless
+    /// an allocation fails there.
+    ///
+    /// It reads the tree once more. It allocates for this reading and for the path.
     ///
     /// # Errors
     ///
-    /// `AllocError` where an allocation failed.
+    /// `AllocError` if an allocation fails.
     fn explain(alloc: Global, value: Ipld) -> Result<Option<Explanation>, AllocError>
         ensures why { IfOk result (λ found. Explains Self.reads fails (tree_of value)
             (option_map failure_of found)) }
@@ -33,12 +36,14 @@ pub trait Explain: Deserialize {
             Self.read_error (tree_of value) explanation.error)) };
 }
 
-/// Explains a value that is taken as a whole: where the type doesn't read it, it is the value itself that is at fault. For the `explain` of
-/// a type of one's own whose parts aren't told apart.
+/// Explains a value that is read as a whole. If the type doesn't read it, the value itself is at
+/// fault.
+///
+/// Use it for the `explain` of a custom type if its parts are not to be distinguished.
 ///
 /// # Errors
 ///
-/// `AllocError` where an allocation failed.
+/// `AllocError` if an allocation fails.
 pub fn explain_whole<T: Deserialize>(
     alloc: Global,
     value: Ipld,

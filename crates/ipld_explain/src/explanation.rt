@@ -1,4 +1,4 @@
-//! Where and why a tree isn't read.
+//! The place and the reason of a failure to read a tree.
 
 ghost use Rattle.std.specs.Prelude.{◌≡◌, [], IfOk, codes, string_bytes};
 ghost use Rattle.ipld_explain.specs.Failures.{failure_of, step_of, under, value, missing_field, unknown_field, unknown_variant, length};
@@ -9,7 +9,7 @@ use ipld_tree::IpldKind;
 use std::alloc::{AllocError, Global};
 use std::{error, fmt};
 
-/// A step on a path: from a map to what a key holds, or from a list to an item.
+/// A step on a path: from a map to the value of a key, or from a list to an item.
 #[derive(Debug, PartialEq, Eq, Drop)]
 pub enum Segment {
     /// The value of this key.
@@ -18,18 +18,18 @@ pub enum Segment {
     Index(usize),
 }
 
-/// What a type expects to find.
+/// The value that a type expects.
 #[derive(Clone, Copy, Debug, PartialEq, Eq)]
 pub enum Expected {
-    /// What a type of one's own reads, or a type that is taken as a whole.
+    /// A value of a custom type, or of a type that is read as a whole.
     Value,
     /// Null.
     Null,
     /// A Bool.
     Bool,
-    /// An Integer that is a signed number of so many bits.
+    /// An Integer that is a signed number of this many bits.
     Signed(u32),
-    /// An Integer that is an unsigned number of so many bits.
+    /// An Integer that is an unsigned number of this many bits.
     Unsigned(u32),
     /// A String of exactly one character.
     Char,
@@ -43,51 +43,55 @@ pub enum Expected {
     List,
     /// A Map.
     Map,
-    /// An enum's variant: a String that is its name, or a Map of its name alone to its content.
+    /// A variant of an enum: a String that is its name, or a Map with only one entry, from its name
+    /// to its content.
     Variant,
     /// No value, since no field has the name.
     Nothing,
 }
 
-/// What is wrong with the value at fault.
+/// The reason why a value is at fault.
 #[derive(Debug, PartialEq, Eq, Drop)]
 pub enum Reason {
-    /// It is another value than is expected. The error says more.
+    /// It differs from the expected value. The error has the details.
     Value,
     /// It is a Map that lacks this name.
     MissingField(String),
-    /// It stands under a name that no field has: the last key of the path.
+    /// Its key is a name that no field has. The key is the last one of the path.
     UnknownField,
     /// It names a variant that the enum doesn't have.
     UnknownVariant(String),
     /// It is a List of another length.
     Length {
-        /// How many items are expected.
+        /// The number of expected items.
         expected: usize,
-        /// How many the List has.
+        /// The number of items in the List.
         found: usize,
     },
 }
 
-/// Where and why a tree isn't read: the path to the value at fault, what was expected and found there, and the error.
+/// The place and the reason of a failure to read a tree: the path to the value at fault, the
+/// expected value, the kind that was found, and the error.
 ///
-/// Its `Display` is a sentence, as `posts/3/author: expected a String, found Integer`. The path is left out where it is the tree itself.
+/// Its `Display` prints a sentence, for example `posts/3/author: expected a String, found Integer`.
+/// The path is left out if the tree itself is at fault.
 #[derive(Debug, PartialEq, Eq, Drop)]
 pub struct Explanation {
-    /// The path to the value at fault, from the innermost segment to the outermost: that of `posts/3/author` begins with `author`.
+    /// The path to the value at fault, from the innermost segment to the outermost. For
+    /// `posts/3/author` it begins with `author`.
     pub segments: Vec<Segment>,
     /// The kind of the value at fault.
     pub found: IpldKind,
-    /// What the type expects there.
+    /// The value that the type expects there.
     pub expected: Expected,
     /// The error of the type that doesn't read the value at fault.
     pub error: SerdeError,
-    /// What is wrong with it.
+    /// The reason why it is at fault.
     pub reason: Reason,
 }
 
 impl Explanation {
-    // The value itself is at fault.
+    // Creates an explanation: the value itself is at fault.
     pub(crate) fn at_value(
         alloc: Global,
         found: IpldKind,
@@ -109,7 +113,7 @@ impl Explanation {
         }
     }
 
-    // A map lacks the name.
+    // Creates an explanation: a map lacks the name.
     pub(crate) fn missing_field(alloc: Global, name: &str) -> Result<Explanation, AllocError>
         ensures path { IfOk result (λ x. (failure_of x).path ≡ []) }
         ensures found { IfOk result (λ x. x.found ≡ IpldKind.Map) }
@@ -126,7 +130,7 @@ impl Explanation {
         })
     }
 
-    // No field has the name that the value stands under.
+    // Creates an explanation: no field has the name of the value.
     pub(crate) fn unknown_field(alloc: Global, found: IpldKind) -> Explanation
         ensures path { (failure_of result).path ≡ [] }
         ensures found { result.found ≡ found }
@@ -143,7 +147,7 @@ impl Explanation {
         }
     }
 
-    // No variant has the name.
+    // Creates an explanation: no variant has the name.
     pub(crate) fn unknown_variant(alloc: Global, found: IpldKind, name: String) -> Explanation
         ensures path { (failure_of result).path ≡ [] }
         ensures found { result.found ≡ found }
@@ -160,7 +164,7 @@ impl Explanation {
         }
     }
 
-    // A list of `found` items, where there have to be `expected`.
+    // Creates an explanation: a list has `found` items instead of `expected`.
     pub(crate) fn wrong_length(
         alloc: Global,
         expected: usize,
@@ -182,7 +186,8 @@ impl Explanation {
         }
     }
 
-    // This fault, with its path seen from the list or the map that the segment leads out of.
+    // Returns this explanation with its path extended by the segment, which leads from a list or a
+    // map to its value.
     pub(crate) fn within_segment(self, segment: Segment) -> Result<Explanation, AllocError>
         ensures { IfOk result (λ x. failure_of x ≡ under (step_of segment) (failure_of self)) }
     {
@@ -205,7 +210,7 @@ impl Explanation {
 }
 
 impl Expected {
-    // What is expected, in words.
+    // Writes the expected value in words.
     fn describe<W: fmt::Write>(&self, f: &mut fmt::Formatter<W>) -> fmt::Result {
         match self {
             Expected::Value => f.write_str("another value"),
@@ -241,7 +246,8 @@ impl fmt::Display for Segment {
 }
 
 impl Explanation {
-    // The path, its segments separated by `/`, and what stands between it and the words after it.
+    // Writes the path, with its segments separated by `/`, and a separator before the words after
+    // it.
     fn write_path<W: fmt::Write>(&self, f: &mut fmt::Formatter<W>) -> fmt::Result {
         let mut is_first = true;
         for segment in self.segments.iter().rev() {

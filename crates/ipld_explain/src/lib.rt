@@ -1,7 +1,9 @@
-//! Where and why a tree isn't read as a typed value.
+//! Explanations of why a tree isn't read as a typed value.
 //!
-//! [`from_ipld`](ipld_de::from_ipld) says by a [`SerdeError`](ipld_ser::SerdeError) what is wrong. [`explain`](Explain::explain) takes a
-//! second look at the tree and says where: it returns the path to the value at fault, what was expected there and what was found.
+//! [`from_ipld`](ipld_de::from_ipld) returns a [`SerdeError`](ipld_ser::SerdeError) that describes
+//! the error. [`explain`](Explain::explain) reads the tree again and finds the place of the error.
+//! It returns the path to the value at fault, the value that is expected there, and the kind that
+//! was found.
 //!
 //! ```
 //! use ipld_explain::Explain;

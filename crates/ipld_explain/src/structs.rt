@@ -20,20 +20,21 @@ use ipld_de::{Deserialize, Deserializer, Field, Fields, IfMissing, MapDeserializ
 use ipld_tree::Ipld;
 use std::alloc::{AllocError, Global};
 
-/// The fields of a struct whose types explain why they don't read a tree: a [`Field`], an [`OptionalField`](ipld_de::OptionalField), or a pair of one and the fields
-/// after it.
+/// The fields of a struct whose types explain why they don't read a tree: a [`Field`], an
+/// [`OptionalField`](ipld_de::OptionalField), or a pair of one of these and the fields after it.
 ///
-/// Its calls are for [`explain_struct`].
+/// Its functions are meant for [`explain_struct`].
 pub trait ExplainFields: Fields {
-    // The fields in their order: of each whether its name has to be there, which trees it reads,
-    // and how it fails.
+    // The fields in their order. For each field: whether its name is required, which trees it
+    // reads, and how it fails.
     ghost fields: { List {1} Part };
 
-    /// Why the field at this index doesn't read the tree; `None` where it does.
+    /// Explains why the field at this index doesn't read the tree. Returns `None` if it reads the
+    /// tree.
     ///
     /// # Errors
     ///
-    /// `AllocError` where an allocation failed.
+    /// `AllocError` if an allocation fails.
     fn explain_at(
         alloc: Global,
         index: usize,
@@ -47,16 +48,17 @@ pub trait ExplainFields: Fields {
         ensures accepted { IfOk result (λ found. IfNone found (reading.accepts_at Self.parts index
             (tree_of value) ≡ true)) };
 
-    /// The first of the names, in the order of the fields, that has to be in the map and isn't.
+    /// Returns the first required name that the map lacks, in the order of the fields.
     fn missing_name<'a>(names: &[&'a str], map: &Ipld) -> Option<&'a str>
         ensures { (ms : Members) → tree_of map.now ≡ entries ms
             → option_map (λ name. name.now) result ≡ first_missing fields (strings names.now) ms };
 
-    // the law that the fields are read exactly where what each name holds will do
+    // the law that the fields are read if and only if each name has an accepted value, or is
+    // optional and missing
     ghost decides: { (names : List (List ℕ)) (ms : Members) → is_some (Self.named_reads names ms) ≡ all_will_do fields names ms };
 }
 
-// Whether the map lacks the name.
+// Returns whether the map lacks the name.
 fn is_missing(map: &Ipld, name: &str) -> bool
     ensures { (ms : Members) → tree_of map.now ≡ entries ms
         → result ≡ is_none (value_at name.now ms) }
@@ -67,7 +69,7 @@ fn is_missing(map: &Ipld, name: &str) -> bool
     }
 }
 
-// Whether the name of a field has to be there.
+// Returns whether the name of a field is required.
 fn is_required<T: Deserialize, M: IfMissing<T>>() -> bool
     ensures { result ≡ is_none M.missing }
 {
@@ -126,13 +128,16 @@ impl<T: Explain, M: IfMissing<T>, F: ExplainFields> ExplainFields for (Field<T, 
     ghost decides = { λ names ms. each_decides T.contents T.reads T.fails M.missing F.named_reads F.fields names ms (λ more. F.decides more ms) };
 }
 
-/// Where and why a struct of these fields isn't read from the tree by [`read_struct`](ipld_de::read_struct), under these names: the first
-/// field, in byte order of the keys, that doesn't read what its name holds; where there is none, the first name that is missing. The error
-/// is that of `read_struct`.
+/// Explains where and why a struct of these fields isn't read from the tree by
+/// [`read_struct`](ipld_de::read_struct), under these names.
+///
+/// The value at fault is the first, in byte order of the keys, that its field doesn't read. If all
+/// fields read their values, the first missing name is at fault. The error is that of
+/// `read_struct`.
 ///
 /// # Errors
 ///
-/// `AllocError` where an allocation failed.
+/// `AllocError` if an allocation fails.
 pub fn explain_struct<F: ExplainFields>(
     alloc: Global,
     value: Ipld,
@@ -149,13 +154,16 @@ pub fn explain_struct<F: ExplainFields>(
     explain_fields::<F>(alloc, value, names, false)
 }
 
-/// Where and why a struct of these fields isn't read from the tree by [`read_strict_struct`](ipld_de::read_strict_struct), under these
-/// names: the first, in byte order of the keys, of a key that is none of the names and a field that doesn't read what its name holds; where
-/// there is none, the first name that is missing. The error is that of `read_strict_struct`.
+/// Explains where and why a struct of these fields isn't read from the tree by
+/// [`read_strict_struct`](ipld_de::read_strict_struct), under these names.
+///
+/// The value at fault is the first, in byte order of the keys, whose key is not one of the names or
+/// that its field doesn't read. If all keys and values are accepted, the first missing name is at
+/// fault. The error is that of `read_strict_struct`.
 ///
 /// # Errors
 ///
-/// `AllocError` where an allocation failed.
+/// `AllocError` if an allocation fails.
 pub fn explain_strict_struct<F: ExplainFields>(
     alloc: Global,
     value: Ipld,
@@ -172,7 +180,7 @@ pub fn explain_strict_struct<F: ExplainFields>(
     explain_fields::<F>(alloc, value, names, true)
 }
 
-// Where and why a struct isn't read, and where it is strict from a map with other names neither.
+// Explains why a struct isn't read. If `strict`, a map with other names isn't read either.
 fn explain_fields<F: ExplainFields>(
     alloc: Global,
     value: Ipld,
@@ -202,7 +210,8 @@ fn explain_fields<F: ExplainFields>(
     }
 }
 
-// The first, in the order of the keys, of a key that may not stand there and a field that doesn't read what its name holds.
+// Explains the first value, in the order of the keys, whose key is not allowed or that its field
+// doesn't read.
 fn explain_entries<F: ExplainFields>(
     alloc: Global,
     mut map: MapDeserializer,

@@ -1,4 +1,4 @@
-//! Tuples of up to ten, explained.
+//! Tuples of up to ten items, explained.
 
 ghost use Rattle.std.specs.Prelude.{◌≡◌, ◌+◌, [], ◌∷◌, List, Option, length, option_map, IfOk, IfSome};
 ghost use Rattle.ipld_de.specs.Composites.{read_end, read_part, tuple_reading, PartError, LeftoverError, TupleReadError};
@@ -22,7 +22,7 @@ use std::alloc::{AllocError, Global};
 trait Parts: Sized {
     ghost Contents: { Type 0 };
 
-    // what they read from the items that are left, as the last of a tuple
+    // the reading of the remaining items, as the last of a tuple
     ghost reads: { Items → Option Contents };
 
     ghost read_error: { Items → error.SerdeError → Type 0 };
@@ -30,8 +30,8 @@ trait Parts: Sized {
     // how each part is read and fails
     ghost parts: { List {1} Part };
 
-    // Where and why they don't read the items that are left, of which the first has this index. So many items are expected in all, and so
-    // many were found.
+    // Explains where and why they don't read the remaining items, of which the first has this
+    // index. The tuple has `expected` items, and the list has `found` items.
     fn explain_parts(
         alloc: Global,
         items: SeqDeserializer,
@@ -96,7 +96,7 @@ impl<T: Explain, P: Parts> Parts for (T, P) {
     }
 }
 
-// Where and why a tuple of these parts isn't read, of which there are so many.
+// Explains where and why a tuple of these parts isn't read. There are `expected` parts.
 fn explain_tuple<P: Parts>(
     alloc: Global,
     value: Ipld,
@@ -118,7 +118,8 @@ fn explain_tuple<P: Parts>(
     }
 }
 
-/// A List of exactly one: the first item that isn't read, else that there are fewer or more.
+/// A List of exactly one item. The first item that isn't read is at fault, or otherwise the number
+/// of items.
 impl<A: Explain> Explain for (A,) {
     ghost fails = { TupleFails (part A.reads A.fails ∷ []) };
 
@@ -127,7 +128,8 @@ impl<A: Explain> Explain for (A,) {
     }
 }
 
-/// A List of exactly two: the first item that isn't read, else that there are fewer or more.
+/// A List of exactly two items. The first item that isn't read is at fault, or otherwise the number
+/// of items.
 impl<A: Explain, B: Explain> Explain for (A, B) {
     ghost fails = { TupleFails (part A.reads A.fails ∷ part B.reads B.fails ∷ []) };
 
@@ -136,7 +138,8 @@ impl<A: Explain, B: Explain> Explain for (A, B) {
     }
 }
 
-/// A List of exactly three: the first item that isn't read, else that there are fewer or more.
+/// A List of exactly three items. The first item that isn't read is at fault, or otherwise the
+/// number of items.
 impl<A: Explain, B: Explain, C: Explain> Explain for (A, B, C) {
     ghost fails = { TupleFails (part A.reads A.fails ∷ part B.reads B.fails ∷ part C.reads C.fails ∷ []) };
 
@@ -145,7 +148,8 @@ impl<A: Explain, B: Explain, C: Explain> Explain for (A, B, C) {
     }
 }
 
-/// A List of exactly four: the first item that isn't read, else that there are fewer or more.
+/// A List of exactly four items. The first item that isn't read is at fault, or otherwise the
+/// number of items.
 impl<A: Explain, B: Explain, C: Explain, D: Explain> Explain for (A, B, C, D) {
     ghost fails = { TupleFails (part A.reads A.fails ∷ part B.reads B.fails ∷ part C.reads C.fails ∷ part D.reads D.fails ∷ []) };
 
@@ -154,7 +158,8 @@ impl<A: Explain, B: Explain, C: Explain, D: Explain> Explain for (A, B, C, D) {
     }
 }
 
-/// A List of exactly five: the first item that isn't read, else that there are fewer or more.
+/// A List of exactly five items. The first item that isn't read is at fault, or otherwise the
+/// number of items.
 impl<A: Explain, B: Explain, C: Explain, D: Explain, E: Explain> Explain for (A, B, C, D, E) {
     ghost fails = { TupleFails (part A.reads A.fails ∷ part B.reads B.fails ∷ part C.reads C.fails ∷ part D.reads D.fails ∷ part E.reads E.fails ∷ []) };
 
@@ -163,7 +168,8 @@ impl<A: Explain, B: Explain, C: Explain, D: Explain, E: Explain> Explain for (A,
     }
 }
 
-/// A List of exactly six: the first item that isn't read, else that there are fewer or more.
+/// A List of exactly six items. The first item that isn't read is at fault, or otherwise the number
+/// of items.
 impl<A: Explain, B: Explain, C: Explain, D: Explain, E: Explain, F: Explain> Explain
     for (A, B, C, D, E, F) {
     ghost fails = { TupleFails (part A.reads A.fails ∷ part B.reads B.fails ∷ part C.reads C.fails ∷ part D.reads D.fails ∷ part E.reads E.fails ∷ part F.reads F.fails ∷ []) };
@@ -173,7 +179,8 @@ impl<A: Explain, B: Explain, C: Explain, D: Explain, E: Explain, F: Explain> Exp
     }
 }
 
-/// A List of exactly seven: the first item that isn't read, else that there are fewer or more.
+/// A List of exactly seven items. The first item that isn't read is at fault, or otherwise the
+/// number of items.
 impl<A: Explain, B: Explain, C: Explain, D: Explain, E: Explain, F: Explain, G: Explain> Explain
     for (A, B, C, D, E, F, G) {
     ghost fails = { TupleFails (part A.reads A.fails ∷ part B.reads B.fails ∷ part C.reads C.fails ∷ part D.reads D.fails ∷ part E.reads E.fails ∷ part F.reads F.fails ∷ part G.reads G.fails ∷ []) };
@@ -183,7 +190,8 @@ impl<A: Explain, B: Explain, C: Explain, D: Explain, E: Explain, F: Explain, G: 
     }
 }
 
-/// A List of exactly eight: the first item that isn't read, else that there are fewer or more.
+/// A List of exactly eight items. The first item that isn't read is at fault, or otherwise the
+/// number of items.
 impl<
     A: Explain,
     B: Explain,
@@ -201,7 +209,8 @@ impl<
     }
 }
 
-/// A List of exactly nine: the first item that isn't read, else that there are fewer or more.
+/// A List of exactly nine items. The first item that isn't read is at fault, or otherwise the
+/// number of items.
 impl<
     A: Explain,
     B: Explain,
@@ -220,7 +229,8 @@ impl<
     }
 }
 
-/// A List of exactly ten: the first item that isn't read, else that there are fewer or more.
+/// A List of exactly ten items. The first item that isn't read is at fault, or otherwise the number
+/// of items.
 impl<
     A: Explain,
     B: Explain,

@@ -1,8 +1,10 @@
 //! `ipld_links [cid|links|refs|cbor]` reads standard input to its end and writes standard output.
 //!
-//! Without a word it does `cid`. It ends with status 0 where the lines were what the word wants,
-//! with 1 where they were rejected or the run could not go on, and with 2 where a line or the word
-//! was not understood. Nothing goes to standard error.
+//! Without a word it runs `cid`. The program prints nothing to standard error. Its exit status is:
+//!
+//! - 0 if the input is valid for the word,
+//! - 1 if the input is rejected, or the run fails,
+//! - 2 if a line or the word is not understood.
 #![tactic(auto)]
 
 ghost use Rattle.std.specs.Prelude.{◌≡◌, IfSome, IfOk};
@@ -23,7 +25,7 @@ fn main(rt: HostRuntime) -> ExitCode {
         Ok(status) => exit_code(status),
         Err(RunFault::Write) => ExitCode::FAILURE,
         Err(error) => {
-            // Where this can't be written either, the status reports it.
+            // If this can't be written, the exit status reports the error.
             let _ = println!(&rt; "refused {error}");
             ExitCode::FAILURE
         }
@@ -40,7 +42,8 @@ fn exit_code(status: Status) -> ExitCode
     })
 }
 
-/// Runs the word that the arguments name from standard input to standard output, both of them buffered.
+/// Runs the word that the arguments name, from standard input to standard output. Both are
+/// buffered.
 fn run_host(rt: &HostRuntime) -> Result<Status, RunFault> {
     let alloc = rt.alloc();
     let arguments = env::args(rt);
@@ -52,7 +55,7 @@ fn run_host(rt: &HostRuntime) -> Result<Status, RunFault> {
     };
     let end = run_arguments(alloc, arguments, &mut reader, &mut writer);
     if end == Err(RunFault::Write) || writer.flush().is_err() {
-        // What could not be written is not tried again.
+        // Bytes that could not be written are not tried again.
         let _ = writer.into_parts();
         return Err(RunFault::Write);
     }

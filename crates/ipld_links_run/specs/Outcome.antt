@@ -1,4 +1,4 @@
--- What the words `links` and `refs` come to, by the tokens.
+-- The outcomes of the words `links` and `refs` for tokens.
 use Rattle.std.specs.Prelude.{◌≡◌, ℕ, List, ◌∷◌, ◌++◌, codes, Some, Result, Ok, Err}
 use Rattle.ipld_cid.specs.declared.error.CidError.{CidError}
 use Rattle.ipld_cid.specs.Cid.{Link}
@@ -11,19 +11,20 @@ use Rattle.ipld_tokens.specs.Fronts.{IsOpen}
 use Rattle.ipld_tokens.specs.CutTrees.{EndsWrong, EndsInBadCid, EndsWithRepeatedKey, IsUnfinished}
 use Rattle.ipld_tokens.specs.ExtractContract.{IsRejected, IsLinkBytes}
 
--- links, or the name of what is wrong
+-- links, or the name of the error
 abbrev pub Outcome : Type 0
 Outcome = Result (List Link) (List ℕ)
 
--- What tokens are to `links`: an item comes first, or a token comes with which no item is possible, be it bytes after a link
--- mark or another, or the tokens are only the beginning of an item.
+-- The cases of tokens for `links`. An item comes first, or a token with which no item is possible,
+-- or the tokens are only the beginning of an item. Such a token is `cid` if it is bytes after a
+-- link mark, and otherwise `token`.
 pub data ItemCase (tokens : List TokenModel) : Type 0 where
   item : (i : Item 64) (rest : List TokenModel) → tokens ≡ tokens_of i ++ rest → ItemCase tokens
   token : (front rest : List TokenModel) (t : TokenModel) → tokens ≡ front ++ t ∷ rest → IsRejected 64 front t → (IsLinkBytes front t → ⊥) → ItemCase tokens
   cid : (front rest : List TokenModel) (t : TokenModel) → tokens ≡ front ++ t ∷ rest → IsRejected 64 front t → IsLinkBytes front t → ItemCase tokens
   end : IsOpen 64 tokens → ItemCase tokens
 
--- the links of the item, or the name of what is wrong
+-- the links of the item, or the name of the error
 abbrev pub outcome_in : {tokens : List TokenModel} → ItemCase tokens → Outcome
 outcome_in (item i rest is) = Ok (links_in i)
 outcome_in (token front rest t is fails other) = Err (codes "Token")
@@ -37,9 +38,9 @@ pub record LinksOutcome (tokens : List TokenModel) (outcome : Outcome) : Type 0 
   pub case : ItemCase tokens
   pub exact : (c : ItemCase tokens) → outcome ≡ outcome_in c
 
--- What tokens are to `refs`: an item comes first that has a tree; or a front of them ends with a token that can't stand where a tree
--- is read so far, or with bytes after a link mark that are no CID, or with the second value of a key; or all of them are only the
--- beginning of a tree's.
+-- The cases of tokens for `refs`. An item that has a tree comes first, or the tokens are only the
+-- beginning of a tree. Or their front ends with a token that can't be there, with bytes after a
+-- link mark that are not a CID, or with the value of a repeated key.
 pub data TreeCase (tokens : List TokenModel) : Type 0 where
   tree : (i : Item 64) (t : Tree) (rest : List TokenModel) → tokens ≡ tokens_of i ++ rest → tree_of_item i ≡ Some t → TreeCase tokens
   wrong_token : (front rest : List TokenModel) → tokens ≡ front ++ rest → EndsWrong front → TreeCase tokens
@@ -47,7 +48,7 @@ pub data TreeCase (tokens : List TokenModel) : Type 0 where
   repeated_key : (front rest : List TokenModel) → tokens ≡ front ++ rest → EndsWithRepeatedKey front → TreeCase tokens
   unfinished : IsUnfinished tokens → TreeCase tokens
 
--- the links of the tree, or the name of what is wrong
+-- the links of the tree, or the name of the error
 abbrev pub tree_outcome_in : {tokens : List TokenModel} → TreeCase tokens → Outcome
 tree_outcome_in (tree i t rest is has) = Ok (links_of t)
 tree_outcome_in (wrong_token front rest is ends) = Err (codes "Token")

@@ -1,4 +1,4 @@
--- What the program writes for an input, and how it ends.
+-- The output of the program for an input, and the status of the run.
 use Rattle.std.specs.Prelude.{◌≡◌, ◌⊎◌, ◌+◌, ℕ, List, [], ◌∷◌, ◌++◌, length, map, codes, Option, Result, Ok, Err}
 use Rattle.std.specs.List.{flat_map}
 use Rattle.std.specs.Io.KnownBytes.{Appends}
@@ -12,11 +12,12 @@ use Rattle.ipld_links_run.specs.Outcome.{Outcome, LinksOutcome, ReferencesOutcom
 use Rattle.ipld_links_run.specs.TokenLines.{tokens_in}
 use Rattle.ipld_links_run.specs.Verdict.{Verdict, done, refused, bad_line, last_line, status_of}
 
--- lines as they are written, each with a line feed at its end
+-- the bytes of lines, with a line feed at the end of every line
 abbrev pub written : List (List ℕ) → List ℕ
 written lines = flat_map (λ line. line ++ 10 ∷ []) lines
 
--- a run that finds these links and ends so writes the text of each link and the last line
+-- True if the output is the texts of these links and the last line of the verdict, and the status
+-- is that of the verdict.
 abbrev pub WritesLinks : List Link → Verdict → Status → List ℕ → Type 0
 WritesLinks found verdict status output = (output ≡ written (map text_of found ++ last_line verdict ∷ [])) × (status ≡ status_of verdict)
 
@@ -26,15 +27,18 @@ WritesLinks found verdict status output = (output ≡ written (map text_of found
 abbrev pub all_links : List (List Link) → List Link
 all_links lines = flat_map (λ found. found) lines
 
--- how a run ends after lines with these links, by the first line after them
+-- True if a run ends with this verdict after lines with these links. The first of the other lines
+-- decides it, and is rejected or not understood. Without another line, the verdict is the number of
+-- links.
 abbrev pub EndsWith : List (List Link) → List LineReading → Verdict → Type 0
 EndsWith before [] verdict = verdict ≡ done (length (all_links before))
 EndsWith before (links found ∷ rest) verdict = ⊥
 EndsWith before (rejected name ∷ rest) verdict = verdict ≡ refused name
 EndsWith before (not_understood ∷ rest) verdict = verdict ≡ bad_line (length before + 1)
 
--- the texts of the links of each line before the first that has none, and then the verdict on that line, or else how many texts there
--- are
+-- True if the output is the texts of the links of the lines before the first that is rejected or
+-- not understood, and then the verdict on that line. Without such a line, the number of texts
+-- follows.
 pub record LinesOutput (reading : List ℕ → LineReading) (input : List ℕ) (status : Status) (output : List ℕ) : Type 0 where
   pub before : List (List Link)
   pub rest : List LineReading
@@ -43,51 +47,53 @@ pub record LinesOutput (reading : List ℕ → LineReading) (input : List ℕ) (
   pub ends : EndsWith before rest verdict
   pub writes : WritesLinks (all_links before) verdict status output
 
--- True if this is the output of a run with the word `cid`, where each line is read as the bytes of
--- a CID. The output is the texts of the CIDs before the first line that is not one, each on a line.
+-- True if this is the output of a run with the word `cid`, which reads every line as the bytes of a
+-- CID. The output is the texts of the CIDs before the first line that is not one, each on a line.
 -- Then the verdict on that line follows (`refused NAME`, `bad line K`), or otherwise `ok N`.
 abbrev pub CidOutput : List ℕ → Status → List ℕ → Type 0
 CidOutput = LinesOutput cid_reading
 
--- True if this is the output of a run with the word `cbor`, where each line is read as a block of
+-- True if this is the output of a run with the word `cbor`, which reads every line as a block of
 -- DAG-CBOR. The output is the texts of the links of the blocks before the first line that is not
 -- one, each on a line. Then the verdict on that line follows (`refused NAME`, for the first error
--- of its bytes; `bad line K`), or otherwise `ok N`, where N is the number of texts.
+-- of its bytes; `bad line K`), or otherwise `ok N` with the number N of texts.
 abbrev pub CborOutput : List ℕ → Status → List ℕ → Type 0
 CborOutput = LinesOutput block_reading
 
 -- ---- lines of tokens
 
--- the links that the tokens have, or the name of what is wrong with them
+-- True if the output is the texts of the links of the outcome and their number, or the name of the
+-- error.
 abbrev pub WritesOutcome : Outcome → Status → List ℕ → Type 0
 WritesOutcome (Ok found) = WritesLinks found (done (length found))
 WritesOutcome (Err name) = WritesLinks [] (refused name)
 
--- what is written for the tokens of all lines, or else for the first line that means none
+-- True if the output is that of the tokens of all lines, or reports the first line that means no
+-- token.
 abbrev pub WritesTokens : (List TokenModel → Outcome → Type 0) → Result (List TokenModel) ℕ → Status → List ℕ → Type 0
 WritesTokens IsOutcome (Ok tokens) status output = (outcome : Outcome) × IsOutcome tokens outcome × WritesOutcome outcome status output
 WritesTokens IsOutcome (Err number) status output = WritesLinks [] (bad_line number) status output
 
--- `links`: the links of the item that comes first, or what is wrong with the tokens
+-- True if this is the output of `links`: the links of the item that comes first, or the error.
 abbrev pub LinksOutput : List ℕ → Status → List ℕ → Type 0
 LinksOutput input = WritesTokens LinksOutcome (tokens_in input)
 
--- `refs`: the links of the tree that comes first
+-- True if this is the output of `refs`: the links of the tree that comes first, or the error.
 abbrev pub ReferencesOutput : List ℕ → Status → List ℕ → Type 0
 ReferencesOutput input = WritesTokens ReferencesOutcome (tokens_in input)
 
 -- ---- words
 
--- any other word: the usage line
+-- True if this is the output of a run with any other word: the usage line.
 pub record UsageOutput (status : Status) (output : List ℕ) : Type 0 where
   pub output_is : output ≡ written (codes "usage: ipld_links [cid|links|refs|cbor]" ∷ [])
   pub status_is : status ≡ NotUnderstood
 
--- a word that names a job of the program
+-- True if the word is one of the program's.
 abbrev pub IsWord : List ℕ → Type 0
 IsWord word = (word ≡ codes "cid") ⊎ ((word ≡ codes "links") ⊎ ((word ≡ codes "refs") ⊎ (word ≡ codes "cbor")))
 
--- True if this is what a run with a word writes for an input, and how it ends.
+-- True if a run with `word` writes this output for the input, and ends with this status.
 pub record Output (word input : List ℕ) (status : Status) (output : List ℕ) : Type 0 where
   pub cid : word ≡ codes "cid" → CidOutput input status output
   pub links : word ≡ codes "links" → LinksOutput input status output
@@ -95,6 +101,6 @@ pub record Output (word input : List ℕ) (status : Status) (output : List ℕ) 
   pub cbor : word ≡ codes "cbor" → CborOutput input status output
   pub unknown : (IsWord word → ⊥) → UsageOutput status output
 
--- what was written is an output, and nothing else was
+-- True if the bytes that were written are an output, as far as they are known.
 abbrev pub Writes : Option (List ℕ) → Option (List ℕ) → (List ℕ → Type 0) → Type 0
 Writes old new IsOutput = (output : List ℕ) × IsOutput output × Appends old new output

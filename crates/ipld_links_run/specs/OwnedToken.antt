@@ -1,4 +1,4 @@
--- What a token says that owns its texts and bytes.
+-- The model of a token that owns its strings and bytes.
 use Rattle.std.specs.Prelude.{string_bytes}
 use Rattle.ipld_tokens.specs.Token.{TokenModel, atom}
 use Rattle.ipld_tokens.specs.Token as tok

@@ -1,4 +1,4 @@
--- What the steps of a run return.
+-- The models of the results of a run's steps.
 use Rattle.std.specs.Prelude.{◌≡◌, ℕ, List, codes, map, Option, Some, None, Result, Ok, Err}
 use Rattle.std.specs.declared.alloc.Global.{Global}
 use Rattle.std.specs.declared.vec.Vec.{Vec}
@@ -26,7 +26,8 @@ use Rattle.ipld_links_run.specs.ByteLines.{LineReading, cid_reading, block_readi
 use Rattle.ipld_links_run.specs.Outcome.{Outcome, LinksOutcome, ReferencesOutcome}
 use Rattle.ipld_links_run.specs.Verdict.{Verdict, done, refused, bad_line}
 
--- what is said is read, where there is memory for it
+-- True if the result is the expected value, or `NotUnderstood` if no value is expected, or if an
+-- allocation failed.
 abbrev pub Parses : {A B : Type 0} → (A → B) → Option B → Result A ParseError → Type 0
 Parses value said (Ok x) = said ≡ Some (value x)
 Parses value said (Err Memory) = Unit {0}
@@ -36,7 +37,7 @@ abbrev pub tokens_read : TokenLines → Result (List TokenModel) ℕ
 tokens_read (Tokens tokens) = Ok (map token_of tokens.items)
 tokens_read (BadLine k) = Err k
 
--- the name that is printed of what is wrong
+-- the printed name of a rejection
 abbrev pub name_of : Rejection → List ℕ
 name_of Token = codes "Token"
 name_of Cid = codes "Cid"
@@ -54,17 +55,17 @@ abbrev pub outcome_of : Result (Vec (CidGeneric 64) Global) Rejection → Outcom
 outcome_of (Ok found) = Ok (map link_of found.items)
 outcome_of (Err rejection) = Err (name_of rejection)
 
--- what tokens come to that are read as this
+-- True if the outcome is that of tokens that are read as an item or as a tree.
 abbrev pub OutcomeFor : ReadAs → List TokenModel → Outcome → Type 0
 OutcomeFor wanted.Item = LinksOutcome
 OutcomeFor wanted.Tree = ReferencesOutcome
 
--- it is no error of the source
+-- True if the error is not one of the source.
 abbrev pub IsOfTokens : {F : Type 0} → TokenError F → Type 0
 IsOfTokens (error.Source fault) = ⊥
 IsOfTokens _ = Unit {0}
 
--- the name of what is wrong with the tokens
+-- the name of an error of the tokens, or nothing for other errors
 abbrev pub error_name : {F : Type 0} → TokenError F → Option (List ℕ)
 error_name error.Token = Some (codes "Token")
 error_name (error.Cid cid_error) = Some (codes "Cid")
@@ -73,7 +74,7 @@ error_name error.DuplicateKey = Some (codes "DuplicateKey")
 error_name error.Memory = None
 error_name (error.Source fault) = None
 
--- what bytes of this content are read as
+-- the reading of bytes with this content
 abbrev pub reading_of : Content → List ℕ → LineReading
 reading_of content.Cid = cid_reading
 reading_of content.Block = block_reading

@@ -5,18 +5,18 @@ use Rattle.std.specs.declared.io.ErrorKind.TheVariants.{OutOfMemory}
 use Rattle.ipld_links_run.specs.declared.status.RunFault.{RunFault}
 use Rattle.ipld_links_run.specs.declared.status.RunFault.TheVariants.{Memory, Read, Write}
 
--- what a reader's error means, by its kind
+-- the error of a run for an error of a reader, by its kind
 abbrev pub fault_of : ErrorKind → RunFault
 fault_of OutOfMemory = Memory
 fault_of _ = Read
 
--- the name that is printed of an error
+-- the printed name of an error
 abbrev pub name_of : RunFault → List ℕ
 name_of Memory = codes "Memory"
 name_of Read = codes "Read"
 name_of Write = codes "Write"
 
--- what is printed of it with `#`, as in `{error:#}`
+-- the sentence of an error, printed with `#`, for example in `{error:#}`
 abbrev pub sentence_of : RunFault → List ℕ
 sentence_of Memory = codes "out of memory"
 sentence_of Read = codes "the reader failed"

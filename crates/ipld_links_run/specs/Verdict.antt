@@ -1,10 +1,10 @@
--- How a run ends that read all of its input: its last line, and what it returns.
+-- The end of a run that reads all of its input: its last line and its status.
 use Rattle.std.specs.Prelude.{ℕ, List, ◌++◌, codes, decimal}
 use Rattle.ipld_links_run.specs.declared.status.Status.{Status}
 use Rattle.ipld_links_run.specs.declared.status.Status.TheVariants.{Done, Refused, NotUnderstood}
 
--- so many texts were written; or what was read is rejected, by the name of the error; or the line of this number, counted from 1, is not
--- understood
+-- the number of texts that were written, the name of the error of rejected input, or the number of
+-- a line, counted from 1, that is not understood
 pub data Verdict : Type 0 where
   done : ℕ → Verdict
   refused : List ℕ → Verdict

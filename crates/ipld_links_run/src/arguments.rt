@@ -10,10 +10,10 @@ use std::alloc::Global;
 use std::env::Args;
 use std::io::{self, ErrorKind};
 
-/// Returns the word for [`run`](crate::run) that a program's arguments name, which come as
+/// Returns the word for [`run`](crate::run) that a program's arguments name. The arguments come as
 /// [`env::args`](std::env::args) returns them, the program's own name first.
 ///
-/// - Where nothing stands behind the program's name, the word is `cid`.
+/// - Without an argument after the program's name, the word is `cid`.
 /// - One argument is itself the word, whether [`run`](crate::run) knows it or not.
 /// - Several arguments, or one that is not UTF-8, name the empty word, for which
 ///   [`run`](crate::run) writes the usage line.
@@ -22,8 +22,8 @@ use std::io::{self, ErrorKind};
 ///
 /// # Errors
 ///
-/// [`RunFault::Memory`] if the arguments could not be had because an allocation failed, or if that
-/// for the word failed.
+/// [`RunFault::Memory`] if the arguments are missing because an allocation failed, or if the
+/// allocation for the word fails.
 ///
 /// # Examples
 ///

@@ -1,4 +1,4 @@
-//! The words `cid` and `cbor`: the links of what the bytes on lines encode.
+//! The words `cid` and `cbor`: the links in the bytes that lines encode.
 
 ghost use Rattle.std.specs.Prelude.{◌≡◌, ◌+◌, ◌∷◌, ◌++◌, [], length, map, Some, None, IfSome, IfOk, OnOk, MatchBool, MatchResult};
 ghost use Rattle.std.specs.Io.KnownBytes.{Appends};
@@ -21,7 +21,7 @@ use ipld_codec::{LinkIter, Links};
 use std::alloc::Global;
 use std::io::{BufRead, Write};
 
-/// What the bytes of a line encode.
+/// The expected content of a line's bytes.
 #[derive(Clone, Copy)]
 pub(crate) enum Content {
     /// A CID.
@@ -30,7 +30,8 @@ pub(crate) enum Content {
     Block,
 }
 
-/// Writes the texts of the links of each line, and then how the lines ended. The reader is read to its end.
+/// Writes the texts of the links of each line, and then how the lines ended. Reads the reader to
+/// its end.
 pub(crate) fn write_links_of_lines<R: BufRead, W: Write>(
     alloc: Global,
     content: Content,
@@ -61,7 +62,8 @@ pub(crate) fn write_links_of_lines<R: BufRead, W: Write>(
     Err(RunFault::Read)
 }
 
-/// Reads a line's hexadecimal digits into `bytes`, in place of what that held, and returns whether the line is such digits.
+/// Reads a line's hexadecimal digits into `bytes`, whose old content is dropped, and returns
+/// whether the line is such digits.
 fn decode_line(line: &[u8], bytes: &mut Vec<u8>) -> Result<bool, RunFault>
     ensures { IfOk result (λ understood. MatchBool understood
         (bytes_of_line line.now ≡ Some bytes.new.items) (bytes_of_line line.now ≡ None)) }
@@ -73,7 +75,7 @@ fn decode_line(line: &[u8], bytes: &mut Vec<u8>) -> Result<bool, RunFault>
     Ok(decode_digits(line, bytes))
 }
 
-/// Reads the links of what bytes encode into `found`, in place of what that held.
+/// Reads the links in the content of the bytes into `found`, whose old content is dropped.
 fn read_links(
     alloc: Global,
     content: Content,
@@ -90,7 +92,7 @@ fn read_links(
     }
 }
 
-/// A CID is its own link.
+/// Reads a CID, which is its own link.
 fn read_cid(bytes: &[u8], found: &mut Vec<Cid>) -> Result<Result<(), Rejection>, RunFault>
     ensures { IfOk result (λ outcome. MatchResult outcome
         (λ _. cid_reading bytes.now ≡ links (map link_of found.new.items))
@@ -106,7 +108,8 @@ fn read_cid(bytes: &[u8], found: &mut Vec<Cid>) -> Result<Result<(), Rejection>,
     }
 }
 
-/// The links of a block, or its very error, unless that is [`CborError::Memory`], which ends the run.
+/// Reads the links of a block, or returns its exact error. [`CborError::Memory`] ends the run
+/// instead.
 fn read_block(
     alloc: Global,
     bytes: &[u8],
@@ -126,7 +129,7 @@ fn read_block(
     }
 }
 
-/// Puts the links into `found`, in place of what that held.
+/// Moves the links into `found`, whose old content is dropped.
 fn take_links(links: LinkIter, found: &mut Vec<Cid>) -> Result<(), RunFault>
     ensures { OnOk result (found.new.items ≡ cids_left links) }
 {
@@ -137,7 +140,8 @@ fn take_links(links: LinkIter, found: &mut Vec<Cid>) -> Result<(), RunFault>
     Ok(())
 }
 
-/// Writes the text of each CID, each on a line, and returns how many texts were written with those before.
+/// Writes the text of each CID on a line of its own, and returns the number of texts, including
+/// those written before.
 fn write_counted<W: Write>(writer: &mut W, cids: &[Cid], before: u64) -> Result<u64, RunFault>
     ensures { IfOk result (λ count. (count ≡ before + length cids.now)
         × Appends (W.contents writer.old) (W.contents writer.new)

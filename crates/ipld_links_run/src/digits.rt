@@ -3,7 +3,7 @@
 ghost use Rattle.std.specs.Prelude.{◌≡◌, true, false, length, MatchResult};
 ghost use Rattle.hex.specs.Hex.{decode_sized};
 
-/// The number that each hexadecimal digit of either case stands for, and 255 for every other byte.
+/// The value of each hexadecimal digit of either case, and 255 for every other byte.
 static DIGIT_VALUES: [u8; 256] = [
     255, 255, 255, 255, 255, 255, 255, 255, 255, 255, 255, 255, 255, 255, 255, 255, 255, 255, 255,
     255, 255, 255, 255, 255, 255, 255, 255, 255, 255, 255, 255, 255, 255, 255, 255, 255, 255, 255,
@@ -21,7 +21,8 @@ static DIGIT_VALUES: [u8; 256] = [
     255, 255, 255,
 ];
 
-/// Writes the bytes that hexadecimal digits of either case stand for, and returns whether these are digits, two for each of `bytes`.
+/// Writes the bytes that hexadecimal digits of either case encode, and returns whether these are
+/// digits, two for each of `bytes`.
 pub(crate) fn decode_digits(digits: &[u8], bytes: &mut [u8]) -> bool
     ensures { MatchResult (decode_sized digits.now (length bytes.old))
         (λ decoded. (result ≡ true) × (bytes.new ≡ decoded))
@@ -30,7 +31,7 @@ pub(crate) fn decode_digits(digits: &[u8], bytes: &mut [u8]) -> bool
     if digits.len() % 2 != 0 || digits.len() / 2 != bytes.len() {
         return false;
     }
-    // The values in one number, which is below 16 where each of them is.
+    // The bitwise or of all values, which is below 16 if each of them is.
     let mut seen = 0;
     for i in 0..bytes.len() {
         let high = DIGIT_VALUES[digits[2 * i] as usize];

@@ -1,4 +1,4 @@
-//! The words `links` and `refs`: the links of the item or of the tree whose tokens stand on lines.
+//! The words `links` and `refs`: the links of the item or the tree whose tokens are on lines.
 
 ghost use Rattle.std.specs.Prelude.{◌≡◌, Some, IfSome, IfOk, OnOk, map};
 ghost use Rattle.ipld_codec.specs.Codec.{IsReadOut};
@@ -17,10 +17,10 @@ use ipld_tokens::{ExtractLinks, SliceSource, Stopped, Token, TokenError, read_ip
 use std::alloc::Global;
 use std::io::{BufRead, Write};
 
-/// Links, or why there are none.
+/// Links, or the reason why the input has no links.
 type Outcome = Result<Vec<Cid>, Rejection>;
 
-/// What the tokens are read as.
+/// The expected form of the tokens.
 #[derive(Clone, Copy)]
 pub(crate) enum ReadAs {
     /// Any item.
@@ -29,7 +29,7 @@ pub(crate) enum ReadAs {
     Tree,
 }
 
-/// Writes the links of the item or of the tree that comes first. The reader is read to its end.
+/// Writes the links of the first item or tree. Reads the reader to its end.
 pub(crate) fn write_links_of_tokens<R: BufRead, W: Write>(
     alloc: Global,
     wanted: ReadAs,
@@ -50,7 +50,7 @@ pub(crate) fn write_links_of_tokens<R: BufRead, W: Write>(
     }
 }
 
-/// Writes the text of each link and how many there are, or why there are none.
+/// Writes the text of each link and their number, or the rejection.
 fn write_outcome<W: Write>(writer: &mut W, outcome: &Outcome) -> Result<Status, RunFault>
     ensures { IfOk result (λ status. Writes (W.contents writer.old) (W.contents writer.new)
         (WritesOutcome (outcome_of outcome.now) status)) }
@@ -64,7 +64,7 @@ fn write_outcome<W: Write>(writer: &mut W, outcome: &Outcome) -> Result<Status, 
     }
 }
 
-/// The links of what comes first, or why it is not what is wanted.
+/// Finds the links of the item or tree at the front of the tokens, or returns the rejection.
 fn find_links<'a>(
     alloc: Global,
     wanted: ReadAs,
@@ -92,7 +92,8 @@ fn find_links<'a>(
     }
 }
 
-/// What is wrong with the tokens. A failed allocation says nothing of them.
+/// Converts an error of the tokens to a rejection. A failed allocation is not an error of the
+/// tokens.
 fn rejection_of(error: TokenError<Stopped>) -> Result<Rejection, RunFault>
     requires { IsOfTokens error }
     ensures { IfOk result (λ rejection. error_name error ≡ Some (name_of rejection)) }

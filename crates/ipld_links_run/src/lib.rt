@@ -1,4 +1,4 @@
-//! What the program `ipld_links` does, over any reader and any writer.
+//! The work of the program `ipld_links`, over any reader and any writer.
 //!
 //! [`run`] takes a word, reads lines and writes lines. Its word `cid` turns the bytes of CIDs,
 //! written as hexadecimal digits, into their texts:
@@ -14,8 +14,8 @@
 //! ok 1
 //! ```
 //!
-//! Its words `links` and `refs` find the links of a value, of which each line is a token: a name, or a
-//! name, one blank and a field.
+//! Its words `links` and `refs` find the links of a value. Each line is a token: a name, or a name,
+//! one blank and a field.
 //!
 //! ```text
 //! seq
@@ -31,9 +31,10 @@
 //! ok 1
 //! ```
 //!
-//! Its word `cbor` finds the links of blocks of DAG-CBOR, each written as hexadecimal digits on a line.
+//! Its word `cbor` finds the links of blocks of DAG-CBOR, each written as hexadecimal digits on a
+//! line.
 //!
-//! What is written is a stated function of what is read.
+//! The contract of [`run`] states the output as a function of the input.
 #![tactic(auto)]
 
 mod arguments;

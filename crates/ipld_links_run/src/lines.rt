@@ -1,4 +1,4 @@
-//! Lines of a reader, and of a writer.
+//! The lines of a reader and of a writer.
 
 ghost use Rattle.std.specs.Prelude.{◌≡◌, ◌∷◌, ◌++◌, [], map, IfSome, IfOk, IfErr, OnOk};
 ghost use Rattle.std.specs.IoError.{error_kind};
@@ -15,7 +15,7 @@ use ipld_cid::Cid;
 use memchr::memchr;
 use std::io::{BufRead, Error, ErrorKind, Write};
 
-/// How far a line was read.
+/// The state of a line that is being read.
 #[derive(Clone, Copy)]
 pub(crate) enum Part {
     /// More of it may follow.
@@ -26,8 +26,8 @@ pub(crate) enum Part {
     Last,
 }
 
-/// Reads the next line into `line`, in place of what that held, without its line feed, and returns
-/// whether there was one.
+/// Reads the next line into `line` without its line feed, and returns whether there was one. The
+/// old content of `line` is dropped.
 pub(crate) fn read_line<R: BufRead>(reader: &mut R, line: &mut Vec<u8>) -> Result<bool, RunFault>
     ensures { IfOk result (λ found. IfSome (R.remaining reader.old)
         (λ input. TakesLine input found line.new.items (R.remaining reader.new))) }
@@ -43,7 +43,7 @@ pub(crate) fn read_line<R: BufRead>(reader: &mut R, line: &mut Vec<u8>) -> Resul
     Err(RunFault::Read)
 }
 
-/// Adds to `line` what the reader has buffered of it.
+/// Appends the buffered part of the line to `line`.
 fn read_part<R: BufRead>(reader: &mut R, line: &mut Vec<u8>) -> Result<Part, RunFault>
     ensures { IfOk result (λ part. IfSome (R.remaining reader.old)
         (λ input. TakesPart part line.old.items line.new.items input (R.remaining reader.new))) }
@@ -71,7 +71,7 @@ fn read_part<R: BufRead>(reader: &mut R, line: &mut Vec<u8>) -> Result<Part, Run
     }
 }
 
-/// Reads the reader to its end. One that never ends has failed.
+/// Reads the reader to its end. Fails if it never ends.
 pub(crate) fn skip_rest<R: BufRead>(reader: &mut R) -> Result<(), RunFault>
     ensures { OnOk result (IsReadOut (R.remaining reader.old) (R.remaining reader.new)) }
 {
@@ -83,7 +83,7 @@ pub(crate) fn skip_rest<R: BufRead>(reader: &mut R) -> Result<(), RunFault>
     Err(RunFault::Read)
 }
 
-/// Takes what the reader has buffered, and returns whether that was its end.
+/// Consumes the buffered bytes of the reader, and returns whether it is at its end.
 fn skip_buffer<R: BufRead>(reader: &mut R) -> Result<bool, RunFault>
     ensures { IfOk result (λ at_end. TakesBuffer at_end (R.remaining reader.old)
         (R.remaining reader.new)) }
@@ -97,7 +97,7 @@ fn skip_buffer<R: BufRead>(reader: &mut R) -> Result<bool, RunFault>
     Ok(count == 0)
 }
 
-// What a reader's error means: that it found no memory, or that it failed otherwise.
+// Converts a reader's error: out of memory, or another failure.
 fn run_fault_of(error: &Error) -> RunFault
     ensures { result ≡ fault_of (error_kind error.now) }
 {
@@ -136,7 +136,7 @@ fn write_text<W: Write>(writer: &mut W, cid: &Cid) -> Result<(), RunFault>
     }
 }
 
-/// Writes the text of each CID, each on a line.
+/// Writes the text of each CID on a line of its own.
 pub(crate) fn write_texts<W: Write>(writer: &mut W, cids: &[Cid]) -> Result<(), RunFault>
     ensures appends { OnOk result (Appends (W.contents writer.old) (W.contents writer.new)
         (written (map text_of (map link_of cids.now)))) }

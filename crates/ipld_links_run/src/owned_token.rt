@@ -30,7 +30,7 @@ pub(crate) enum OwnedToken {
 }
 
 impl OwnedToken {
-    /// A token of this content, which it borrows.
+    /// Returns a token that borrows its content from this one.
     pub(crate) fn lend(&self) -> Token<'_>
         ensures { erase result ≡ token_of self.now }
     {
@@ -56,7 +56,7 @@ impl OwnedToken {
     }
 }
 
-/// Tokens of these contents, which they borrow.
+/// Returns tokens that borrow their contents from these.
 pub(crate) fn lend_all<'a>(
     alloc: Global,
     tokens: &'a [OwnedToken],

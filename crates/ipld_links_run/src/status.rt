@@ -1,4 +1,4 @@
-//! How a run ends.
+//! The ends of a run.
 
 ghost use Rattle.std.specs.Fmt.{WritesStyledOnOk};
 ghost use Rattle.ipld_links_run.specs.Status.{sentence_of};
@@ -6,20 +6,22 @@ ghost use Rattle.ipld_links_run.specs.Status.{sentence_of};
 use std::alloc::{AllocError, AllocFailed};
 use std::{error, fmt};
 
-/// How a run ended that read all of its input and wrote all of its output.
+/// The end of a run that read all of its input and wrote all of its output.
 #[derive(Clone, Copy, Debug, PartialEq, Eq)]
 pub enum Status {
-    /// What was read is what the word wants.
+    /// The input is of the form that the word expects.
     Done,
-    /// Each line that was looked at was understood, but what was read is not what the word wants.
+    /// Every line that was looked at was understood, but the input is not of the form that the word
+    /// expects.
     Refused,
     /// A line, or the word itself, was not understood.
     NotUnderstood,
 }
 
-/// Why a run could not go on.
+/// The reason why a run could not continue.
 ///
-/// Its `Display` is the variant's name; with `#`, as in `{error:#}`, it is a sentence that says what is wrong.
+/// Its `Display` is the variant's name. With `#`, for example in `{error:#}`, it is a sentence that
+/// describes the error.
 #[derive(Clone, Copy, Debug, PartialEq, Eq)]
 pub enum RunFault {
     /// An allocation failed.
@@ -31,7 +33,7 @@ pub enum RunFault {
 }
 
 impl RunFault {
-    // What is wrong, in a sentence.
+    // Writes a sentence that describes the error.
     fn describe<W: fmt::Write>(&self, f: &mut fmt::Formatter<W>) -> fmt::Result
         ensures { WritesStyledOnOk W.write_str_gives f.old result (sentence_of self.now) f.new }
     {

@@ -12,16 +12,16 @@ use hex::FromHexError;
 use std::alloc::Global;
 use std::str;
 
-/// Why a line is not read as a token.
+/// The reason why a line is not read as a token.
 #[derive(Clone, Copy)]
 pub(crate) enum ParseError {
     /// An allocation failed.
     Memory,
-    /// It means none.
+    /// The line is not a token.
     NotUnderstood,
 }
 
-/// Reads the token that a line means.
+/// Reads the token that is on a line.
 pub(crate) fn parse_token(alloc: Global, line: &[u8]) -> Result<OwnedToken, ParseError>
     ensures { Parses token_of (token_of_line line.now) result }
 {
@@ -97,7 +97,7 @@ fn parse_unsigned(field: &str) -> Result<u128, ParseError>
     }
 }
 
-/// A hint of a length.
+/// Reads a hint of a length.
 fn parse_hint(field: &str) -> Result<Option<usize>, ParseError>
     ensures { Parses (λ hint. hint) (option_map Some (number_below (2 ^ 64) field.now)) result }
 {

@@ -1,4 +1,4 @@
-//! The tokens of an input, one a line.
+//! The tokens of an input, one per line.
 
 ghost use Rattle.std.specs.Prelude.{◌≡◌, IfSome, IfOk, OnOk};
 ghost use Rattle.ipld_codec.specs.Codec.{IsReadOut};
@@ -15,13 +15,14 @@ use std::io::BufRead;
 /// The lines of an input, as tokens.
 #[derive(Drop)]
 pub(crate) enum TokenLines {
-    /// Each line means a token.
+    /// Every line is a token.
     Tokens(Vec<OwnedToken>),
-    /// The line of this number, counted from 1, is the first that means none.
+    /// The line of this number, counted from 1, is the first that is not a token.
     BadLine(u64),
 }
 
-/// Reads the token of each line. The reader is read to its end, also after a line that means none.
+/// Reads the token of each line. Reads the reader to its end, also after a line that is not a
+/// token.
 pub(crate) fn read_tokens<R: BufRead>(alloc: Global, reader: &mut R) -> Result<TokenLines, RunFault>
     ensures tokens { IfOk result (λ lines. IfSome (R.remaining reader.old)
         (λ input. tokens_in input ≡ tokens_read lines)) }

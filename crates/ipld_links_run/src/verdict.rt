@@ -1,4 +1,4 @@
-//! How a run ends that read all of its input.
+//! The end of a run that read all of its input.
 
 ghost use Rattle.std.specs.Prelude.{◌≡◌, ◌++◌, ◌∷◌, [], IfOk};
 ghost use Rattle.std.specs.Io.KnownBytes.{Appends};
@@ -11,20 +11,20 @@ use ipld_cid::CidError;
 use std::fmt;
 use std::io::Write;
 
-/// Why what was read has no links.
+/// The reason why the input has no links.
 #[derive(Clone, Copy)]
 pub(crate) enum Rejection {
-    /// A token can't stand where it does.
+    /// A token is not allowed in its place.
     Token,
-    /// The bytes after a link mark are no CID.
+    /// The bytes after a link mark are not a CID.
     Cid,
     /// The tokens end too early.
     End,
-    /// A key stands in a map for the second time.
+    /// A map has a key twice.
     DuplicateKey,
-    /// The bytes of a line are no CID.
+    /// The bytes of a line are not a CID.
     NoCid(CidError),
-    /// The bytes of a line are no block.
+    /// The bytes of a line are not a block.
     NoBlock(CborError),
 }
 
@@ -46,12 +46,12 @@ impl fmt::Display for Rejection {
     }
 }
 
-/// How a run ends.
+/// The end of a run.
 #[derive(Clone, Copy)]
 pub(crate) enum Verdict {
-    /// So many texts were written.
+    /// The number of texts that were written.
     Done(u64),
-    /// What was read is rejected.
+    /// The input is rejected.
     Refused(Rejection),
     /// The line of this number, counted from 1, is not understood.
     BadLine(u64),

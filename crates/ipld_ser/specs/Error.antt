@@ -1,10 +1,10 @@
--- The message and the sentence of each error.
+-- The message and the sentence of every error, and the one that is printed.
 use Rattle.std.specs.Prelude.{ℕ, Bool, List, ◌++◌, codes, Some, None, if◌then◌else◌}
 use Rattle.std.specs.declared.option.Option.{Option}
 use Rattle.ipld_ser.specs.declared.error.SerdeError.{SerdeError}
 use Rattle.ipld_ser.specs.declared.error.SerdeError.TheVariants.{Memory, Unit, UnitStruct, U128, KeyNotText, InvalidCid, WrongKind, OutOfRange, NotOneChar, WrongLength, Leftover, MissingValue, NoKey, MoreKeys, VariantContent, Custom}
 
--- the message of an error, as it is printed
+-- The message of an error: its name, or `serde error: ` and the message of a custom error
 abbrev pub message_of : SerdeError → List ℕ
 message_of Memory = codes "Memory"
 message_of Unit = codes "Unit"
@@ -23,7 +23,7 @@ message_of MoreKeys = codes "MoreKeys"
 message_of VariantContent = codes "VariantContent"
 message_of (Custom message) = codes "serde error: " ++ message.now
 
--- what is wrong, in a sentence; that of bytes that are no CID, of a kind and of a number of what is left over isn't said
+-- The sentence of an error. Those of `InvalidCid`, `WrongKind` and `Leftover` are not specified.
 abbrev pub sentence_of : SerdeError → Option (List ℕ)
 sentence_of Memory = Some (codes "out of memory")
 sentence_of Unit = Some (codes "the unit type has no image")
@@ -42,6 +42,6 @@ sentence_of MoreKeys = Some (codes "the map of an enum has more than one key")
 sentence_of VariantContent = Some (codes "the variant has no content")
 sentence_of (Custom message) = Some message.now
 
--- what is printed: the sentence where `#` is among the options, as in `{error:#}`, and else the message
+-- The printed text: the sentence if the option `#` is set (`{error:#}`), and otherwise the message
 abbrev pub printed : Bool → SerdeError → Option (List ℕ)
 printed alternate error = if alternate then sentence_of error else Some (message_of error)

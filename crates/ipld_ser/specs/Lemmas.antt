@@ -1,2 +1,2 @@
--- Lemmas for use in ghost members, and no definitions.
+-- Lemmas for ghost members. The module has no definitions.
 pub mod KeyOrder

@@ -1,4 +1,4 @@
-//! Bytes as a value of their own.
+//! Bytes as a type of their own.
 
 ghost use Rattle.std.specs.Prelude.{◌≡◌, Some};
 ghost use Rattle.ipld_ser.specs.Image.{NoError};
@@ -12,7 +12,7 @@ use ipld_tree::Ipld;
 use std::alloc::Global;
 use std::marker::Model;
 
-/// Bytes that are written as Bytes, where a `Vec<u8>` is written as a List of Integers.
+/// Bytes that are written as Bytes. A `Vec<u8>` is written as a List of Integers.
 #[derive(Debug, Drop)]
 pub struct ByteBuf {
     bytes: Vec<u8>,
@@ -48,7 +48,7 @@ impl Eq for ByteBuf {
 }
 
 impl ByteBuf {
-    /// The bytes, lent.
+    /// Borrows the bytes.
     #[inline(always)]
     pub fn as_slice(&self) -> &[u8]
         ensures { result.now ≡ self.now }
@@ -56,7 +56,7 @@ impl ByteBuf {
         self.bytes.as_slice()
     }
 
-    /// The bytes themselves.
+    /// Returns the bytes themselves.
     #[inline(always)]
     pub fn into_vec(self) -> Vec<u8>
         ensures { result.items ≡ self }
@@ -69,14 +69,14 @@ impl ByteBuf {
 impl From<Vec<u8>> for ByteBuf {
     ghost from_gives = { λ v r. r ≡ v.items };
 
-    /// These bytes.
+    /// Creates a `ByteBuf` of these bytes.
     #[inline(always)]
     fn from(bytes: Vec<u8>) -> ByteBuf {
         ByteBuf { bytes }
     }
 }
 
-/// Bytes, by a copy.
+/// The image is Bytes, with a copy of the bytes.
 impl Serialize for ByteBuf {
     ghost image = { λ b. Some (bytes b) };
 

@@ -1,4 +1,4 @@
-//! What options, lists and maps are written as.
+//! The images of options, lists and maps.
 
 ghost use Rattle.std.specs.Prelude.{◌≡◌, Some, None, IsOk, OnOk, IfOk, IfErr};
 ghost use Rattle.ipld_ser.specs.Composites.{option_image, list_image, array_image, keyed_image, OptionError, ListError, MapError};
@@ -15,7 +15,7 @@ use ipld_tree::Ipld;
 use std::alloc::Global;
 use std::collections::BTreeMap;
 
-/// Null for `None`, else the image of the content.
+/// The image of `None` is Null. The image of `Some` is the image of the content.
 impl<T: Serialize> Serialize for Option<T> {
     ghost image = { option_image T.image };
 
@@ -43,7 +43,8 @@ impl<T: Serialize> Serialize for Option<T> {
     }
 }
 
-/// A List of the images of the elements, of numbers too: bytes are a [`ByteBuf`](crate::ByteBuf).
+/// The image is a List of the images of the elements, even if they are numbers. For Bytes, use a
+/// [`ByteBuf`](crate::ByteBuf).
 impl<T: Serialize> Serialize for Vec<T> {
     ghost image = { λ v. list_image T.image v.items };
 
@@ -60,7 +61,7 @@ impl<T: Serialize> Serialize for Vec<T> {
     }
 }
 
-/// A List of the images of the elements.
+/// The image is a List of the images of the elements.
 impl<'a, T: Serialize> Serialize for &'a [T] {
     ghost image = { λ s. list_image T.image s.now };
 
@@ -77,7 +78,7 @@ impl<'a, T: Serialize> Serialize for &'a [T] {
     }
 }
 
-/// A List of the images of the elements.
+/// The image is a List of the images of the elements.
 impl<T: Serialize, const N: usize> Serialize for [T; N] {
     ghost image = { array_image N T.image };
 
@@ -96,7 +97,7 @@ impl<T: Serialize, const N: usize> Serialize for [T; N] {
     }
 }
 
-// The List of the images of the elements.
+// Returns the List of the images of the elements.
 fn list_of<T: Serialize>(
     alloc: Global,
     serializer: Serializer,
@@ -129,7 +130,7 @@ fn write_list<T: Serialize, W: ImageWriter>(
     Ok(())
 }
 
-/// A Map of the images under the keys.
+/// The image is a Map of the images of the values under their keys.
 impl<K: SerializeKey, T: Serialize> Serialize for BTreeMap<K, T> {
     ghost image = { λ m. keyed_image K.text_of K.is_key T.image m.entries };
 
@@ -141,7 +142,7 @@ impl<K: SerializeKey, T: Serialize> Serialize for BTreeMap<K, T> {
     }
 }
 
-// The Map of the images under the keys.
+// Returns the Map of the images of the values under their keys.
 fn map_of<K: SerializeKey, T: Serialize>(
     alloc: Global,
     serializer: Serializer,

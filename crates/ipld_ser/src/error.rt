@@ -1,4 +1,4 @@
-//! Why a typed value can't be written or read.
+//! The reasons why a typed value cannot be written or read.
 
 ghost use Rattle.std.specs.Prelude.{◌≡◌};
 ghost use Rattle.std.specs.Fmt.{DisplaysStyledOnOk};
@@ -10,7 +10,8 @@ use ipld_tree::IpldKind;
 use std::alloc::{AllocError, AllocFailed};
 use std::{error, fmt};
 
-/// Why a typed value can't be written as a tree, or a tree can't be read as a typed value.
+/// The reason why a typed value cannot be written as a tree, or a tree cannot be read as a typed
+/// value.
 #[derive(Clone, Copy, Debug, PartialEq, Eq)]
 pub enum SerdeError {
     /// An allocation failed.
@@ -19,43 +20,46 @@ pub enum SerdeError {
     Unit,
     /// A unit struct has no image.
     UnitStruct,
-    /// A `u128` is above the greatest `i128`.
+    /// A `u128` is greater than the greatest `i128`.
     U128,
     /// A key of a map is written as something other than a String.
     KeyNotText,
-    /// The bytes under the name of CIDs are no CID, with the reason.
+    /// The Bytes in a newtype struct with the name of CIDs are not a CID. The content is the
+    /// reason.
     InvalidCid(CidError),
-    /// The tree is of another kind than the type takes: the kind found.
+    /// The tree is of a kind that the type does not accept. The content is the kind found.
     WrongKind(IpldKind),
     /// The Integer is out of the type's range.
     OutOfRange,
-    /// The String isn't exactly one character.
+    /// The String is not exactly one character.
     NotOneChar,
-    /// The List is shorter than the type, or of another length than a tuple variant or an array.
+    /// The List is shorter than the type, or its length differs from that of the tuple variant or
+    /// array.
     WrongLength,
-    /// So many elements or pairs were left over.
+    /// Elements or pairs were left over. The content is their number.
     Leftover(usize),
-    /// A value was asked for where no key had been read.
+    /// A value was requested when no key had been read.
     MissingValue,
     /// An enum was to be read from a Map without a key.
     NoKey,
-    /// An enum was to be read from a Map of several keys.
+    /// An enum was to be read from a Map with several keys.
     MoreKeys,
-    /// The variant's content was asked for where there is none.
+    /// The content of a variant without content was requested.
     VariantContent,
-    /// An error of a type of one's own, in its own words.
+    /// An error of a custom type, with its own message.
     Custom(&'static str),
 }
 
-/// The error of a call that is lent several values: [`SerdeError`]. It is a type parameter of such a call, since the borrow checker
-/// takes no call that is lent several values and whose signature has a `&'static`.
+/// The error of a call that borrows several values: [`SerdeError`]. It is a type parameter of such
+/// a call, since the borrow checker rejects a call that borrows several values if its signature has
+/// a `&'static`.
 ///
 /// The trait is sealed: no other type can implement it.
 pub trait SerializeError: sealed::Sealed + Sized {
     // the error that it is
     ghost reported: { Self → errors.SerdeError };
 
-    /// The error itself.
+    /// Returns the error itself.
     fn report(error: SerdeError) -> Self
         ensures { reported result ≡ error };
 }
@@ -76,14 +80,14 @@ impl SerializeError for SerdeError {
 }
 
 impl SerdeError {
-    /// An error in the caller's words.
+    /// Creates an error with the caller's message.
     pub fn custom(message: &'static str) -> SerdeError
         ensures { result ≡ SerdeError.Custom message.entry }
     {
         Self::Custom(message)
     }
 
-    // What is wrong, in a sentence.
+    // Writes a sentence that describes the error.
     fn describe<W: fmt::Write>(&self, f: &mut fmt::Formatter<W>) -> fmt::Result
         ensures { DisplaysStyledOnOk W.write_str_gives f.old result (sentence_of self.now) f.new }
     {
@@ -111,8 +115,9 @@ impl SerdeError {
     }
 }
 
-/// `serde error: ` and the words of a [`Custom`](SerdeError::Custom) error, else the variant's name. With `#`, as in `{error:#}`,
-/// a sentence that says what is wrong, or the words of a `Custom` error alone.
+/// `Display` prints `serde error: ` and the message for a [`Custom`](SerdeError::Custom) error, and
+/// the variant's name for any other error. With `#` (`{error:#}`), it prints a sentence that
+/// describes the error, or only the message of a `Custom` error.
 impl fmt::Display for SerdeError {
     ghost use Rattle.std.specs.Prelude.{Some};
     ghost use Rattle.std.specs.Fmt.{spec_alternate};
@@ -157,7 +162,7 @@ impl From<AllocError> for SerdeError {
 
     ghost from_gives = { λ _ error. error ≡ Memory };
 
-    /// A failed allocation.
+    /// Returns [`SerdeError::Memory`] for a failed allocation.
     #[inline(always)]
     fn from(_error: AllocError) -> SerdeError {
         SerdeError::Memory
@@ -169,7 +174,8 @@ impl<T: Drop> From<AllocFailed<T>> for SerdeError {
 
     ghost from_gives = { λ _ error. error ≡ Memory };
 
-    /// A failed allocation; what couldn't be stored is dropped.
+    /// Returns [`SerdeError::Memory`] for a failed allocation. The value that could not be stored
+    /// is dropped.
     #[inline(always)]
     fn from(_error: AllocFailed<T>) -> SerdeError {
         SerdeError::Memory

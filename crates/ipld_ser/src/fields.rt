@@ -1,4 +1,4 @@
-//! Writing the fields of a variant at once.
+//! The fields of a variant, which are written by one call.
 
 ghost use Rattle.std.specs.Prelude.{◌≡◌, ◌∷◌, [], ℕ, List, Option, Some, option_map, OnOk, IfOk, IfErr, IfSome, IfNone, None, slice_get};
 ghost use Rattle.ipld_ser.specs.Builders.{variant_tree};
@@ -18,21 +18,24 @@ use crate::variants::SerializeStructVariant;
 use ipld_tree::Ipld;
 use std::alloc::Global;
 
-/// The fields of a variant, lent, each with its name, in nested pairs: `(("width", &width), (("height", &height), ()))`.
+/// The borrowed fields of a variant with their names, in nested pairs:
+/// `(("width", &width), (("height", &height), ()))`.
 ///
 /// The trait is sealed: no other type can implement it.
 pub trait SerializeFields: sealed::Sealed + Sized + Drop {
-    // the name and the image of each
+    // the name and the image of every field
     ghost fields: { Self → List (List ℕ × Option Tree) };
 
-    // the image of each, and the error that it is rejected with
+    // the image of every field, and the error that it is rejected with
     ghost errors: { Self → List {1} (Option Tree × (error.SerdeError → Type 0)) };
 
-    /// Writes the fields in this order, each under its name, over the value that an equal name had.
+    /// Writes the fields in this order, under their names. A field replaces the value of an equal
+    /// name.
     ///
     /// # Errors
     ///
-    /// That of the first field without an image, or [`SerdeError::Memory`].
+    /// The error of the first field without an image, or [`SerdeError::Memory`] if an allocation
+    /// fails.
     fn write(self, map: SerializeStructVariant) -> Result<SerializeStructVariant, SerdeError>
         ensures ok { IfOk result (λ b. put_fields (fields self) (variant_filed map) ≡ Some
             (variant_filed b)) }
@@ -40,7 +43,7 @@ pub trait SerializeFields: sealed::Sealed + Sized + Drop {
         ensures err { IfErr result (λ e. RejectsAs (put_fields (fields self) (variant_filed map))
             (StructError (errors self)) e) };
 
-    /// The name of the field at an index, where there is one.
+    /// Returns the name of the field at an index, or `None` if the index is out of range.
     fn name_at(&self, index: usize) -> Option<&str>
         ensures some { IfSome result (λ name. slice_get (names_of (fields self.now)) index
             ≡ Some name.now) }
@@ -50,7 +53,8 @@ pub trait SerializeFields: sealed::Sealed + Sized + Drop {
     ///
     /// # Errors
     ///
-    /// [`Unwritten::Memory`] where an allocation failed, and [`Unwritten::Rejected`] where the value isn't written or there is no field.
+    /// - [`Unwritten::Memory`] if an allocation fails.
+    /// - [`Unwritten::Rejected`] if the value is not written or the index is out of range.
     fn write_value<W: ImageWriter>(
         &self,
         alloc: Global,
@@ -96,7 +100,7 @@ impl SerializeFields for () {
 
 impl<'a, T: Serialize, F> sealed::Sealed for ((&'a str, &'a T), F) {}
 
-/// A field in front of others.
+/// A field, followed by others.
 impl<'a, T: Serialize, F: SerializeFields> SerializeFields for ((&'a str, &'a T), F) {
     ghost fields = { λ v. (v.0.0.now, T.image v.0.1.now) ∷ F.fields v.1 };
 
@@ -134,18 +138,22 @@ impl<'a, T: Serialize, F: SerializeFields> SerializeFields for ((&'a str, &'a T)
 }
 
 impl Serializer {
-    /// A variant of named fields: a Map of the variant's name to the Map of the fields, as
-    /// [`serialize_struct_variant`](Serializer::serialize_struct_variant) and its builder write it. The error is a [`SerdeError`].
+    /// Writes a variant with named fields as a Map of the variant's name to the Map of the fields.
+    /// [`serialize_struct_variant`](Serializer::serialize_struct_variant) and its builder write the
+    /// same. The error is a [`SerdeError`].
+    ///
+    /// # Errors
+    ///
+    /// The error of the first field without an image, or [`SerdeError::Memory`] if an allocation
+    /// fails.
+    ///
+    /// # Examples
     ///
     /// ```
     /// // the Map of `Rectangle` to the Map of `height` 3 and `width` 2
     /// let fields = (("width", &2u8), (("height", &3u8), ()));
     /// let tree = Serializer.serialize_variant_fields(alloc, "Rectangle", fields)?;
     /// ```
-    ///
-    /// # Errors
-    ///
-    /// That of the first field without an image, or [`SerdeError::Memory`].
     pub fn serialize_variant_fields<F: SerializeFields, E: SerializeError>(
         self,
         alloc: Global,
@@ -164,7 +172,7 @@ impl Serializer {
     }
 }
 
-// The Map of the variant's name to the Map of the fields.
+// Returns the Map of the variant's name to the Map of the fields.
 #[inline(always)]
 fn variant_of<F: SerializeFields>(
     serializer: Serializer,

@@ -1,4 +1,4 @@
-//! Values written part by part, with no tree of them.
+//! Values that are written part by part, without a tree.
 
 ghost use Rattle.std.specs.Prelude.{◌≡◌, ◌++◌, ◌+◌, ◌≤◌, ◌∷◌, [], ℕ, List, Option, length, map, insert, OnOk, IfOk};
 ghost use Rattle.ipld_cid.specs.LinkOf.{link_of};
@@ -14,13 +14,15 @@ use ipld_tree::Ipld;
 use std::alloc::{AllocError, AllocFailed, Global};
 use std::cmp::Ordering;
 
-/// Why a value wasn't written by an [`ImageWriter`]. What the writer holds is of no use then.
+/// The reason why an [`ImageWriter`] did not write a value. The contents of the writer are then of
+/// no use.
 #[derive(Clone, Copy, Debug, PartialEq, Eq, Drop)]
 pub enum Unwritten {
     /// An allocation failed.
     Memory,
-    /// The value can't be written so: it has no image, or the writer doesn't take a part of the image. Who called it makes the image by
-    /// [`Serialize::serialize`](crate::Serialize::serialize), by which it is seen why.
+    /// The value cannot be written in this way: it has no image, or the writer does not accept a
+    /// part of the image. To find the reason, the caller creates the image by
+    /// [`Serialize::serialize`](crate::Serialize::serialize).
     Rejected,
 }
 
@@ -29,7 +31,7 @@ impl From<AllocError> for Unwritten {
 
     ghost from_gives = { λ _ error. error ≡ Memory };
 
-    /// A failed allocation.
+    /// Returns [`Unwritten::Memory`] for a failed allocation.
     #[inline(always)]
     fn from(_error: AllocError) -> Unwritten {
         Unwritten::Memory
@@ -41,29 +43,35 @@ impl<T: Drop> From<AllocFailed<T>> for Unwritten {
 
     ghost from_gives = { λ _ error. error ≡ Memory };
 
-    /// A failed allocation; what couldn't be stored is dropped.
+    /// Returns [`Unwritten::Memory`] for a failed allocation. The value that could not be stored is
+    /// dropped.
     #[inline(always)]
     fn from(_error: AllocFailed<T>) -> Unwritten {
         Unwritten::Memory
     }
 }
 
-/// What takes a value's image part by part, and writes it as bytes behind those that it has: a block that is being made.
+/// A writer that takes a value's image part by part, and appends it as bytes to its contents. The
+/// contents are a block that is being made.
 ///
-/// A list is its head, with the number of its items, and then these. A map is its head, with the number of its entries, and then these,
-/// of each the key, as a string, and the value; the keys come by length, and by bytes where the lengths are the same. Each call says what
-/// is appended where it returns `Ok`. After an error what was appended isn't said.
+/// A list is written as its head, with the number of its items, and then the items. A map is
+/// written as its head, with the number of its entries, and then the entries. An entry is the key,
+/// as a string, and the value. Shorter keys come first, and keys of the same length are in the
+/// order of their bytes.
+///
+/// The contract of a call defines the bytes that it appends if it returns `Ok`. After an error, the
+/// appended bytes are unspecified.
 pub trait ImageWriter: Sized {
     // the bytes so far
     ghost contents: { Self → List ℕ };
 
-    // what a tree is written as
+    // the bytes that a tree is written as
     ghost written: { Tree → Option (List ℕ) };
 
-    // what stands before the items of a list, of which there are so many
+    // the bytes before the items of a list of this many items
     ghost list_head: { ℕ → List ℕ };
 
-    // what stands before the entries of a map, of which there are so many
+    // the bytes before the entries of a map of this many entries
     ghost map_head: { ℕ → List ℕ };
 
     /// Writes Null.
@@ -100,11 +108,11 @@ pub trait ImageWriter: Sized {
         ensures { OnOk result (Appends (written (tree_of value.now)) (contents self.old)
             (contents self.new)) };
 
-    /// Writes the head of a List, of which so many items follow.
+    /// Writes the head of a List of `count` items, which follow.
     fn begin_list(&mut self, count: usize) -> Result<(), Unwritten>
         ensures { OnOk result (contents self.new ≡ contents self.old ++ list_head count) };
 
-    /// Writes the head of a Map, of which so many entries follow.
+    /// Writes the head of a Map of `count` entries, which follow.
     fn begin_map(&mut self, count: usize) -> Result<(), Unwritten>
         ensures { OnOk result (contents self.new ≡ contents self.old ++ map_head count) };
 
@@ -115,12 +123,15 @@ pub trait ImageWriter: Sized {
     ghost structs: { FieldsInTurn written map_head };
 }
 
-/// Writes a struct, the Map of its fields, in the order of their names: `write_fields(alloc, writer, &(("width", &width), (("height",
-/// &height), ())))`. It allocates a slot for each field.
+/// Writes a struct as the Map of its fields, in the order of their names. It allocates a slot for
+/// every field. For example,
+/// `write_fields(alloc, writer, &(("width", &width), (("height", &height), ())))` writes a struct
+/// with two fields.
 ///
 /// # Errors
 ///
-/// [`Unwritten::Memory`] where an allocation failed, and [`Unwritten::Rejected`] where a field isn't written.
+/// - [`Unwritten::Memory`] if an allocation fails.
+/// - [`Unwritten::Rejected`] if a field is not written.
 pub fn write_fields<F: SerializeFields, W: ImageWriter>(
     alloc: Global,
     writer: &mut W,
@@ -136,7 +147,7 @@ pub fn write_fields<F: SerializeFields, W: ImageWriter>(
     Ok(())
 }
 
-// Writes the fields at these indexes, of each the name and the value.
+// Writes the name and the value of every field at these indexes.
 fn write_in_order<F: SerializeFields, W: ImageWriter>(
     alloc: Global,
     writer: &mut W,
@@ -169,7 +180,7 @@ fn write_entry<F: SerializeFields, W: ImageWriter>(
     Ok(())
 }
 
-// The names of the fields in order, each with the index of its field.
+// Returns the names of the fields in order, with the indexes of their fields.
 fn order_of<'a, F: SerializeFields>(
     alloc: Global,
     fields: &'a F,
@@ -184,10 +195,10 @@ fn order_of<'a, F: SerializeFields>(
     Ok(order)
 }
 
-// How many fields of a struct there is room for at first.
+// The number of fields of a struct for which capacity is reserved at first.
 const RESERVED: usize = 8;
 
-// Puts a name at its place among names in order, with their number as its index.
+// Inserts a name at its place among names in order, with their number as its index.
 fn insert_name<'a>(order: &mut Vec<(&'a str, usize)>, name: &'a str) -> Result<(), AllocError>
     ensures filed { OnOk result (indexed order.new.items ≡ filed name.entry.now
         (length order.old.items) (indexed order.old.items)) }
@@ -199,7 +210,7 @@ fn insert_name<'a>(order: &mut Vec<(&'a str, usize)>, name: &'a str) -> Result<(
     Ok(())
 }
 
-// The place of a name among names in order.
+// Returns the place of a name among names in order.
 fn place_of(order: &[(&str, usize)], name: &str) -> usize
     ensures within { result ≤ length order.now }
     ensures filed { (index : ℕ) → filed name.now index (indexed order.now) ≡ insert
@@ -215,8 +226,8 @@ fn place_of(order: &[(&str, usize)], name: &str) -> usize
     place
 }
 
-/// Returns whether a key comes before another in length-first key order (RFC 8949, section 4.2.3): by length, and by bytes if the
-/// lengths are the same.
+/// Returns whether a key comes before another in length-first key order (RFC 8949, section 4.2.3):
+/// by length, and by bytes if the lengths are the same.
 #[inline(always)]
 pub fn key_precedes(first: &str, second: &str) -> bool
     ensures { result ≡ comes_first first.now second.now }

@@ -12,20 +12,21 @@ use std::alloc::Global;
 
 /// A type whose values can be the keys of a map.
 ///
-/// Its meaning is `text_of`: the string that a key is written as. `is_key` says which strings are keys. Keys stand in the byte order of
-/// their strings, so an enum that derives its order lists its variants by name.
+/// Its meaning is `text_of`: the string that a key is written as. `is_key` defines which strings
+/// are keys. Keys are in the byte order of their strings, so an enum that derives its order lists
+/// its variants in the order of their names.
 pub trait SerializeKey: Ord {
     // the string that a key is written as
     ghost text_of: { Self → List ℕ };
 
-    // whether a string is a key, which each key's own is
+    // whether a string is a key, which is true for the string of every key
     ghost is_key: { List ℕ → Bool };
 
-    /// The string that the key is written as.
+    /// Returns the string that the key is written as.
     ///
     /// # Errors
     ///
-    /// [`SerdeError::Memory`] alone.
+    /// Only [`SerdeError::Memory`], if an allocation fails.
     fn to_text(&self, alloc: Global) -> Result<String, SerdeError>
         ensures ok { IfOk result (λ s. key_in is_key (text_of self.now) ≡ Some (string_bytes s)) }
         ensures own { is_key (text_of self.now) ≡ true }
@@ -35,7 +36,7 @@ pub trait SerializeKey: Ord {
     ghost in_order: { (a b : Self) → Self.cmp a b ≡ slice_cmp nat_cmp (text_of a) (text_of b) };
 }
 
-/// The string itself, by a copy.
+/// The string of the key is a copy of the string itself.
 impl SerializeKey for String {
     ghost text_of = { string_bytes };
 
@@ -49,7 +50,7 @@ impl SerializeKey for String {
     }
 }
 
-/// The string itself, by a copy.
+/// The string of the key is a copy of the string itself.
 impl<'a> SerializeKey for &'a str {
     ghost text_of = { λ s. s.now };
 
@@ -63,7 +64,7 @@ impl<'a> SerializeKey for &'a str {
     }
 }
 
-/// The string of the one character.
+/// The string of the key is the one character.
 impl SerializeKey for char {
     ghost text_of = { encode_utf8 };
 

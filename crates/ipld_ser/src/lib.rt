@@ -1,8 +1,9 @@
 //! Typed values written as trees of the IPLD data model.
 //!
-//! A type says by the trait [`Serialize`] which tree its values are written as, its image. [`to_ipld`] returns that tree. The trait is
-//! implemented for numbers, strings, CIDs, options, lists, arrays, tuples of up to ten and maps; `ipld_core::serde::samples` shows how it is written
-//! for types of one's own.
+//! A type implements the trait [`Serialize`] to define the tree that its values are written as,
+//! their image. [`to_ipld`] returns that tree. The trait is implemented for numbers, strings, CIDs,
+//! options, lists, arrays, tuples of up to ten elements, and maps. `ipld_core::serde::samples`
+//! shows how to implement it for your types.
 //!
 //! ```
 //! use ipld_ser::{SerdeError, to_ipld};

@@ -14,8 +14,8 @@ use ipld_tree::macros::put;
 use std::alloc::Global;
 use std::collections::BTreeMap;
 
-/// Writes a Map, entry by entry, from [`Serializer::serialize_map`] or [`Serializer::serialize_struct`]. Its drop is a loop, however
-/// deep the values nest.
+/// A builder that writes a Map entry by entry. [`Serializer::serialize_map`] and
+/// [`Serializer::serialize_struct`] create it. Its drop is a loop, however deep the values nest.
 pub struct SerializeMap {
     alloc: Global,
     entries: BTreeMap<String, Ipld>,
@@ -23,7 +23,8 @@ pub struct SerializeMap {
 }
 
 impl Serializer {
-    /// A Map of entries that follow. `len` is a hint of how many, which changes nothing: the call doesn't allocate and never fails.
+    /// Begins a Map. Its entries follow. `len` is a hint of their number, which changes nothing.
+    /// The call does not allocate and never fails.
     #[inline(always)]
     pub fn serialize_map(
         self,
@@ -40,8 +41,8 @@ impl Serializer {
         })
     }
 
-    /// A Map of the fields of a struct, which follow. The struct's name isn't written, and `len` is a hint, as in
-    /// [`serialize_map`](Serializer::serialize_map).
+    /// Begins a Map of the fields of a struct. The fields follow. The struct's name is not written.
+    /// `len` is a hint, like that of [`serialize_map`](Serializer::serialize_map).
     #[inline(always)]
     pub fn serialize_struct(
         self,
@@ -57,13 +58,14 @@ impl Serializer {
 }
 
 impl SerializeMap {
-    /// Writes a key, which is then pending until its value is written. It replaces a key that was pending. After a rejection that key
-    /// stays pending.
+    /// Writes a key, which is then pending until its value is written. It replaces a key that was
+    /// pending. After an error, that key stays pending.
     ///
     /// # Errors
     ///
-    /// [`SerdeError::KeyNotText`] where the key is written as something other than a String; where it has no image, its own rejection;
-    /// or [`SerdeError::Memory`].
+    /// - [`SerdeError::KeyNotText`] if the key is written as something other than a String.
+    /// - The error of the key if it has no image.
+    /// - [`SerdeError::Memory`] if an allocation fails.
     #[inline(always)]
     pub fn serialize_key<K: Serialize>(&mut self, key: &K) -> Result<(), SerdeError>
         ensures ok { OnOk result (WritesKey (K.image key.now) (state_of self.old)
@@ -76,7 +78,7 @@ impl SerializeMap {
         Ok(())
     }
 
-    /// Whether a key is pending.
+    /// Returns whether a key is pending.
     #[inline(always)]
     pub fn has_key(&self) -> bool
         ensures { result ≡ is_some (state_of self.now).pending }
@@ -84,14 +86,14 @@ impl SerializeMap {
         self.key.is_some()
     }
 
-    /// Writes the value of the pending key, over the value that an equal key had. No key is pending afterwards; after a rejection the
-    /// map is as before.
+    /// Writes the value of the pending key. It replaces the value of an equal key. No key is
+    /// pending afterwards. After an error, the entries are as before.
     ///
-    /// A key has to be pending: [`has_key`](SerializeMap::has_key) reports it.
+    /// A key has to be pending, which [`has_key`](SerializeMap::has_key) reports.
     ///
     /// # Errors
     ///
-    /// That of the value, or [`SerdeError::Memory`].
+    /// The error of the value, or [`SerdeError::Memory`] if an allocation fails.
     #[inline(always)]
     pub fn serialize_value<T: Serialize>(&mut self, value: &T) -> Result<(), SerdeError>
         requires { IsSome (state_of self.old).pending }
@@ -105,14 +107,20 @@ impl SerializeMap {
         self.put_image(key, value)
     }
 
-    /// Writes a key and its value. After an error the map is as before. Where the key was rejected, or memory ran out for it, a key
-    /// that was pending stays so; where the value was rejected, or memory ran out for it, no key is pending. The entry's own key is
-    /// never pending. [`SerdeError::Memory`] doesn't say for which of the two memory ran out: [`has_key`](SerializeMap::has_key) does
-    /// where a key was pending.
+    /// Writes a key and its value. After an error, the entries are as before. Which key is then
+    /// pending depends on the part that failed:
+    ///
+    /// - If the key is rejected or an allocation for it fails, a key that was pending stays
+    ///   pending.
+    /// - If the value is rejected or an allocation for it fails, no key is pending.
+    ///
+    /// The entry's own key is never pending. [`SerdeError::Memory`] does not show for which of the
+    /// two an allocation failed. If a key was pending, [`has_key`](SerializeMap::has_key) shows it.
     ///
     /// # Errors
     ///
-    /// That of the key, as in [`serialize_key`](SerializeMap::serialize_key), else that of the value, or [`SerdeError::Memory`].
+    /// The error of the key, like that of [`serialize_key`](SerializeMap::serialize_key). Otherwise
+    /// the error of the value, or [`SerdeError::Memory`] if an allocation fails.
     #[inline(always)]
     pub fn serialize_entry<K: Serialize, T: Serialize>(
         &mut self,
@@ -129,12 +137,15 @@ impl SerializeMap {
         self.put_image(name, value)
     }
 
-    /// Writes a struct's field under its name, over the value that an equal name had. After an error the map is as before. Where memory
-    /// ran out for the name a key that was pending stays so; where the value was rejected, or memory ran out for it, no key is pending.
+    /// Writes a struct's field under its name. It replaces the value of an equal name. After an
+    /// error, the entries are as before. Which key is then pending depends on the part that failed:
+    ///
+    /// - If an allocation for the name fails, a key that was pending stays pending.
+    /// - If the value is rejected or an allocation for it fails, no key is pending.
     ///
     /// # Errors
     ///
-    /// That of the value, or [`SerdeError::Memory`].
+    /// The error of the value, or [`SerdeError::Memory`] if an allocation fails.
     #[inline(always)]
     pub fn serialize_field<T: Serialize>(&mut self, key: &str, value: &T) -> Result<(), SerdeError>
         ensures ok { OnOk result (WritesEntry (Some (text key.now)) (T.image value.now)
@@ -147,8 +158,8 @@ impl SerializeMap {
         self.put_image(name, value)
     }
 
-    // Puts the image of the value at the key, over the value that an equal key had. No key is pending afterwards; after an error the
-    // entries are as before.
+    // Puts the image of the value at the key. It replaces the value of an equal key. No key is
+    // pending afterwards. After an error, the entries are as before.
     #[inline(always)]
     pub(crate) fn put_image<T: Serialize>(
         &mut self,
@@ -168,7 +179,8 @@ impl SerializeMap {
         Ok(())
     }
 
-    /// The Map of what was written. A key that is still pending is dropped. It does not allocate and never fails.
+    /// Returns the Map of the written entries. A key that is still pending is dropped. It does not
+    /// allocate and never fails.
     #[inline(always)]
     pub fn end(self) -> Result<Ipld, SerdeError>
         ensures { IsOkAnd result (λ t. tree_of t ≡ entries (state_of self).filed) }
@@ -196,7 +208,7 @@ impl Drop for SerializeMap {
     }
 }
 
-// The string that a key was written as.
+// Returns the string that a key was written as.
 #[inline(always)]
 fn string_key(key: Ipld) -> Result<String, SerdeError>
     ensures { MatchResult result

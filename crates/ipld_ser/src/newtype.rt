@@ -1,4 +1,4 @@
-//! Writing values that stand for their content.
+//! Calls for values that are written as their content.
 
 ghost use Rattle.std.specs.Prelude.{◌≡◌, Ok, Err, Some, IfOk, IfErr, MatchResult};
 ghost use Rattle.ipld_ser.specs.Image.{RejectsAs};
@@ -13,11 +13,11 @@ use ipld_tree::Ipld;
 use std::alloc::Global;
 
 impl Serializer {
-    /// A value that is there, as its image.
+    /// Writes a value that is present, as its image.
     ///
     /// # Errors
     ///
-    /// That of the value.
+    /// The error of the value.
     #[inline(always)]
     pub fn serialize_some<T: Serialize>(self, alloc: Global, value: &T) -> Result<Ipld, SerdeError>
         ensures ok { IfOk result (λ t. T.image value.now ≡ Some (tree_of t)) }
@@ -27,12 +27,15 @@ impl Serializer {
         value.serialize(alloc, Serializer)
     }
 
-    /// A newtype struct as the image of its content. Under the name [`CID_SERDE_PRIVATE_IDENTIFIER`] Bytes become the Link that they
-    /// encode, and any other image passes.
+    /// Writes a newtype struct as the image of its content. If the name is
+    /// [`CID_SERDE_PRIVATE_IDENTIFIER`], Bytes become the Link that they encode, and any other
+    /// image is unchanged.
     ///
     /// # Errors
     ///
-    /// That of the content; [`SerdeError::InvalidCid`] under the name of CIDs where the Bytes are no CID, with the reason.
+    /// - The error of the content.
+    /// - [`SerdeError::InvalidCid`], with the reason, if the name is that of CIDs and the Bytes are
+    ///   not a CID.
     #[inline(always)]
     pub fn serialize_newtype_struct<T: Serialize>(
         self,
@@ -55,7 +58,7 @@ impl Serializer {
     }
 }
 
-// The content, where bytes are the link that they encode.
+// Returns the content. If it is Bytes, returns the Link that they encode.
 fn link_of_bytes(content: Ipld) -> Result<Ipld, SerdeError>
     ensures { MatchResult result
         (λ t. link_from_bytes (tree_of content) ≡ Ok (tree_of t))

@@ -1,4 +1,4 @@
-//! What numbers, bools, strings, CIDs and trees are written as.
+//! The images of numbers, bools, strings, CIDs and trees.
 
 ghost use Rattle.std.specs.Prelude.{◌≡◌, [], Some, None, Err, IsOk, IfOk, IfErr, string_bytes};
 ghost use Rattle.ipld_cid.specs.LinkOf.{link_of};
@@ -16,7 +16,7 @@ use ipld_cid::Cid;
 use ipld_tree::Ipld;
 use std::alloc::Global;
 
-/// A Bool.
+/// The image is a Bool.
 impl Serialize for bool {
     ghost image = { λ b. Some (boolean b) };
 
@@ -37,7 +37,7 @@ impl Serialize for bool {
     }
 }
 
-/// An Integer.
+/// The image is an Integer.
 impl Serialize for i8 {
     ghost image = { signed_image 8 };
 
@@ -58,7 +58,7 @@ impl Serialize for i8 {
     }
 }
 
-/// An Integer.
+/// The image is an Integer.
 impl Serialize for i16 {
     ghost image = { signed_image 16 };
 
@@ -80,7 +80,7 @@ impl Serialize for i16 {
     }
 }
 
-/// An Integer.
+/// The image is an Integer.
 impl Serialize for i32 {
     ghost image = { signed_image 32 };
 
@@ -102,7 +102,7 @@ impl Serialize for i32 {
     }
 }
 
-/// An Integer.
+/// The image is an Integer.
 impl Serialize for i64 {
     ghost image = { signed_image 64 };
 
@@ -124,7 +124,7 @@ impl Serialize for i64 {
     }
 }
 
-/// An Integer.
+/// The image is an Integer.
 impl Serialize for i128 {
     ghost image = { signed_image 128 };
 
@@ -146,7 +146,7 @@ impl Serialize for i128 {
     }
 }
 
-/// An Integer.
+/// The image is an Integer.
 impl Serialize for isize {
     ghost image = { signed_image 64 };
 
@@ -168,7 +168,7 @@ impl Serialize for isize {
     }
 }
 
-/// An Integer.
+/// The image is an Integer.
 impl Serialize for u8 {
     ghost image = { unsigned_image 8 };
 
@@ -190,7 +190,7 @@ impl Serialize for u8 {
     }
 }
 
-/// An Integer.
+/// The image is an Integer.
 impl Serialize for u16 {
     ghost image = { unsigned_image 16 };
 
@@ -212,7 +212,7 @@ impl Serialize for u16 {
     }
 }
 
-/// An Integer.
+/// The image is an Integer.
 impl Serialize for u32 {
     ghost image = { unsigned_image 32 };
 
@@ -234,7 +234,7 @@ impl Serialize for u32 {
     }
 }
 
-/// An Integer.
+/// The image is an Integer.
 impl Serialize for u64 {
     ghost image = { unsigned_image 64 };
 
@@ -256,7 +256,7 @@ impl Serialize for u64 {
     }
 }
 
-/// An Integer.
+/// The image is an Integer.
 impl Serialize for usize {
     ghost image = { unsigned_image 64 };
 
@@ -278,7 +278,8 @@ impl Serialize for usize {
     }
 }
 
-/// An Integer where the number is at most [`i128::MAX`], else no image ([`SerdeError::U128`]).
+/// The image is an Integer if the number is at most [`i128::MAX`]. A greater number has no image
+/// ([`SerdeError::U128`]).
 impl Serialize for u128 {
     ghost image = { unsigned_image 127 };
 
@@ -295,7 +296,7 @@ impl Serialize for u128 {
     }
 }
 
-/// A String of the one character.
+/// The image is a String of the one character.
 impl Serialize for char {
     ghost image = { char_image };
 
@@ -307,7 +308,7 @@ impl Serialize for char {
     }
 }
 
-/// A String, by a copy.
+/// The image is a String, with a copy of the string.
 impl Serialize for String {
     ghost image = { λ s. Some (text (string_bytes s)) };
 
@@ -329,7 +330,7 @@ impl Serialize for String {
     }
 }
 
-/// A String, by a copy.
+/// The image is a String, with a copy of the string.
 impl<'a> Serialize for &'a str {
     ghost image = { λ s. Some (text s.now) };
 
@@ -351,7 +352,7 @@ impl<'a> Serialize for &'a str {
     }
 }
 
-/// A Link.
+/// The image is a Link.
 impl Serialize for Cid {
     ghost image = { λ c. Some (link (link_of c)) };
 
@@ -373,7 +374,7 @@ impl Serialize for Cid {
     }
 }
 
-/// The tree itself, by a copy.
+/// The image is a copy of the tree itself.
 impl Serialize for Ipld {
     ghost image = { λ t. Some (tree_of t) };
 
@@ -390,7 +391,7 @@ impl Serialize for Ipld {
     }
 }
 
-/// No image ([`SerdeError::Unit`]).
+/// The unit type has no image ([`SerdeError::Unit`]).
 impl Serialize for () {
     ghost image = { λ _. None };
 

@@ -14,19 +14,21 @@ use ipld_tree::macros::push;
 use ipld_tree::{Ipld, list_capacity};
 use std::alloc::Global;
 
-/// Writes a List, element by element, from [`Serializer::serialize_seq`]. Its drop is a loop, however deep the elements nest.
+/// A builder that writes a List element by element. [`Serializer::serialize_seq`] creates it. Its
+/// drop is a loop, however deep the elements nest.
 pub struct SerializeVec {
     alloc: Global,
     items: Vec<Ipld>,
 }
 
 impl Serializer {
-    /// A List of elements that follow. `len` is a hint of how many: it reserves as much capacity, at most 4,096, and changes nothing
-    /// else.
+    /// Begins a List. Its elements follow. `len` is a hint of their number. It reserves capacity
+    /// for this number, at most 4,096, and changes nothing else.
     ///
     /// # Errors
     ///
-    /// [`SerdeError::Memory`] where the capacity couldn't be allocated. No hint and a hint of 0 allocate nothing.
+    /// [`SerdeError::Memory`] if the capacity cannot be allocated. No hint and a hint of 0 do not
+    /// allocate.
     #[inline(always)]
     pub fn serialize_seq(
         self,
@@ -42,7 +44,8 @@ impl Serializer {
         Ok(SerializeVec { alloc, items })
     }
 
-    /// A List of the parts of a tuple, which follow; `len` is a hint, as in [`serialize_seq`](Serializer::serialize_seq).
+    /// Begins a List of the parts of a tuple. The parts follow. `len` is a hint, like that of
+    /// [`serialize_seq`](Serializer::serialize_seq).
     #[inline(always)]
     pub fn serialize_tuple(self, alloc: Global, len: usize) -> Result<SerializeVec, SerdeError>
         ensures empty { IfOk result (λ b. fed b ≡ []) }
@@ -53,8 +56,8 @@ impl Serializer {
         self.serialize_seq(alloc, Some(len))
     }
 
-    /// A List of the fields of a tuple struct, which follow; `len` is a hint, as in [`serialize_seq`](Serializer::serialize_seq). The
-    /// name isn't written.
+    /// Begins a List of the fields of a tuple struct. The fields follow. `len` is a hint, like that
+    /// of [`serialize_seq`](Serializer::serialize_seq). The name is not written.
     #[inline(always)]
     pub fn serialize_tuple_struct(
         self,
@@ -72,11 +75,11 @@ impl Serializer {
 }
 
 impl SerializeVec {
-    /// Writes the next element. After a rejection the list is as before.
+    /// Writes the next element. After an error, the list is as before.
     ///
     /// # Errors
     ///
-    /// That of the element, or [`SerdeError::Memory`].
+    /// The error of the element, or [`SerdeError::Memory`] if an allocation fails.
     #[inline(always)]
     pub fn serialize_element<T: Serialize>(&mut self, value: &T) -> Result<(), SerdeError>
         ensures ok { OnOk result (option_map (λ t. fed self.old ++ t ∷ []) (T.image value.now)
@@ -90,11 +93,12 @@ impl SerializeVec {
         Ok(())
     }
 
-    /// Writes the next field of a tuple struct, as [`serialize_element`](SerializeVec::serialize_element) does.
+    /// Writes the next field of a tuple struct, like
+    /// [`serialize_element`](SerializeVec::serialize_element).
     ///
     /// # Errors
     ///
-    /// That of the field, or [`SerdeError::Memory`].
+    /// The error of the field, or [`SerdeError::Memory`] if an allocation fails.
     #[inline(always)]
     pub fn serialize_field<T: Serialize>(&mut self, value: &T) -> Result<(), SerdeError>
         ensures ok { OnOk result (option_map (λ t. fed self.old ++ t ∷ []) (T.image value.now)
@@ -106,7 +110,7 @@ impl SerializeVec {
         self.serialize_element(value)
     }
 
-    /// The List of what was written. It does not allocate and never fails.
+    /// Returns the List of the written elements. It does not allocate and never fails.
     #[inline(always)]
     pub fn end(self) -> Result<Ipld, SerdeError>
         ensures { IsOkAnd result (λ t. tree_of t ≡ list (as_items (fed self))) }

@@ -15,35 +15,39 @@ use std::alloc::Global;
 
 /// A type whose values can be written as trees of the IPLD data model.
 ///
-/// Its meaning is `image`: the tree that a value is written as, or nothing where there is no such tree. A type of one's own states its
-/// image and writes it by one call of the [`Serializer`], or by one of its builders; see `ipld_core::serde::samples`. It can also state
-/// by `write_error` which error a value without an image is rejected with.
+/// Its meaning is `image`: the tree that a value is written as, or `None` if the value has no such
+/// tree. Your type states its image, and writes it by one call of the [`Serializer`] or by one of
+/// its builders. For examples, see `ipld_core::serde::samples`. By `write_error`, your type can
+/// also state the error with which a value without an image is rejected.
 pub trait Serialize {
-    // The tree that a value is written as, or nothing. A composite value has an image exactly if
-    // each of its parts has one.
+    // The tree that a value is written as, or `None`. A composite value has an image if and only if
+    // all its parts have one.
     ghost image: { Self → Option Tree };
 
-    // which error a value without an image is rejected with; by default any
+    // The error with which a value without an image is rejected. By default it can be any error.
     ghost write_error: { Self → error.SerdeError → Type 0 } = { λ _ _. ⊤ };
 
-    /// The value's image.
+    /// Returns the value's image.
     ///
     /// # Errors
     ///
-    /// [`SerdeError::Memory`] where an allocation failed; another kind, the type's `write_error`, only where the value has no image.
+    /// [`SerdeError::Memory`] if an allocation fails. Any other error is the type's `write_error`,
+    /// and occurs only if the value has no image.
     fn serialize(&self, alloc: Global, serializer: Serializer) -> Result<Ipld, SerdeError>
         ensures ok { IfOk result (λ t. image self.now ≡ Some (tree_of t)) }
         ensures err { IfErr result (λ e. RejectsAs (image self.now) (write_error self.now) e) };
 
-    /// Writes the value's image part by part: no tree of it is made, where the type has a call of its own for this. By default it is
-    /// [`serialize`](Serialize::serialize)'s tree that is written.
+    /// Writes the value's image part by part. If the type overrides this method, no tree of the
+    /// value is created. By default, it writes the tree that [`serialize`](Serialize::serialize)
+    /// returns.
     ///
-    /// A struct of one's own writes its fields by [`write_fields`](crate::write_fields).
+    /// For your own struct, write the fields by [`write_fields`](crate::write_fields).
     ///
     /// # Errors
     ///
-    /// [`Unwritten::Memory`] where an allocation failed. [`Unwritten::Rejected`] where the value has no image or the writer doesn't take
-    /// it: [`serialize`](Serialize::serialize) says why.
+    /// - [`Unwritten::Memory`] if an allocation fails.
+    /// - [`Unwritten::Rejected`] if the value has no image or the writer does not accept it. A call
+    ///   of [`serialize`](Serialize::serialize) shows the reason.
     fn write_image<W: ImageWriter>(&self, alloc: Global, writer: &mut W) -> Result<(), Unwritten>
         ensures { OnOk result (Appends (written_image W.written (image self.now))
             (W.contents writer.old) (W.contents writer.new)) }
@@ -60,7 +64,7 @@ pub trait Serialize {
     }
 }
 
-/// What it refers to.
+/// The image of the value that the reference refers to.
 impl<'a, T: Serialize> Serialize for &'a T {
     ghost image = { λ r. T.image r.now };
 
@@ -77,12 +81,13 @@ impl<'a, T: Serialize> Serialize for &'a T {
     }
 }
 
-/// The tree that a value is written as, its image. A value can be passed itself or by reference.
+/// Returns the tree that a value is written as, its image. The value can be passed by value or by
+/// reference.
 ///
 /// # Errors
 ///
-/// [`SerdeError::Memory`] where an allocation failed; another kind only where the value has no image: that of the first part, from the
-/// left, that has none.
+/// [`SerdeError::Memory`] if an allocation fails. Any other error occurs only if the value has no
+/// image. It is the error of the first part, from the left, that has no image.
 #[inline(always)]
 pub fn to_ipld<T: Serialize + Drop>(alloc: Global, value: T) -> Result<Ipld, SerdeError>
     ensures ok { IfOk result (λ t. T.image value ≡ Some (tree_of t)) }

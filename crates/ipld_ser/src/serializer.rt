@@ -9,14 +9,15 @@ use crate::error::SerdeError;
 use ipld_tree::Ipld;
 use std::alloc::Global;
 
-/// Writes values as trees, one call for each form of value.
+/// Writes values as trees, with one call for every form of value.
 ///
-/// The calls that take an allocator return [`SerdeError::Memory`] where an allocation failed. The others do not allocate.
+/// The calls that take an allocator return [`SerdeError::Memory`] if an allocation fails. The
+/// others do not allocate.
 #[derive(Clone, Copy)]
 pub struct Serializer;
 
 impl Serializer {
-    /// A bool as a Bool.
+    /// Writes a bool as a Bool.
     #[inline(always)]
     pub fn serialize_bool(self, value: bool) -> Result<Ipld, SerdeError>
         ensures { IsOkAnd result (λ t. tree_of t ≡ boolean value) }
@@ -24,7 +25,7 @@ impl Serializer {
         Ok(Ipld::Bool(value))
     }
 
-    /// A number as an Integer.
+    /// Writes a number as an Integer.
     #[inline(always)]
     pub fn serialize_i8(self, value: i8) -> Result<Ipld, SerdeError>
         ensures { IsOkAnd result (λ t. tree_of t ≡ integer value) }
@@ -32,7 +33,7 @@ impl Serializer {
         self.serialize_i16(i16::from(value))
     }
 
-    /// A number as an Integer.
+    /// Writes a number as an Integer.
     #[inline(always)]
     pub fn serialize_i16(self, value: i16) -> Result<Ipld, SerdeError>
         ensures { IsOkAnd result (λ t. tree_of t ≡ integer value) }
@@ -40,7 +41,7 @@ impl Serializer {
         self.serialize_i32(i32::from(value))
     }
 
-    /// A number as an Integer.
+    /// Writes a number as an Integer.
     #[inline(always)]
     pub fn serialize_i32(self, value: i32) -> Result<Ipld, SerdeError>
         ensures { IsOkAnd result (λ t. tree_of t ≡ integer value) }
@@ -48,7 +49,7 @@ impl Serializer {
         self.serialize_i64(i64::from(value))
     }
 
-    /// A number as an Integer.
+    /// Writes a number as an Integer.
     #[inline(always)]
     pub fn serialize_i64(self, value: i64) -> Result<Ipld, SerdeError>
         ensures { IsOkAnd result (λ t. tree_of t ≡ integer value) }
@@ -56,7 +57,7 @@ impl Serializer {
         self.serialize_i128(i128::from(value))
     }
 
-    /// A number as an Integer.
+    /// Writes a number as an Integer.
     #[inline(always)]
     pub fn serialize_i128(self, value: i128) -> Result<Ipld, SerdeError>
         ensures { IsOkAnd result (λ t. tree_of t ≡ integer value) }
@@ -64,7 +65,7 @@ impl Serializer {
         Ok(Ipld::Integer(value))
     }
 
-    /// A number as an Integer.
+    /// Writes a number as an Integer.
     #[inline(always)]
     pub fn serialize_u8(self, value: u8) -> Result<Ipld, SerdeError>
         ensures { IsOkAnd result (λ t. tree_of t ≡ integer (pos value)) }
@@ -72,7 +73,7 @@ impl Serializer {
         self.serialize_u16(u16::from(value))
     }
 
-    /// A number as an Integer.
+    /// Writes a number as an Integer.
     #[inline(always)]
     pub fn serialize_u16(self, value: u16) -> Result<Ipld, SerdeError>
         ensures { IsOkAnd result (λ t. tree_of t ≡ integer (pos value)) }
@@ -80,7 +81,7 @@ impl Serializer {
         self.serialize_u32(u32::from(value))
     }
 
-    /// A number as an Integer.
+    /// Writes a number as an Integer.
     #[inline(always)]
     pub fn serialize_u32(self, value: u32) -> Result<Ipld, SerdeError>
         ensures { IsOkAnd result (λ t. tree_of t ≡ integer (pos value)) }
@@ -88,7 +89,7 @@ impl Serializer {
         self.serialize_u64(u64::from(value))
     }
 
-    /// A number as an Integer.
+    /// Writes a number as an Integer.
     #[inline(always)]
     pub fn serialize_u64(self, value: u64) -> Result<Ipld, SerdeError>
         ensures { IsOkAnd result (λ t. tree_of t ≡ integer (pos value)) }
@@ -96,11 +97,11 @@ impl Serializer {
         Ok(Ipld::Integer(i128::from(value)))
     }
 
-    /// A number of at most [`i128::MAX`] as an Integer.
+    /// Writes a number of at most [`i128::MAX`] as an Integer.
     ///
     /// # Errors
     ///
-    /// [`SerdeError::U128`] exactly where the number is greater.
+    /// [`SerdeError::U128`] if and only if the number is greater.
     #[inline(always)]
     pub fn serialize_u128(self, value: u128) -> Result<Ipld, SerdeError>
         ensures { MatchResult result
@@ -113,7 +114,7 @@ impl Serializer {
         }
     }
 
-    /// A character as a String.
+    /// Writes a character as a String.
     #[inline(always)]
     pub fn serialize_char(self, alloc: Global, value: char) -> Result<Ipld, SerdeError>
         ensures ok { IfOk result (λ t. tree_of t ≡ text (encode_utf8 value)) }
@@ -124,7 +125,7 @@ impl Serializer {
         Ok(Ipld::String(string))
     }
 
-    /// A string, as a String. The empty one allocates nothing.
+    /// Writes a string as a String. An empty string does not allocate.
     #[inline(always)]
     pub fn serialize_str(self, alloc: Global, value: &str) -> Result<Ipld, SerdeError>
         ensures ok { IfOk result (λ t. tree_of t ≡ text value.now) }
@@ -134,7 +135,7 @@ impl Serializer {
         Ok(Ipld::String(string_of(alloc, value)?))
     }
 
-    /// Bytes, as Bytes. Where there are none it allocates nothing.
+    /// Writes bytes as Bytes. Empty bytes do not allocate.
     #[inline(always)]
     pub fn serialize_bytes(self, alloc: Global, value: &[u8]) -> Result<Ipld, SerdeError>
         ensures ok { IfOk result (λ t. tree_of t ≡ bytes value.now) }
@@ -146,7 +147,7 @@ impl Serializer {
         Ok(Ipld::Bytes(copy))
     }
 
-    /// The absence of a value as Null.
+    /// Writes the absence of a value as Null.
     #[inline(always)]
     pub fn serialize_none(self) -> Result<Ipld, SerdeError>
         ensures { IsOkAnd result (λ t. tree_of t ≡ null) }
@@ -154,11 +155,11 @@ impl Serializer {
         Ok(Ipld::Null)
     }
 
-    /// `()` has no image.
+    /// Rejects `()`, which has no image.
     ///
     /// # Errors
     ///
-    /// [`SerdeError::Unit`] always.
+    /// Always [`SerdeError::Unit`].
     #[inline(always)]
     pub fn serialize_unit(self) -> Result<Ipld, SerdeError>
         ensures { result ≡ Err SerdeError.Unit }
@@ -166,11 +167,11 @@ impl Serializer {
         Err(SerdeError::Unit)
     }
 
-    /// A unit struct has no image.
+    /// Rejects a unit struct, which has no image.
     ///
     /// # Errors
     ///
-    /// [`SerdeError::UnitStruct`] always.
+    /// Always [`SerdeError::UnitStruct`].
     #[inline(always)]
     pub fn serialize_unit_struct(self, _name: &str) -> Result<Ipld, SerdeError>
         ensures { result ≡ Err SerdeError.UnitStruct }
@@ -178,7 +179,7 @@ impl Serializer {
         Err(SerdeError::UnitStruct)
     }
 
-    /// A variant without content as the String of its name. An empty name allocates nothing.
+    /// Writes a variant without content as the String of its name. An empty name does not allocate.
     #[inline(always)]
     pub fn serialize_unit_variant(
         self,
@@ -194,7 +195,7 @@ impl Serializer {
         self.serialize_str(alloc, variant)
     }
 
-    /// Whether the form is for people to read: never.
+    /// Returns whether the form is human-readable, which is always `false`.
     #[inline(always)]
     pub fn is_human_readable(&self) -> bool
         ensures { result ≡ false }
@@ -203,7 +204,7 @@ impl Serializer {
     }
 }
 
-// A copy of a string. The empty one allocates nothing.
+// Copies a string. An empty string does not allocate.
 pub(crate) fn string_of(alloc: Global, value: &str) -> Result<String, SerdeError>
     ensures ok { IfOk result (λ s. string_bytes s ≡ value.now) }
     ensures err { IfErr result (λ e. e ≡ SerdeError.Memory) }

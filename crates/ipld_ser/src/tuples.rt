@@ -1,4 +1,4 @@
-//! What tuples of up to ten are written as.
+//! The images of tuples of up to ten elements.
 
 ghost use Rattle.std.specs.Prelude.{◌≡◌, ◌++◌, ◌∷◌, [], List, length, Option, Some, map, option_map, OnOk, IfOk, IfErr};
 ghost use Rattle.ipld_ser.specs.Builders.{fed};
@@ -17,23 +17,23 @@ use crate::serializer::Serializer;
 use ipld_tree::Ipld;
 use std::alloc::Global;
 
-// The parts of a tuple, lent, in nested pairs: `(&a, (&b, ()))`. A long tuple is written from two such nests, since what the check has to
-// show of the lifetimes in one grows faster than the nest.
+// The borrowed parts of a tuple, in nested pairs: `(&a, (&b, ()))`. A long tuple is written from
+// two such nests, since the checker's work for the lifetimes in a nest grows faster than the nest.
 trait Parts: Sized + Drop {
-    // the image of each
+    // the image of every part
     ghost images: { Self → List (Option Tree) };
 
-    // the image of each, and the error that it is rejected with
+    // the image of every part, and the error that it is rejected with
     ghost errors: { Self → List {1} (Option Tree × (error.SerdeError → Type 0)) };
 
-    // Writes them after the elements of the list.
+    // Writes the parts after the elements of the list.
     fn write(self, list: SerializeVec) -> Result<SerializeVec, SerdeError>
         ensures ok { IfOk result (λ b. option_map (λ ts. fed list ++ ts) (all_of (images self))
             ≡ Some (fed b)) }
         ensures err { IfErr result (λ e. RejectsAs (all_of (images self))
             (StructError (errors self)) e) };
 
-    // Writes them one after the other, with no head.
+    // Writes the parts one after the other, without a head.
     fn write_each<W: ImageWriter>(self, alloc: Global, writer: &mut W) -> Result<(), Unwritten>
         ensures { OnOk result (Appends (one_after_another (map (written_image W.written)
             (images self))) (W.contents writer.old) (W.contents writer.new)) };
@@ -75,9 +75,9 @@ impl<'a, T: Serialize, P: Parts> Parts for (&'a T, P) {
     }
 }
 
-// Parts in front of others.
+// Parts that come before others.
 trait FrontParts: Parts {
-    // Writes them, and the others behind them, after the elements of the list.
+    // Writes the parts, and then the others, after the elements of the list.
     fn write_before<Q: Parts>(
         self,
         others: Q,
@@ -88,7 +88,7 @@ trait FrontParts: Parts {
         ensures err { IfErr result (λ e. RejectsAs (all_of (Self.images self ++ Q.images others))
             (StructError (Self.errors self ++ Q.errors others)) e) };
 
-    // Writes them, and the others behind them, one after the other, with no head.
+    // Writes the parts, and then the others, one after the other, without a head.
     fn write_each_before<Q: Parts, W: ImageWriter>(
         self,
         others: Q,
@@ -145,7 +145,7 @@ impl<'a, T: Serialize, P: FrontParts> FrontParts for (&'a T, P) {
     }
 }
 
-// The List of the images of the parts, of which there are so many.
+// Returns the List of the images of the parts, `len` in number.
 #[inline(always)]
 fn tuple_of<P: Parts, E: SerializeError>(
     alloc: Global,
@@ -178,7 +178,7 @@ fn list_of_parts<P: Parts>(
     parts.write(list)?.end()
 }
 
-// Writes the List of the images of the parts, of which there are so many.
+// Writes the List of the images of the parts, `len` in number.
 #[inline(always)]
 fn write_tuple<P: Parts, W: ImageWriter>(
     alloc: Global,
@@ -194,7 +194,7 @@ fn write_tuple<P: Parts, W: ImageWriter>(
     parts.write_each(alloc, writer)
 }
 
-// The List of the images of the parts and of the others behind them, of which there are so many in all.
+// Returns the List of the images of the parts and then of the others, `len` in all.
 #[inline(always)]
 fn long_tuple_of<P: FrontParts, Q: Parts, E: SerializeError>(
     alloc: Global,
@@ -229,7 +229,7 @@ fn list_of_all<P: FrontParts, Q: Parts>(
     parts.write_before(others, list)?.end()
 }
 
-// Writes the List of the images of the parts and of the others behind them, of which there are so many in all.
+// Writes the List of the images of the parts and then of the others, `len` in all.
 #[inline(always)]
 fn write_long_tuple<P: FrontParts, Q: Parts, W: ImageWriter>(
     alloc: Global,
@@ -247,7 +247,7 @@ fn write_long_tuple<P: FrontParts, Q: Parts, W: ImageWriter>(
     parts.write_each_before(others, alloc, writer)
 }
 
-/// A List of the image.
+/// The image is a List of the image of the one element.
 impl<A: Serialize> Serialize for (A,) {
     ghost image = { λ v. list_of (A.image v.0 ∷ []) };
 
@@ -266,7 +266,7 @@ impl<A: Serialize> Serialize for (A,) {
     }
 }
 
-/// A List of the two images.
+/// The image is a List of the images of the two elements.
 impl<A: Serialize, B: Serialize> Serialize for (A, B) {
     ghost image = { λ v. list_of (A.image v.0 ∷ B.image v.1 ∷ []) };
 
@@ -285,7 +285,7 @@ impl<A: Serialize, B: Serialize> Serialize for (A, B) {
     }
 }
 
-/// A List of the three images.
+/// The image is a List of the images of the three elements.
 impl<A: Serialize, B: Serialize, C: Serialize> Serialize for (A, B, C) {
     ghost image = { λ v. list_of (A.image v.0 ∷ B.image v.1 ∷ C.image v.2 ∷ []) };
 
@@ -304,7 +304,7 @@ impl<A: Serialize, B: Serialize, C: Serialize> Serialize for (A, B, C) {
     }
 }
 
-/// A List of the four images.
+/// The image is a List of the images of the four elements.
 impl<A: Serialize, B: Serialize, C: Serialize, D: Serialize> Serialize for (A, B, C, D) {
     ghost image = { λ v. list_of (A.image v.0 ∷ B.image v.1 ∷ C.image v.2 ∷ D.image v.3 ∷ []) };
 
@@ -328,7 +328,7 @@ impl<A: Serialize, B: Serialize, C: Serialize, D: Serialize> Serialize for (A, B
     }
 }
 
-/// A List of the five images.
+/// The image is a List of the images of the five elements.
 impl<A: Serialize, B: Serialize, C: Serialize, D: Serialize, E: Serialize> Serialize
     for (A, B, C, D, E) {
     ghost image = { λ v. list_of (A.image v.0 ∷ B.image v.1 ∷ C.image v.2 ∷ D.image v.3 ∷ E.image v.4 ∷ []) };
@@ -358,7 +358,7 @@ impl<A: Serialize, B: Serialize, C: Serialize, D: Serialize, E: Serialize> Seria
     }
 }
 
-/// A List of the six images.
+/// The image is a List of the images of the six elements.
 impl<A: Serialize, B: Serialize, C: Serialize, D: Serialize, E: Serialize, F: Serialize> Serialize
     for (A, B, C, D, E, F) {
     ghost image = { λ v. list_of (A.image v.0 ∷ B.image v.1 ∷ C.image v.2 ∷ D.image v.3 ∷ E.image v.4 ∷ F.image v.5 ∷ []) };
@@ -388,7 +388,7 @@ impl<A: Serialize, B: Serialize, C: Serialize, D: Serialize, E: Serialize, F: Se
     }
 }
 
-/// A List of the seven images.
+/// The image is a List of the images of the seven elements.
 impl<
     A: Serialize,
     B: Serialize,
@@ -431,7 +431,7 @@ impl<
     }
 }
 
-/// A List of the eight images.
+/// The image is a List of the images of the eight elements.
 impl<
     A: Serialize,
     B: Serialize,
@@ -481,7 +481,7 @@ impl<
     }
 }
 
-/// A List of the nine images.
+/// The image is a List of the images of the nine elements.
 impl<
     A: Serialize,
     B: Serialize,
@@ -522,7 +522,7 @@ impl<
     }
 }
 
-/// A List of the ten images.
+/// The image is a List of the images of the ten elements.
 impl<
     A: Serialize,
     B: Serialize,

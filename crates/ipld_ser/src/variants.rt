@@ -1,4 +1,4 @@
-//! Writing variants with content.
+//! Builders and calls for variants with content.
 
 ghost use Rattle.std.specs.Prelude.{◌≡◌, ◌++◌, [], ◌∷◌, Some, option_map, IsOk, IfOk, IfErr, OnOk, OnErr, string_bytes};
 ghost use Rattle.ipld_ser.specs.Builders.{reserved, PutsImage, variant_tree};
@@ -18,7 +18,8 @@ use ipld_tree::macros::put;
 use std::alloc::Global;
 use std::collections::BTreeMap;
 
-/// Writes a tuple variant, field by field, from [`Serializer::serialize_tuple_variant`].
+/// A builder that writes a tuple variant field by field. [`Serializer::serialize_tuple_variant`]
+/// creates it.
 #[derive(Drop)]
 pub struct SerializeTupleVariant {
     alloc: Global,
@@ -26,7 +27,8 @@ pub struct SerializeTupleVariant {
     list: SerializeVec,
 }
 
-/// Writes a struct variant, field by field, from [`Serializer::serialize_struct_variant`].
+/// A builder that writes a struct variant field by field. [`Serializer::serialize_struct_variant`]
+/// creates it.
 #[derive(Drop)]
 pub struct SerializeStructVariant {
     alloc: Global,
@@ -35,11 +37,11 @@ pub struct SerializeStructVariant {
 }
 
 impl Serializer {
-    /// A variant of one value: a Map of the variant's name to the image of the value.
+    /// Writes a variant of one value as a Map of the variant's name to the image of the value.
     ///
     /// # Errors
     ///
-    /// That of the value, or [`SerdeError::Memory`].
+    /// The error of the value, or [`SerdeError::Memory`] if an allocation fails.
     #[inline(always)]
     pub fn serialize_newtype_variant<T: Serialize>(
         self,
@@ -59,12 +61,14 @@ impl Serializer {
         map_of_one(alloc, name, content)
     }
 
-    /// A Map of the variant's name to the List of its fields, which follow. `len` is a hint of how many: it reserves as much capacity,
-    /// at most 4,096, and changes nothing else.
+    /// Begins a Map of the variant's name to the List of its fields. The fields follow. `len` is a
+    /// hint of their number. It reserves capacity for this number, at most 4,096, and changes
+    /// nothing else.
     ///
     /// # Errors
     ///
-    /// [`SerdeError::Memory`] where the name or the capacity couldn't be allocated. An empty name and a hint of 0 allocate nothing.
+    /// [`SerdeError::Memory`] if the name or the capacity cannot be allocated. An empty name and a
+    /// hint of 0 do not allocate.
     #[inline(always)]
     pub fn serialize_tuple_variant(
         self,
@@ -89,12 +93,12 @@ impl Serializer {
         })
     }
 
-    /// A Map of the variant's name to the Map of its fields, which follow. `len` is a hint, which changes nothing: the name alone is
-    /// allocated.
+    /// Begins a Map of the variant's name to the Map of its fields. The fields follow. `len` is a
+    /// hint, which changes nothing: only the name is allocated.
     ///
     /// # Errors
     ///
-    /// [`SerdeError::Memory`] where the name couldn't be allocated. An empty name allocates nothing.
+    /// [`SerdeError::Memory`] if the name cannot be allocated. An empty name does not allocate.
     #[inline(always)]
     pub fn serialize_struct_variant(
         self,
@@ -120,11 +124,11 @@ impl Serializer {
 }
 
 impl SerializeTupleVariant {
-    /// Writes the next field. After a rejection the fields are as before.
+    /// Writes the next field. After an error, the fields are as before.
     ///
     /// # Errors
     ///
-    /// That of the field, or [`SerdeError::Memory`].
+    /// The error of the field, or [`SerdeError::Memory`] if an allocation fails.
     #[inline(always)]
     pub fn serialize_field<T: Serialize>(&mut self, value: &T) -> Result<(), SerdeError>
         ensures ok { OnOk result (option_map (λ t. variant_fed self.old ++ t ∷ [])
@@ -137,11 +141,11 @@ impl SerializeTupleVariant {
         self.list.serialize_element(value)
     }
 
-    /// The Map of the variant's name to the List of its fields.
+    /// Returns the Map of the variant's name to the List of its fields.
     ///
     /// # Errors
     ///
-    /// [`SerdeError::Memory`] alone.
+    /// Only [`SerdeError::Memory`], if an allocation fails.
     #[inline(always)]
     pub fn end(self) -> Result<Ipld, SerdeError>
         ensures ok { IfOk result (λ t. tree_of t ≡ variant_tree (tuple_name self)
@@ -154,11 +158,12 @@ impl SerializeTupleVariant {
 }
 
 impl SerializeStructVariant {
-    /// Writes the next field under its name, over the value that an equal name had. After a rejection the fields are as before.
+    /// Writes the next field under its name. It replaces the value of an equal name. After an
+    /// error, the fields are as before.
     ///
     /// # Errors
     ///
-    /// That of the value, or [`SerdeError::Memory`].
+    /// The error of the value, or [`SerdeError::Memory`] if an allocation fails.
     #[inline(always)]
     pub fn serialize_field<T: Serialize>(&mut self, key: &str, value: &T) -> Result<(), SerdeError>
         ensures ok { OnOk result (PutsImage key.now (T.image value.now) (variant_filed self.old)
@@ -171,11 +176,11 @@ impl SerializeStructVariant {
         self.map.serialize_field(key, value)
     }
 
-    /// The Map of the variant's name to the Map of its fields.
+    /// Returns the Map of the variant's name to the Map of its fields.
     ///
     /// # Errors
     ///
-    /// [`SerdeError::Memory`] alone.
+    /// Only [`SerdeError::Memory`], if an allocation fails.
     #[inline(always)]
     pub fn end(self) -> Result<Ipld, SerdeError>
         ensures ok { IfOk result (λ t. tree_of t ≡ variant_tree (struct_name self)
@@ -187,7 +192,7 @@ impl SerializeStructVariant {
     }
 }
 
-// The Map of one name to its content.
+// Returns the Map of one name to its content.
 fn map_of_one(alloc: Global, name: String, content: Ipld) -> Result<Ipld, SerdeError>
     ensures ok { IfOk result (λ t. tree_of t ≡ variant_tree (string_bytes name) (tree_of content)) }
     ensures err { IfErr result (λ e. e ≡ SerdeError.Memory) }

@@ -1,5 +1,5 @@
--- What stands in a data item at a path (IPLD data model, pathing): a key of a map or an index of a list for each segment, looked up one
--- after the other.
+-- The data item at a path in a data item (IPLD data model, pathing). Every segment is a key of a
+-- map or an index of a list, looked up one after the other.
 use Rattle.std.specs.Prelude.{◌≡◌, ℕ, zero, suc, List, [], ◌∷◌, Option, Some, None, Result, Ok, Err, if◌then◌else◌}
 use Rattle.std.specs.Borrow.{Bor}
 use Rattle.std.specs.Str.{bytes_eq}
@@ -8,7 +8,9 @@ use Rattle.ipld_show.specs.DataItem.{DataItem, list, map, DataItems, no_items, i
 use Rattle.ipld_show.specs.declared.error.ShowError.{ShowError}
 use Rattle.ipld_show.specs.declared.error.ShowError.TheVariants.{NoSegment, NotAContainer}
 
--- an item; or the number of the first segment that is no key and no index, or of the first behind what is neither a list nor a map
+-- The result of a path: the item at it, or the number of a segment. `no_segment`: the first segment
+-- that is neither a key nor an index there. `not_a_container`: the first segment after a value that
+-- is neither a list nor a map.
 pub data AtPath : Type 0 where
   found : DataItem → AtPath
   no_segment : ℕ → AtPath
@@ -19,7 +21,7 @@ item_at n no_items = None
 item_at zero (item d ds) = Some d
 item_at (suc n) (item d ds) = item_at n ds
 
--- at the number that a segment means, if it means one
+-- the item at this index, or nothing without an index or without an item at it
 abbrev pub item_numbered : Option ℕ → DataItems → Option DataItem
 item_numbered None ds = None
 item_numbered (Some n) ds = item_at n ds
@@ -32,7 +34,7 @@ abbrev pub if_found : ℕ → Option DataItem → AtPath
 if_found number None = no_segment number
 if_found number (Some d) = found d
 
--- at a segment, the one of this number
+-- the item at a segment in an item, or the error with the number of the segment
 abbrev pub at_segment : ℕ → List ℕ → DataItem → AtPath
 at_segment number segment (list ds) = if_found number (item_numbered (number_of segment) ds)
 at_segment number segment (map es) = if_found number (value_under segment es)
@@ -43,15 +45,16 @@ then_at next (found d) = next d
 then_at next (no_segment number) = no_segment number
 then_at next (not_a_container number) = not_a_container number
 
--- The item after these segments, of which `before` came before; after none it is the item itself.
--- Otherwise it is the number of the first segment that is neither a key nor an index, or of the
--- first one after a value that is neither a list nor a map (IPLD data model, pathing).
+-- The item at the end of these segments, which come after `before` others. Without segments it is
+-- the item itself. If the path leads to nothing, it is the number of the first segment that leads
+-- nowhere (IPLD data model, pathing). That segment is neither a key nor an index there, or it is
+-- after a value that is neither a list nor a map.
 abbrev pub at_segments : ℕ → List (List ℕ) → DataItem → AtPath
 at_segments before [] d = found d
 at_segments before (s ∷ ss) d = then_at (at_segments (suc before) ss) (at_segment (suc before) s d)
 
--- True if the bytes that are returned begin with the item that is found, or the error has the
--- number of the segment that leads to nothing.
+-- True if the returned bytes begin with the item that is found, or the error has the number of the
+-- segment that leads to nothing.
 abbrev pub LeadsTo : AtPath → Result (Bor (List ℕ)) ShowError → Type 0
 LeadsTo (found d) (Ok value) = (rest : List ℕ) × BeginsWithItem d value.now rest
 LeadsTo (no_segment number) (Err error) = error ≡ NoSegment number

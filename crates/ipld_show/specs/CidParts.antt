@@ -1,4 +1,4 @@
--- The parts of a CID as text, a line each.
+-- The parts of a CID as text, one per line.
 use Rattle.std.specs.Prelude.{◌≡◌, ◌⊎◌, ℕ, false, List, [], ◌++◌, Option, Some, None, codes}
 use Rattle.std.specs.Fmt.{digits}
 use Rattle.ipld_cid.specs.Cid.{Link}
@@ -12,11 +12,11 @@ use Rattle.ipld_block.specs.Codes.{codec_name_of}
 use Rattle.ipld_block.specs.Texts.{usual_text}
 use Rattle.ipld_show.specs.Scalars.{hex_text}
 
--- a label, a text and a line feed
+-- a line: a label, a text and a line feed
 abbrev pub line : List ℕ → List ℕ → List ℕ
 line label text = label ++ (text ++ codes "\n")
 
--- a code in hexadecimal digits, in brackets behind its name where it has one
+-- the text of a code: its hexadecimal digits, or its name followed by the digits in brackets
 abbrev pub code_text : Option (List ℕ) → ℕ → List ℕ
 code_text (Some name) code = name ++ (codes " (0x" ++ (digits 16 false code ++ codes ")"))
 code_text None code = codes "0x" ++ digits 16 false code
@@ -25,7 +25,8 @@ abbrev pub version_text : Version → List ℕ
 version_text V0 = codes "0"
 version_text V1 = codes "1"
 
--- the text, the version, the codec, the hash function, behind a name where one is given, the digest and the bytes
+-- the lines of the text, the version, the codec, the hash function, the digest and the bytes of a
+-- CID, with the name of the hash function if `hash` is given
 abbrev pub part_lines : Option (List ℕ) → Link → List ℕ
 part_lines hash cid =
     line (codes "cid         ") (usual_text cid)
@@ -35,11 +36,12 @@ part_lines hash cid =
     ++ (line (codes "digest      ") (hex_text cid.digest)
     ++ line (codes "bytes       ") (hex_text (bytes_of cid))))))
 
--- the text in a base, which a CID of version 0 has in base58 alone
+-- True if `t` is the line of the CID's text in the base, or is empty for a CID of version 0 in a
+-- base other than base58.
 abbrev pub IsBaseLine : Base → List ℕ → Link → List ℕ → Type 0
 IsBaseLine base label cid t = ((text : List ℕ) × IsTextIn base cid text × (t ≡ line label text)) ⊎ ((t ≡ []) × (cid.version ≡ V0) × (base ≡ Base58Btc → ⊥))
 
--- the text in each base
+-- True if `t` is the lines of the CID's text in all the bases, in this order.
 pub record AreBaseLines (cid : Link) (t : List ℕ) : Type 0 where
   pub base16 : List ℕ
   pub base32 : List ℕ
@@ -55,7 +57,8 @@ pub record AreBaseLines (cid : Link) (t : List ℕ) : Type 0 where
   pub is_base64url : IsBaseLine Base64Url (codes "base64url   ") cid base64url
   pub all : t ≡ base16 ++ (base32 ++ (base32upper ++ (base36 ++ (base58 ++ base64url))))
 
--- both, one after the other
+-- True if `t` is the lines of the CID's parts, with any name of the hash function or without one,
+-- followed by those of its text in the bases.
 pub record AreCidParts (cid : Link) (t : List ℕ) : Type 0 where
   pub hash : Option (List ℕ)
   pub bases : List ℕ

@@ -1,5 +1,5 @@
--- Data items of DAG-CBOR (RFC 8949, section 3, and the DAG-CBOR specification), floats too, and the bytes that encode them. What a map holds
--- stands in the order of the bytes.
+-- Data items of DAG-CBOR with floats, and the bytes that encode them (RFC 8949, section 3, and the
+-- DAG-CBOR specification). The entries of a map are in the order of the bytes.
 use Rattle.std.specs.Prelude.{◌≡◌, ℕ, ℤ, pos, negsuc, suc, ◌^◌, ◌<◌, Bool, true, false, List, [], ◌∷◌, ◌++◌, length, Option, Some, option_map}
 use Rattle.std.specs.Str.{IsUtf8}
 use Rattle.ipld_cid.specs.Cid.{Link}
@@ -13,9 +13,9 @@ use Rattle.dag_cbor_format.specs.Floats.{is_finite}
 
 mutual
   -- The data items of DAG-CBOR: null, a Boolean, an integer, a float, a text string, a byte string,
-  -- a link, a list, or a map. A float is its eight bytes, a link is the bytes of its CID and the
-  -- CID, and a map is in the order of its bytes (RFC 8949, section 3; DAG-CBOR specification; IEEE
-  -- 754, binary64).
+  -- a link, a list, or a map. A float has its eight bytes. A link has the bytes of its CID, and the
+  -- CID. The entries of a map are in the order of the bytes (RFC 8949, section 3; DAG-CBOR
+  -- specification; IEEE 754, binary64).
   pub data DataItem : Type 0 where
     null : DataItem
     boolean : Bool → DataItem
@@ -29,12 +29,12 @@ mutual
     list : DataItems → DataItem
     map : DataEntries → DataItem
 
-  -- what a list holds, in order
+  -- the items of a list, in order
   pub data DataItems : Type 0 where
     no_items : DataItems
     item : DataItem → DataItems → DataItems
 
-  -- what a map holds: keys, which are the bytes of strings, each with a value
+  -- the entries of a map: keys, which are the bytes of strings, with their values
   pub data DataEntries : Type 0 where
     no_entries : DataEntries
     entry : List ℕ → DataItem → DataEntries → DataEntries
@@ -47,7 +47,7 @@ abbrev pub entry_count : DataEntries → ℕ
 entry_count no_entries = 0
 entry_count (entry k d es) = suc (entry_count es)
 
--- the bytes of a string, behind their number
+-- the encoding of a string: a head with its length, then its bytes
 abbrev pub string_encoding : List ℕ → List ℕ
 string_encoding s = head Text (length s) ++ s
 
@@ -75,7 +75,7 @@ abbrev mutual
   entries_encoding no_entries = []
   entries_encoding (entry k d es) = string_encoding k ++ (encoding d ++ entries_encoding es)
 
--- ---- which items have one
+-- ---- the items that have an encoding
 
 abbrev pub IsString : List ℕ → Type 0
 IsString s = IsUtf8 s × (length s < 2 ^ 64)
@@ -101,8 +101,8 @@ abbrev mutual
   AreDataEntries no_entries = Unit {0}
   AreDataEntries (entry k d es) = IsString k × IsDataItem d × AreDataEntries es
 
--- True if the bytes begin with the encoding of the item, and `rest` follows it (RFC 8949, section
--- 3).
+-- True if the bytes begin with the encoding of the item, which is a data item of DAG-CBOR, and
+-- `rest` follows it (RFC 8949, section 3).
 pub record BeginsWithItem (d : DataItem) (bytes rest : List ℕ) : Type 0 where
   pub is_item : IsDataItem d
   pub encoded : bytes ≡ encoding d ++ rest
@@ -110,8 +110,8 @@ pub record BeginsWithItem (d : DataItem) (bytes rest : List ℕ) : Type 0 where
 -- ---- the tree of an item
 
 abbrev mutual
-  -- The value of the IPLD data model that the item is, with null for each float, or nothing if a
-  -- key of a map comes twice (IPLD data model).
+  -- The tree of an item, with null for every float, or nothing if a map has a key twice (IPLD data
+  -- model).
   pub tree_of : DataItem → Option Tree
   tree_of null = Some tree.null
   tree_of (boolean b) = Some (tree.boolean b)

@@ -1,4 +1,4 @@
--- What the error prints.
+-- The texts that the error prints.
 use Rattle.std.specs.Prelude.{ℕ, List, ◌++◌, codes, Some, None}
 use Rattle.std.specs.declared.option.Option.{Option}
 use Rattle.std.specs.Fmt.{decimal}
@@ -6,7 +6,8 @@ use Rattle.ipld_block.specs.declared.error.InvalidBlock.{InvalidBlock}
 use Rattle.ipld_show.specs.declared.error.ShowError.{ShowError}
 use Rattle.ipld_show.specs.declared.error.ShowError.TheVariants.{Memory, Write, Invalid, NoSegment, NotAContainer, Reserved, Cid}
 
--- the sentence of an error, where `text` is that of bytes that are no block; of an error of a writer and of a CID it isn't said
+-- the sentence of an error, or nothing for an error of a writer or of a CID; `text` is the sentence
+-- of an invalid block
 abbrev pub sentence_of : (InvalidBlock → Option (List ℕ)) → ShowError → Option (List ℕ)
 sentence_of text Memory = Some (codes "out of memory")
 sentence_of text (Write kind) = None

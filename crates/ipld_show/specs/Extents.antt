@@ -1,14 +1,14 @@
--- How many bytes and how many lists and maps are in each list or map of a data item.
+-- The number of bytes, and of lists and maps, in every list and map of a data item.
 use Rattle.std.specs.Prelude.{ℕ, suc, List, [], ◌∷◌, ◌++◌, length}
 use Rattle.ipld_show.specs.DataItem.{DataItem, list, map, DataItems, no_items, item, DataEntries, no_entries, entry, encoding}
 use Rattle.ipld_show.specs.declared.containers.Extent.{Extent}
 
--- that of a list or a map of so many bytes, before those in it
+-- the extent of a list or a map of `size` bytes, before the extents in it
 abbrev pub extent_before : ℕ → List Extent → List Extent
 extent_before size inner = record { size = size; count = suc (length inner) } ∷ inner
 
 abbrev mutual
-  -- of each list and map in an item, in the order in which they begin
+  -- the extents of the lists and maps in an item, in the order in which they begin
   pub extents : DataItem → List Extent
   extents (list ds) = extent_before (length (encoding (list ds))) (items_extents ds)
   extents (map es) = extent_before (length (encoding (map es))) (entries_extents es)

@@ -1,4 +1,4 @@
--- What the list of lists and maps is to have, as a block is read.
+-- The extents of lists and maps that are still to be listed while a block is read.
 use Rattle.std.specs.Prelude.{◌≡◌, ℕ, ◌-◌, List, [], ◌∷◌, ◌++◌, length, reverse, slice_set}
 use Rattle.ipld_show.specs.DataItem.{DataItem, IsDataItem, encoding, BeginsWithItem}
 use Rattle.ipld_show.specs.Extents.{extents}
@@ -17,11 +17,12 @@ abbrev pub AllItems : List DataItem → Type 0
 AllItems [] = Unit {0}
 AllItems (d ∷ ds) = IsDataItem d × AllItems ds
 
--- with that of a list or a map which ends where so many bytes are left
+-- the listed extents, with that of the open list or map `o`, if it ends with `left` bytes left
 abbrev pub ended : Open → ℕ → List Extent → List Extent
 ended o left containers = slice_set containers o.index (record { size = o.start - left; count = length containers - o.index })
 
--- so many items are to come in a list or a map, keys among them, and then what is outside
+-- True if `rest` begins with the items that are left in an open list or map, keys included, and
+-- `Outside` holds for the bytes after them and the extents listed at its end.
 pub record InOpen (o : Open) (rest : List ℕ) (containers : List Extent) (Outside : List ℕ → List Extent → Type 0) : Type 0 where
   pub items : List DataItem
   pub mid : List ℕ
@@ -30,7 +31,8 @@ pub record InOpen (o : Open) (rest : List ℕ) (containers : List Extent) (Outsi
   pub encoded : rest ≡ encodings items ++ mid
   pub outside : Outside mid (ended o (length mid) (containers ++ all_extents items))
 
--- An item ended here, where so much is listed. With what is to come of what is open, innermost first, all are listed.
+-- True if an item ended at `rest`, and the extents that are listed, with those to come in the open
+-- lists and maps, innermost first, are `all`.
 abbrev pub PendingIn : List Open → List ℕ → List Extent → List Extent → Type 0
 PendingIn [] rest containers all = containers ≡ all
 PendingIn (o ∷ os) rest containers all = InOpen o rest containers (λ mid xs. PendingIn os mid xs all)
@@ -38,14 +40,15 @@ PendingIn (o ∷ os) rest containers all = InOpen o rest containers (λ mid xs. 
 abbrev pub Pending : List Open → List ℕ → List Extent → List Extent → Type 0
 Pending opened rest containers all = PendingIn (reverse opened) rest containers all
 
--- an item is to come, and then the rest
+-- True if `rest` begins with an item, and the rest of the open lists and maps follows it.
 pub record ItemPending (opened : List Open) (rest : List ℕ) (containers all : List Extent) : Type 0 where
   pub next : DataItem
   pub more : List ℕ
   pub begins : BeginsWithItem next rest more
   pub pending : Pending opened more (containers ++ extents next) all
 
--- the same where something is open, and nothing where all has ended
+-- True if `rest` begins with an item of an open list or map, or nothing is open and `all` is
+-- listed.
 abbrev pub Following : List Open → List ℕ → List Extent → List Extent → Type 0
 Following [] rest containers all = containers ≡ all
 Following (o ∷ os) rest containers all = ItemPending (o ∷ os) rest containers all

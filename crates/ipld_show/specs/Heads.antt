@@ -6,7 +6,8 @@ use Rattle.dag_cbor_format.specs.declared.item.ItemHead.{ItemHead}
 use Rattle.dag_cbor_format.specs.declared.item.ItemHead.TheVariants as begin
 use Rattle.ipld_show.specs.DataItem.{DataItem, null, boolean, integer, float, text_string, byte_string, link, list, map, DataItems, DataEntries, item_count, entry_count, items_encoding, entries_encoding}
 
--- this head is that of the item, and what follows the head goes on with what is in the item
+-- True if the head is that of the item, and the bytes after the head begin with the contents of the
+-- item, if it is a list or a map. The last argument is the bytes after them.
 abbrev pub IsHeadOf : ItemHead → DataItem → List ℕ → List ℕ → Type 0
 IsHeadOf begin.Null d rest behind = (d ≡ null) × (rest ≡ behind)
 IsHeadOf (begin.Bool b) d rest behind = (d ≡ boolean b) × (rest ≡ behind)

@@ -1,4 +1,4 @@
-//! Blocks of other codecs as blocks of DAG-CBOR, whose trees they have.
+//! Blocks of other codecs, converted to blocks of DAG-CBOR with the same trees.
 
 ghost use Rattle.std.specs.Prelude.{◌≡◌, ◌+◌, Some, codes, map, pos, option_map, IfOk, IfErr, OnOk};
 ghost use Rattle.dag_cbor_format.specs.Canonical.{canonical, canonical_items};
@@ -18,7 +18,7 @@ use dag_pb::{PbLink, PbNode, read_node};
 use ipld_block::{BlockCodec, CheckError, check};
 use std::alloc::{AllocError, Global};
 
-// Adds the entry of a link's name, where it has one.
+// Adds the entry of a link's name, if it has one.
 fn write_name(block: &mut Vec<u8>, link: &PbLink<'_>) -> Result<(), AllocError>
     ensures { OnOk result (Adds (written_entry (codes "Name") (option_map tree.text
         (parts_of_link link.now).name)) block.old.items block.new.items) }
@@ -33,7 +33,7 @@ fn write_name(block: &mut Vec<u8>, link: &PbLink<'_>) -> Result<(), AllocError>
     }
 }
 
-// Adds the entry of a link's size, where it has one.
+// Adds the entry of a link's size, if it has one.
 fn write_tsize(block: &mut Vec<u8>, link: &PbLink<'_>) -> Result<(), AllocError>
     ensures { OnOk result (Adds (written_entry (codes "Tsize")
         (option_map (λ n. tree.integer (pos n)) link.now.tsize)) block.old.items block.new.items) }
@@ -73,7 +73,7 @@ fn write_pb_links(block: &mut Vec<u8>, links: &[PbLink<'_>]) -> Result<(), Alloc
     Ok(())
 }
 
-// Adds the entry of a node's data, where it has any.
+// Adds the entry of a node's data, if it has any.
 fn write_data(block: &mut Vec<u8>, node: &PbNode<'_>) -> Result<(), AllocError>
     ensures { OnOk result (Adds (written_entry (codes "Data") (option_map tree.bytes
         (parts_of_node node.now).content)) block.old.items block.new.items) }
@@ -101,8 +101,8 @@ fn write_pb_node(block: &mut Vec<u8>, node: &PbNode<'_>) -> Result<(), AllocErro
     Ok(())
 }
 
-// The tree of a block of DAG-PB, as its specification has it: `Data` where there are any, and `Links`, each with `Hash`, and with `Name`
-// and `Tsize` where it has them.
+// Converts a block of DAG-PB to the tree in its specification: `Data` if there are any, and
+// `Links`. Every link has `Hash`, and has `Name` and `Tsize` if they are present.
 pub(crate) fn node_as_cbor(alloc: Global, bytes: &[u8]) -> Result<Vec<u8>, ShowError>
     ensures made { IfOk result (λ block. StandsForNode bytes.now block.items) }
     ensures rejected { IfErr result (IsNoNode bytes.now) }
@@ -121,7 +121,7 @@ pub(crate) fn node_as_cbor(alloc: Global, bytes: &[u8]) -> Result<Vec<u8>, ShowE
     }
 }
 
-// The tree of a block of DAG-JSON, which may have floats, as a canonical block.
+// Converts a block of DAG-JSON, which may have floats, to a canonical block.
 #[tactic(auto, using(crate::proofs::JsonBlocks::stands))]
 pub(crate) fn json_as_cbor(alloc: Global, bytes: &[u8]) -> Result<Vec<u8>, ShowError>
     ensures made { IfOk result (λ block. StandsForJson bytes.now block.items) }
@@ -133,17 +133,17 @@ pub(crate) fn json_as_cbor(alloc: Global, bytes: &[u8]) -> Result<Vec<u8>, ShowE
     };
     let block = match encode_tape(alloc, &tape.entries, &tape.contents) {
         Ok(block) => block,
-        // No entry of the tape of a text is at fault, so an allocation failed.
+        // The tape of a JSON text has no invalid entries, so an allocation failed.
         Err(_) => return Err(ShowError::Memory),
     };
-    // For the proof alone: what is written of a tape is a block.
+    // Only for the proof: the bytes that are written from a tape are a block.
     match check(alloc, BlockCodec::DagCbor, &block) {
         Ok(()) => Ok(block),
         Err(_) => Err(ShowError::Memory),
     }
 }
 
-// Plain bytes, which are their own tree.
+// Converts plain bytes, which are their own tree.
 pub(crate) fn bytes_as_cbor(alloc: Global, bytes: &[u8]) -> Result<Vec<u8>, ShowError>
     ensures made { IfOk result (λ block. canonical (tree.bytes bytes.now) ≡ Some block.items) }
     ensures rejected { IfErr result (λ error. error ≡ ShowError.Memory) }

@@ -18,7 +18,7 @@ use ipld_cid_text::{Base, ToStringError, to_string_of_base};
 use std::alloc::Global;
 use std::io::Write;
 
-// A line of a text in a base.
+// Writes a line with the text of a CID in a base.
 fn write_in_base<W: Write>(
     alloc: Global,
     cid: &Cid,
@@ -37,12 +37,12 @@ fn write_in_base<W: Write>(
             Ok(())
         }
         Err(ToStringError::Memory) => Err(ShowError::Memory),
-        // A CID of version 0 has no text but that in base58.
+        // A CID of version 0 has only a text in base58.
         Err(ToStringError::InvalidCidV0Base) => Ok(()),
     }
 }
 
-// A line of a code, with its name where it has one here.
+// Writes a line with a code, and with its name if it is known here.
 fn write_code<W: Write>(
     label: &[u8],
     name: Option<&'static str>,
@@ -60,7 +60,7 @@ fn write_code<W: Write>(
     Ok(())
 }
 
-// A line of bytes in hexadecimal digits.
+// Writes a line with bytes in hexadecimal digits.
 fn write_hex_line<W: Write>(label: &[u8], bytes: &[u8], writer: &mut W) -> Result<(), ShowError>
     ensures { MatchResult result (λ _. Appends (W.contents writer.old) (W.contents writer.new)
         (line label.now (hex_text bytes.now))) IsOutputError }
@@ -71,7 +71,7 @@ fn write_hex_line<W: Write>(label: &[u8], bytes: &[u8], writer: &mut W) -> Resul
     Ok(())
 }
 
-// The line of a CID's text.
+// Writes the line of a CID's text.
 fn write_text<W: Write>(alloc: Global, cid: &Cid, writer: &mut W) -> Result<(), ShowError>
     ensures { MatchResult result (λ _. Appends (W.contents writer.old) (W.contents writer.new)
         (line (codes "cid         ") (usual_text (link_of cid.now)))) IsOutputError }
@@ -93,7 +93,7 @@ fn write_version<W: Write>(version: Version, writer: &mut W) -> Result<(), ShowE
     Ok(())
 }
 
-// The lines of a CID's parts.
+// Writes the lines of a CID's parts.
 fn write_parts<W: Write>(alloc: Global, cid: &Cid, writer: &mut W) -> Result<(), ShowError>
     ensures { MatchResult result (λ _. (hash : Option (List ℕ)) × Appends (W.contents writer.old)
         (W.contents writer.new) (part_lines hash (link_of cid.now))) IsOutputError }
@@ -110,7 +110,7 @@ fn write_parts<W: Write>(alloc: Global, cid: &Cid, writer: &mut W) -> Result<(),
     Ok(())
 }
 
-// The lines of a CID's text in each base.
+// Writes the lines of a CID's text in every base.
 fn write_bases<W: Write>(alloc: Global, cid: &Cid, writer: &mut W) -> Result<(), ShowError>
     ensures { MatchResult result (λ _. (t : List ℕ) × AreBaseLines (link_of cid.now) t
         × Appends (W.contents writer.old) (W.contents writer.new) t) IsOutputError }
@@ -124,11 +124,13 @@ fn write_bases<W: Write>(alloc: Global, cid: &Cid, writer: &mut W) -> Result<(),
     Ok(())
 }
 
-/// Writes the parts of a CID, a line each: its text, version, codec, hash function, digest and bytes, and then its text in each base.
+/// Writes the parts of a CID, one per line: its text, version, codec, hash function, digest and
+/// bytes, and then its text in every base.
 ///
 /// # Errors
 ///
-/// `Write` where the writer failed, `Memory` where an allocation did.
+/// - `Write` if the writer fails.
+/// - `Memory` if an allocation fails.
 pub fn write_cid_parts<W: Write>(alloc: Global, cid: &Cid, writer: &mut W) -> Result<(), ShowError>
     ensures { MatchResult result (λ _. (t : List ℕ) × AreCidParts (link_of cid.now) t
         × Appends (W.contents writer.old) (W.contents writer.new) t) IsOutputError }
@@ -138,11 +140,14 @@ pub fn write_cid_parts<W: Write>(alloc: Global, cid: &Cid, writer: &mut W) -> Re
     Ok(())
 }
 
-/// Writes the text of a block's CID on a line: version 1, with the codec and the SHA2-256 digest of the bytes.
+/// Writes the text of a block's CID on a line. The CID has version 1, the codec, and the SHA2-256
+/// digest of the bytes.
 ///
 /// # Errors
 ///
-/// `Invalid` where the bytes are no block of this codec; nothing was written then. `Write` where the writer failed.
+/// - `Invalid` if the bytes are not a block of this codec. Nothing was written then.
+/// - `Write` if the writer fails.
+/// - `Memory` if an allocation fails.
 #[tactic(auto, using(crate::proofs::BlockItems::cid_failed))]
 pub fn write_cid_of_block<W: Write>(
     alloc: Global,

@@ -1,4 +1,4 @@
-//! What holds of blocks that are shown.
+//! The laws of blocks that are printed.
 
 ghost use Rattle.std.specs.Prelude.{◌≡◌, ℕ, true, List, [], Some, None};
 ghost use Rattle.ipld_tree.specs.Tree.{Tree};
@@ -6,11 +6,11 @@ ghost use Rattle.dag_cbor_format.specs.Trace.{error_in};
 ghost use Rattle.dag_cbor_format.specs.WithFloats.{EncodesTreeIn};
 ghost use Rattle.ipld_show.specs.DataItem.{DataItem, BeginsWithItem, tree_of};
 
-/// What holds of blocks of DAG-CBOR. A call does nothing.
+/// States two laws of blocks of DAG-CBOR. A call does nothing.
 ///
-/// - A valid block, floats of which are read, encodes a data item, and the tree of the item is that of the block, with null for each float: so no
-///   key of a map comes twice.
-/// - Bytes begin with one data item alone.
+/// - A valid block, with floats allowed, encodes a data item. The tree of the item is that of the
+///   block, with null for every float. So no key of a map occurs twice.
+/// - Bytes begin with at most one data item.
 pub fn item_law()
     ensures of_block { (block : List ℕ) → error_in true block ≡ None
         → (d : DataItem) × (t : Tree) × BeginsWithItem d block [] × (tree_of d ≡ Some t)

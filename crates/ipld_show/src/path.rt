@@ -1,4 +1,4 @@
-//! What stands in a block at a path.
+//! The value at a path in a block.
 
 ghost use Rattle.std.specs.Prelude.{◌≡◌, ℕ, ◌+◌, ◌^◌, ◌<◌, ◌≤◌, List, [], ◌∷◌, ◌++◌, length, Option, option_map, Ok, IfOk, MatchResult};
 ghost use Rattle.ipld_cid.specs.LinkOf.{link_of};
@@ -13,7 +13,7 @@ use crate::error::{ShowError, unchecked_error};
 use dag_cbor_format::item::{ItemHead, read_item, read_key};
 use ipld_cid::Cid;
 
-// How many items are in a list or a map, the keys counted too.
+// Returns the number of items in a list or a map, including keys.
 #[inline(always)]
 pub(crate) fn items_in(head: &ItemHead<'_>) -> u64
     ensures { result ≡ items_within head.now }
@@ -25,7 +25,7 @@ pub(crate) fn items_in(head: &ItemHead<'_>) -> u64
     }
 }
 
-// How many bytes the item has that the bytes begin with.
+// Returns the number of bytes of the item at the front.
 pub(crate) fn item_size(bytes: &[u8]) -> Result<usize, ShowError>
     ensures within { IfOk result (λ size. size ≤ length bytes.now) }
     ensures exact { (d : DataItem) (behind : List ℕ) → BeginsWithItem d bytes.now behind
@@ -44,7 +44,7 @@ pub(crate) fn item_size(bytes: &[u8]) -> Result<usize, ShowError>
     Ok(size - rest.len())
 }
 
-// The value of the entry with this key, of so many entries.
+// Finds the value with this key in the next `entries` entries.
 fn entry_at<'a>(entries: u64, bytes: &'a [u8], name: &str) -> Result<Option<&'a [u8]>, ShowError>
     ensures { (es : DataEntries) (behind : List ℕ) → AreDataEntries es → entries ≡ entry_count es
         → bytes.now ≡ entries_encoding es ++ behind → Finds (value_under name.now es) result }
@@ -71,7 +71,7 @@ fn parse_index(segment: &str) -> Option<u64>
     segment.parse::<u64>().ok()
 }
 
-// The item at the index that a segment means, of so many items.
+// Finds the item with the index in a segment, in the next `items` items.
 fn item_at<'a>(items: u64, bytes: &'a [u8], segment: &str) -> Result<Option<&'a [u8]>, ShowError>
     ensures { (ds : DataItems) (behind : List ℕ) → AreDataItems ds → items ≡ item_count ds
         → bytes.now ≡ items_encoding ds ++ behind
@@ -93,7 +93,7 @@ fn item_at<'a>(items: u64, bytes: &'a [u8], segment: &str) -> Result<Option<&'a 
     Ok(Some(rest))
 }
 
-// What was found at a segment, the one of this number.
+// Returns the value that was found at the segment with this number, or `NoSegment`.
 fn found_or_error(
     found: Result<Option<&[u8]>, ShowError>,
     number: usize,
@@ -107,7 +107,7 @@ fn found_or_error(
     }
 }
 
-// What a segment, the one of this number, leads to from the item that the bytes begin with.
+// Returns the value to which the segment with this number leads from the item at the front.
 fn value_of_segment<'a>(
     value: &'a [u8],
     segment: &str,
@@ -126,7 +126,8 @@ fn value_of_segment<'a>(
     }
 }
 
-// What a part of a path leads to behind so many segments, and how many segments were passed then. An empty part is none.
+// Returns the value to which a part of a path leads, and the number of segments up to it. `before`
+// segments come before the part. An empty part isn't a segment.
 fn enter_segment<'a>(
     value: &'a [u8],
     part: &str,
@@ -147,18 +148,21 @@ fn enter_segment<'a>(
     }
 }
 
-/// What stands at a path in a block that is known to be valid: the bytes from where that value begins, to the end of the block.
+/// Returns the value at a path in a block that is known to be valid: the bytes from the beginning
+/// of the value to the end of the block.
 ///
-/// Segments are separated by `/`, and empty ones are skipped, as by [`Ipld::at_path`](ipld_tree::Ipld::at_path): `/a//b/` is `a/b`, and the
-/// empty path is the block itself. In a map a segment is a key, and in a list an index, counted from 0. No path leads through an empty key
-/// or one that has a slash, and links are not followed.
+/// Segments are separated by `/`. Empty segments are skipped, as by
+/// [`Ipld::at_path`](ipld_tree::Ipld::at_path): `/a//b/` is `a/b`, and the empty path leads to the
+/// block itself. In a map a segment is a key, and in a list an index, counted from 0. A path can't
+/// lead through an empty key or one that has a slash. Links are not followed.
 ///
-/// It reads the block once, by loops, and doesn't allocate.
+/// It reads the block once, in loops, and doesn't allocate.
 ///
 /// # Errors
 ///
-/// `NoSegment` and `NotAContainer` with the number of the first segment that leads to nothing. Of bytes that are no valid block it may be
-/// `Invalid`.
+/// - `NoSegment` or `NotAContainer` if the path leads to nothing, with the number of the first
+///   segment that does.
+/// - Possibly `Invalid` if the bytes are not a valid block.
 pub fn value_at<'a>(block: &'a [u8], path: &str) -> Result<&'a [u8], ShowError>
     ensures { (d : DataItem) (behind : List ℕ) → BeginsWithItem d block.now behind
         → LeadsTo (at_segments 0 (segments path.now) d) result }
@@ -182,16 +186,16 @@ pub fn value_at<'a>(block: &'a [u8], path: &str) -> Result<&'a [u8], ShowError>
     }
 }
 
-/// A link on a path, which goes on behind it.
+/// A link on a path that continues after it.
 #[derive(Clone, Copy, Debug, PartialEq, Eq)]
 pub struct LinkOnPath {
     /// The link.
     pub cid: Cid,
-    /// How many segments of the path lead to it.
+    /// The number of segments of the path that lead to it.
     pub segments: usize,
 }
 
-// The link that the value at the front is, if it is one.
+// Returns the link at the front, if the value there is one.
 fn link_of_value(value: &[u8]) -> Result<Option<Cid>, ShowError>
     ensures { (d : DataItem) (behind : List ℕ) → BeginsWithItem d value.now behind
         → MatchResult result (λ cid. option_map link_of cid ≡ link_in d) (λ _. ⊥) }
@@ -208,7 +212,8 @@ fn link_of_value(value: &[u8]) -> Result<Option<Cid>, ShowError>
     }
 }
 
-// The link that a path goes on behind, where it led to the value with so many segments, and to nothing with one more.
+// Returns the link `value`, to which `segments` segments of a path lead. If it isn't a link,
+// returns the error of the next segment.
 fn link_or(value: &[u8], segments: usize, error: ShowError) -> Result<Option<LinkOnPath>, ShowError>
     ensures { (d : DataItem) (behind : List ℕ) → BeginsWithItem d value.now behind
         → IsLinkOr (link_in d) segments error result }
@@ -220,7 +225,7 @@ fn link_or(value: &[u8], segments: usize, error: ShowError) -> Result<Option<Lin
     }
 }
 
-// The first link that a path leads through in a block that is known to be valid.
+// Returns the first link that a path leads through in a block that is known to be valid.
 pub(crate) fn link_before_end(block: &[u8], path: &str) -> Result<Option<LinkOnPath>, ShowError>
     ensures { (d : DataItem) (behind : List ℕ) → BeginsWithItem d block.now behind
         → IsLinkOnPath d path.now result }

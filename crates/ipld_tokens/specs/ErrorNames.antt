@@ -1,4 +1,5 @@
--- What is printed of the errors of readers of tokens: the variant's name, or with `#` a sentence.
+-- This file defines the printed form of the errors of token readers: the name of the variant, or a
+-- sentence if the format has `#`.
 use Rattle.std.specs.Prelude.{ℕ, Bool, List, codes, Some, None, if◌then◌else◌}
 use Rattle.std.specs.declared.option.Option.{Option}
 use Rattle.ipld_tokens.specs.declared.error.TokenError.{TokenError}
@@ -15,13 +16,13 @@ name_of (Cid error) = codes "Cid"
 name_of End = codes "End"
 name_of DuplicateKey = codes "DuplicateKey"
 
--- the name of an error within limits
+-- the name of an error of a reader with limits
 abbrev pub limit_name_of : {F : Type 0} → ReadError F → List ℕ
 limit_name_of limited.TooDeep = codes "TooDeep"
 limit_name_of limited.TooMany = codes "TooMany"
 limit_name_of (limited.Token error) = name_of error
 
--- what is wrong, in a sentence; that of bytes that are no CID isn't said
+-- the sentence that describes an error, which is not specified for bytes that are not a CID
 abbrev pub sentence_of : {F : Type 0} → TokenError F → Option (List ℕ)
 sentence_of Memory = Some (codes "out of memory")
 sentence_of (Source fault) = Some (codes "the source of tokens failed")
@@ -30,16 +31,17 @@ sentence_of (Cid error) = None
 sentence_of End = Some (codes "the tokens end before the item does")
 sentence_of DuplicateKey = Some (codes "a key stands in a map for the second time")
 
--- the same of an error within limits
+-- the sentence that describes an error of a reader with limits, with the same exception
 abbrev pub limit_sentence_of : {F : Type 0} → ReadError F → Option (List ℕ)
 limit_sentence_of limited.TooDeep = Some (codes "lists and maps nest deeper than the limit")
 limit_sentence_of limited.TooMany = Some (codes "there are more values than the limit")
 limit_sentence_of (limited.Token error) = sentence_of error
 
--- what is printed: the sentence where `#` is among the options, as in `{error:#}`, and else the name
+-- the printed form of an error: its sentence if the format has `#` (`{error:#}`), otherwise its
+-- name
 abbrev pub printed : {F : Type 0} → Bool → TokenError F → Option (List ℕ)
 printed alternate error = if alternate then sentence_of error else Some (name_of error)
 
--- the same of an error within limits
+-- the printed form of an error of a reader with limits, in the same way
 abbrev pub limit_printed : {F : Type 0} → Bool → ReadError F → Option (List ℕ)
 limit_printed alternate error = if alternate then limit_sentence_of error else Some (limit_name_of error)

@@ -1,4 +1,5 @@
--- Extracting links as a machine: which state a token leads to.
+-- This file defines the state machine that extracts links: the state after a token, and the tokens
+-- that need memory.
 use Rattle.std.specs.Prelude.{◌≡◌, ◌≤◌, ◌^◌, ◌⊎◌, ℕ, Bool, true, false, List, [], ◌∷◌, ◌++◌, Option, Some, None, IsSome, Err}
 use Rattle.ipld_cid.specs.declared.error.CidError.{CidError}
 use Rattle.ipld_cid.specs.Cid.{Link}
@@ -10,8 +11,9 @@ use Rattle.ipld_tokens.specs.declared.extractor.Frame.{Frame}
 use Rattle.ipld_tokens.specs.declared.extractor.Frame.TheVariants.{Whole, Key, InnerKey, Value}
 use Rattle.ipld_tokens.specs.declared.extractor.Frame.TheVariants as frame
 
--- The states of the machine that the extractor follows, private to the proofs of the contracts.
--- What is open is a frame and those outside it, innermost first. Links are kept if no key is open.
+-- the states of the machine that the extractor follows, private to the proofs of the contracts. The
+-- open containers are a frame and the frames outside it, innermost first. Links are kept if no key
+-- is open.
 pub data ExtractState : Type 0 where
   -- an item may come, or the end of a list or a map unless an item must come
   open_at : Bool → Bool → Frame → List Frame → List Link → ExtractState
@@ -25,12 +27,12 @@ abbrev pub kept : Bool → List Link → List Link
 kept true links = links
 kept false links = []
 
--- the frame of a key, in a map whose own links are kept or not
+-- the frame of a key: `Key` in a map whose own links are kept, otherwise `InnerKey`
 abbrev pub key_frame : Bool → Frame
 key_frame true = Key
 key_frame false = InnerKey
 
--- an item is complete in a frame
+-- the state after an item is complete in a frame
 abbrev pub closed : Bool → Frame → List Frame → List Link → ExtractState
 closed keeps Whole outer out = done out
 closed keeps frame.List outer out = open_at false keeps frame.List outer out
@@ -38,7 +40,7 @@ closed keeps Key outer out = open_at false true Value outer out
 closed keeps InnerKey outer out = open_at false false Value outer out
 closed keeps Value outer out = open_at false false (key_frame keeps) outer out
 
--- a list or a map is complete inside these frames
+-- the state after a list or a map is complete inside these frames
 abbrev pub ended : Bool → List Frame → List Link → ExtractState
 ended keeps [] out = rejected
 ended keeps (f ∷ fs) out = closed keeps f fs out
@@ -57,17 +59,17 @@ map_ended keeps Key outer out = ended true outer out
 map_ended keeps InnerKey outer out = ended false outer out
 map_ended keeps Value outer out = rejected
 
--- an end may come unless an item must
+-- the state after an end, which is rejected if an item must come
 abbrev pub unless_must : Bool → ExtractState → ExtractState
 unless_must true s = rejected
 unless_must false s = s
 
--- the bytes of a link
+-- the state after the bytes of a link, which are rejected if they do not encode a CID
 abbrev pub link_read : Option Link → Bool → Frame → List Frame → List Link → ExtractState
 link_read None keeps f outer out = rejected
 link_read (Some cid) keeps f outer out = closed keeps f outer (out ++ kept keeps (cid ∷ []))
 
--- a token where an item may come
+-- the state after a token, if an item may come
 abbrev pub item_step : Bool → Bool → Frame → List Frame → List Link → TokenModel → ExtractState
 item_step must keeps f outer out (atom a) = closed keeps f outer out
 item_step must keeps f outer out (bytes b) = closed keeps f outer out
@@ -79,12 +81,12 @@ item_step must keeps f outer out seq_end = unless_must must (list_ended keeps f 
 item_step must keeps f outer out map = open_at false false (key_frame keeps) (f ∷ outer) out
 item_step must keeps f outer out map_end = unless_must must (map_ended keeps f outer out)
 
--- a token where the bytes of a link must come
+-- the state after a token, if the bytes of a link must come
 abbrev pub link_step : ℕ → Bool → Frame → List Frame → List Link → TokenModel → ExtractState
 link_step S keeps f outer out (bytes b) = link_read (read_link S b) keeps f outer out
 link_step S keeps f outer out _ = rejected
 
--- The state of the machine after a token.
+-- the state of the machine after a token
 abbrev pub step : ℕ → ExtractState → TokenModel → ExtractState
 step S (open_at must keeps f outer out) t = item_step must keeps f outer out t
 step S (marked keeps f outer out) t = link_step S keeps f outer out t
@@ -94,11 +96,11 @@ step S rejected t = rejected
 abbrev pub start : ExtractState
 start = open_at true true Whole [] []
 
--- The state of the machine after some tokens.
+-- the state of the machine after some tokens
 abbrev pub run : ℕ → ExtractState → List TokenModel → ExtractState
 run S = consuming.run (step S)
 
--- neither complete nor rejected
+-- True if the state is neither complete nor rejected.
 abbrev pub IsGoing : ExtractState → Type 0
 IsGoing (open_at must keeps f outer out) = Unit {0}
 IsGoing (marked keeps f outer out) = Unit {0}
@@ -111,27 +113,28 @@ is_done (marked keeps f outer out) = false
 is_done (done out) = true
 is_done rejected = false
 
--- the token is no bytes after a link mark
+-- True if the token is not the bytes of a link after its mark.
 abbrev pub IsElsewhere : ExtractState → TokenModel → Type 0
 IsElsewhere (marked keeps f outer out) (bytes b) = ⊥
 IsElsewhere _ _ = Unit {0}
 
--- the token is bytes after a link mark, and they are rejected for this
+-- True if the token is the bytes of a link after its mark, and reading them fails with `cid_error`.
 abbrev pub IsLinkError : ℕ → ExtractState → TokenModel → CidError → Type 0
 IsLinkError S (marked keeps f outer out) (bytes b) cid_error = read_cid S b ≡ Err cid_error
 IsLinkError S _ _ cid_error = ⊥
 
--- the token begins a list or a map
+-- True if the token begins a list or a map.
 abbrev pub Opens : TokenModel → Type 0
 Opens seq = Unit {0}
 Opens map = Unit {0}
 Opens _ = ⊥
 
--- the bytes are a CID that is kept, or a CID of this size fits in no memory
+-- True if the bytes are a CID and links are kept, or `S` is 2^62 or more. A CID of that size does
+-- not fit in memory.
 abbrev pub AddsLink : ℕ → Bool → List ℕ → Type 0
 AddsLink S keeps b = ((keeps ≡ true) × IsSome (read_link S b)) ⊎ (2 ^ 62 ≤ S)
 
--- memory is allocated at the token
+-- True if the call can run out of memory at the token.
 abbrev pub Allocates : ℕ → ExtractState → TokenModel → Type 0
 Allocates S (open_at must keeps f outer out) t = Opens t
 Allocates S (marked keeps f outer out) (bytes b) = AddsLink S keeps b

@@ -1,4 +1,4 @@
--- What extracting links comes to, as the machine says.
+-- This file specifies the result of extracting links in terms of the machine.
 use Rattle.std.specs.Prelude.{◌≡◌, ℕ, List, Result}
 use Rattle.ipld_tokens.specs.Token.{TokenModel}
 use Rattle.ipld_tokens.specs.ConsumerMachine.{Consumes}
@@ -8,10 +8,10 @@ use Rattle.ipld_tokens.specs.ExtractorState.{Rejects}
 use Rattle.ipld_tokens.specs.declared.extract_links.ExtractLinks.{ExtractLinks}
 use Rattle.ipld_tokens.specs.declared.error.TokenError.{TokenError}
 
--- an item is complete, and these are its links
+-- True if an item is complete, and its links are those of `x`.
 abbrev pub HasLinks : {S : ℕ} → ExtractState → ExtractLinks S → Type 0
 HasLinks s x = s ≡ done (links_at x)
 
--- all that are taken
+-- True if a call takes tokens and returns a result as the machine does from its start.
 abbrev pub Extracts : {F : Type 0} (S : ℕ) → List TokenModel → List TokenModel → Result (ExtractLinks S) (TokenError F) → Type 0
 Extracts S = Consumes (step S) IsGoing (Rejects S) HasLinks start

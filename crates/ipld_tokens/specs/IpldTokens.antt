@@ -1,4 +1,5 @@
--- The tokens that a walk of a tree has still to yield, by its cursors, the outermost first.
+-- This file defines the tokens that a walk of a tree has yet to yield, from its cursors (the
+-- outermost first).
 use Rattle.std.specs.Prelude.{◌≡◌, ◌≤◌, ℕ, suc, max, List, [], ◌∷◌, ◌++◌, Option, Some, None, String}
 use Rattle.std.specs.Borrow.{Bor}
 use Rattle.std.specs.declared.alloc.Global.{Global}
@@ -14,14 +15,14 @@ use Rattle.ipld_tokens.specs.declared.tree_tokens.TokenCursor.{TokenCursor}
 use Rattle.ipld_tokens.specs.declared.tree_tokens.TokenCursor.TheVariants.{Itself, Encoding, Items, Members}
 use Rattle.ipld_tokens.specs.declared.tree_tokens.Step.{Step}
 
--- what a list and a map have left
+-- the tokens of the remaining items of a list, or pairs of a map, and of its end
 abbrev pub list_left : List Ipld → List TokenModel
 list_left xs = items_tokens (items_of xs) ++ seq_end ∷ []
 
 abbrev pub map_left : List (String Global × Ipld) → List TokenModel
 map_left es = members_tokens (members_of es) ++ map_end ∷ []
 
--- the value that comes first
+-- the tokens of the value that comes next, if there is one
 abbrev pub value_left : Option (Bor Ipld) → List TokenModel
 value_left None = []
 value_left (Some x) = tokens_of_tree (tree_of x.now)
@@ -32,7 +33,7 @@ left_of (Encoding cid) = bytes (bytes_of (link_of cid.now)) ∷ []
 left_of (Items xs) = list_left (iter_rest xs)
 left_of (Members value es) = value_left value ++ map_left es
 
--- the innermost cursor is asked first
+-- the tokens that the cursors have yet to yield, those of the innermost (the last) cursor first
 abbrev pub all_left : List TokenCursor → List TokenModel
 all_left [] = []
 all_left (c ∷ cs) = all_left cs ++ left_of c
@@ -41,7 +42,7 @@ abbrev pub cursors_in : Option TokenCursor → List TokenCursor
 cursors_in None = []
 cursors_in (Some c) = c ∷ []
 
--- how many cursors come at most from a value
+-- an upper bound on the cursors that come from a value at once: one more than its nesting
 abbrev pub deep : Ipld → ℕ
 deep x = suc (nest (tree_of x))
 
@@ -57,25 +58,26 @@ abbrev pub deepest_first : Option (Bor Ipld) → ℕ
 deepest_first None = 0
 deepest_first (Some x) = deep x.now
 
--- how many cursors come at most from one, with itself
+-- an upper bound on the cursors that come from one cursor at once, including itself
 abbrev pub depth : TokenCursor → ℕ
 depth (Itself x) = deep x.now
 depth (Encoding cid) = 1
 depth (Items xs) = suc (deepest (iter_rest xs))
 depth (Members value es) = suc (max (deepest_first value) (deepest_value es))
 
--- how many cursors are held at most from here on
+-- an upper bound on the cursors that are held at once from now on
 abbrev pub slots : List TokenCursor → ℕ
 slots [] = 0
 slots (c ∷ cs) = max (depth c) (suc (slots cs))
 
--- what a cursor yields: its first token, what is left of it, and what opens in it
+-- True if `s` has the first token of `c`, and its cursors yield the other tokens. They need at most
+-- `depth c` slots.
 abbrev pub StepOf : TokenCursor → Step → Type 0
 StepOf c s =
     (left_of c ≡ erase s.token ∷ all_left (cursors_in s.rest ++ cursors_in s.inner))
     × (slots (cursors_in s.rest ++ cursors_in s.inner) ≤ depth c)
 
--- only the bytes of a link are left
+-- True if the cursor has only the bytes of a link left.
 abbrev pub HasLinkBytes : TokenCursor → Type 0
 HasLinkBytes (Encoding cid) = Unit {0}
 HasLinkBytes c = ⊥

@@ -1,13 +1,14 @@
--- Items of tokens (the kinds of serde's data model, with links): what a whole value is, its tokens, and its links.
+-- This file defines items, which are whole values of the kinds of serde's data model with links. It
+-- also defines their tokens and their links.
 use Rattle.std.specs.Prelude.{ℕ, List, [], ◌∷◌, ◌++◌}
 use Rattle.ipld_cid.specs.Cid.{Link}
 use Rattle.ipld_cid.specs.Bytes.{IsCid}
 use Rattle.ipld_tokens.specs.Token.{Atom, TokenModel, atom, bytes, some, variant, link, seq, seq_end, map, map_end}
 
 mutual
-  -- The whole values: a scalar, bytes, an option's content, a variant with its content, a list, a
-  -- map of pairs of items, or a link. The bytes of a link are a CID with a digest of at most S
-  -- bytes.
+  -- the whole values: a scalar, bytes, an option with its content, a variant with its content, a
+  -- list, a map of pairs of items, or a link. The bytes of a link are a CID with a digest of at
+  -- most `S` bytes.
   pub data Item (S : ℕ) : Type 0 where
     atom_item : Atom → Item S
     bytes_item : List ℕ → Item S
@@ -17,7 +18,7 @@ mutual
     map_item : Pairs S → Item S
     link_item : (encoded : List ℕ) (cid : Link) → IsCid S encoded cid → Item S
 
-  -- what a list holds, in order
+  -- the items of a list, in order
   pub data Parts (S : ℕ) : Type 0 where
     no_parts : Parts S
     part : Item S → Parts S → Parts S
@@ -28,7 +29,7 @@ mutual
     pair : Item S → Item S → Pairs S → Pairs S
 
 abbrev mutual
-  -- The tokens of an item.
+  -- the tokens of an item
   pub tokens_of : {S : ℕ} → Item S → List TokenModel
   tokens_of (atom_item a) = atom a ∷ []
   tokens_of (bytes_item b) = bytes b ∷ []
@@ -47,7 +48,7 @@ abbrev mutual
   pairs_tokens (pair key value ps) = tokens_of key ++ (tokens_of value ++ pairs_tokens ps)
 
 abbrev mutual
-  -- The links of an item, in the order of the tokens, repeats included, none from keys.
+  -- the links of an item in the order of its tokens, with repetitions, except links in keys
   pub links_in : {S : ℕ} → Item S → List Link
   links_in (atom_item a) = []
   links_in (bytes_item b) = []

@@ -1,4 +1,5 @@
--- Items of which each map has its keys in byte order (the IPLD data model: the keys of a map are strings).
+-- This file defines items whose maps have their keys in byte order (the IPLD data model: the keys
+-- of a map are strings).
 use Rattle.std.specs.Prelude.{ℕ, List, [], ◌∷◌, Option, Some, None}
 use Rattle.std.specs.List.Sorted.{IsStrictlySortedBy}
 use Rattle.std.specs.Cmp.Lexicographic.{slice_cmp}
@@ -10,12 +11,12 @@ abbrev pub text_before : Option (List ℕ) → List (List ℕ) → List (List �
 text_before None texts = texts
 text_before (Some text) texts = text ∷ texts
 
--- the strings of the keys, in the order of the pairs, without keys that are no strings
+-- the strings of the keys that are strings or characters, in the order of the pairs
 abbrev pub key_texts : Pairs 64 → List (List ℕ)
 key_texts no_pairs = []
 key_texts (pair key value ps) = text_before (key_text key) (key_texts ps)
 
--- this holds of the pairs of each map
+-- True if `P` holds of the pairs of every map in the item, except maps in keys.
 abbrev mutual
   pub InEachMap : (Pairs 64 → Type 0) → Item 64 → Type 0
   InEachMap P (atom_item a) = Unit {0}
@@ -34,10 +35,11 @@ abbrev mutual
   InMapsOfValues P no_pairs = Unit {0}
   InMapsOfValues P (pair key value ps) = InEachMap P value × InMapsOfValues P ps
 
--- the keys ascend in byte order
+-- True if the keys that are strings or characters strictly ascend in byte order.
 abbrev pub Ascend : Pairs 64 → Type 0
 Ascend ps = IsStrictlySortedBy (slice_cmp nat_cmp) (key_texts ps)
 
--- True if the keys ascend in byte order in each map of the item.
+-- True if the keys that are strings or characters strictly ascend in byte order in every map of the
+-- item, except maps in keys.
 abbrev pub KeysAscend : Item 64 → Type 0
 KeysAscend = InEachMap Ascend

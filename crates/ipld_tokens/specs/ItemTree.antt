@@ -1,4 +1,4 @@
--- The tree of the IPLD data model that an item reads as, or nothing.
+-- This file defines the tree of the IPLD data model that an item reads as, if there is one.
 use Rattle.std.specs.Prelude.{◌^◌, ℕ, pos, nat_lt, if◌then◌else◌, Bool, false, ◌||◌, List, Option, Some, None, option_map, encode_utf8}
 use Rattle.std.specs.Str.{bytes_eq}
 use Rattle.ipld_tree.specs.Tree.{Tree, Items, no_items, item, Members, no_members, member}
@@ -7,7 +7,9 @@ use Rattle.ipld_tree.specs.Put.{put}
 use Rattle.ipld_tokens.specs.Token.{Atom, none, unit, unit_struct, boolean, integer, unsigned, character, text, unit_variant}
 use Rattle.ipld_tokens.specs.Item.{Item, atom_item, bytes_item, some_item, variant_item, list_item, map_item, link_item, Parts, no_parts, part, Pairs, no_pairs, pair}
 
--- Nothing, the value of `()` and that of a struct without fields are null; an integer of type `u128` is one within `i128`.
+-- the tree that a scalar reads as, if there is one. `None`, `()` and a struct without fields are
+-- null, and a character is a string. A `u128` of 2^127 or more and a unit variant do not have a
+-- tree.
 abbrev pub tree_of_atom : Atom → Option Tree
 tree_of_atom none = Some tree.null
 tree_of_atom unit = Some tree.null
@@ -19,7 +21,7 @@ tree_of_atom (character c) = Some (tree.text (encode_utf8 c))
 tree_of_atom (text s) = Some (tree.text s)
 tree_of_atom (unit_variant s) = None
 
--- the string that an item is as a key: a string, or one character
+-- the string of an item as a key, if the item is a string or a character
 abbrev pub key_text : Item 64 → Option (List ℕ)
 key_text (atom_item (text s)) = Some s
 key_text (atom_item (character c)) = Some (encode_utf8 c)
@@ -29,18 +31,18 @@ abbrev pub has_key : List ℕ → Members → Bool
 has_key key no_members = false
 has_key key (member k t ms) = bytes_eq key k || has_key key ms
 
--- a list goes on with an item
+-- the items with a tree before them, if both exist
 abbrev pub item_before : Option Tree → Option Items → Option Items
 item_before (Some t) (Some ts) = Some (item t ts)
 item_before _ _ = None
 
--- a map with one more key, which it hasn't yet
+-- the map with one more key and its value, if all three exist and the map does not have the key
 abbrev pub put_new : Option (List ℕ) → Option Tree → Option Members → Option Members
 put_new (Some key) (Some t) (Some ms) = if has_key key ms then None else Some (put key t ms)
 put_new _ _ _ = None
 
 abbrev mutual
-  -- The tree that an item reads as, or nothing.
+  -- the tree that an item reads as, if there is one
   pub tree_of_item : Item 64 → Option Tree
   tree_of_item (atom_item a) = tree_of_atom a
   tree_of_item (bytes_item b) = Some (tree.bytes b)

@@ -1,4 +1,5 @@
--- What reading a tree within limits from a source of tokens returns, by the machine.
+-- This file specifies the result of reading a tree within limits from a source of tokens, in terms
+-- of the machine.
 use Rattle.std.specs.Prelude.{◌≡◌, List, [], ◌∷◌, ◌++◌, Some, Result, Ok, Err}
 use Rattle.ipld_tree.specs.TreeOf.{tree_of}
 use Rattle.ipld_tree.specs.declared.ipld.Ipld.{Ipld}
@@ -18,23 +19,25 @@ use Rattle.ipld_tokens.specs.declared.error.ReadError.TheVariants.{TooDeep, TooM
 use Rattle.ipld_tokens.specs.declared.limited_reader.Excess.{Excess}
 use Rattle.ipld_tokens.specs.declared.limited_reader.Excess.TheVariants as which
 
--- what is taken, as the machine says
+-- True if a call takes tokens and returns a result as the machine with limits does from its start.
 abbrev pub ConsumedWithin : {F : Type 0} → Limits → List TokenModel → List TokenModel → Result (Result Ipld Excess) (TokenError F) → Type 0
 ConsumedWithin limits = Consumes limit_step GoesOn RejectsWithin HasOutput (limit_start limits)
 
--- what the call returns
+-- the result of the call, from the result of the machine
 abbrev pub flatten : {F : Type 0} → Result (Result Ipld Excess) (TokenError F) → Result Ipld (ReadError F)
 flatten (Ok (Ok v)) = Ok v
 flatten (Ok (Err which.TooDeep)) = Err TooDeep
 flatten (Ok (Err which.TooMany)) = Err TooMany
 flatten (Err token_error) = Err (Token token_error)
 
--- the first token beyond this limit was taken
+-- True if the last taken token is the first beyond a limit and exceeds `e`, and `after` are the
+-- others. Before it, the machine is neither complete nor rejected.
 abbrev pub Beyond : Limits → limit.Excess → List TokenModel → List TokenModel → Type 0
 Beyond limits e before after =
     (p : List TokenModel) × (t : TokenModel) × (before ≡ p ++ t ∷ after) × IsGoing (run start p) × KeepsWithin limits p × (excess limits limit.start (p ++ t ∷ []) ≡ Some e)
 
--- reading returns what the machines come to
+-- True if the result matches the machine without limits and the taken tokens are within the limits,
+-- or the error is a limit and `Beyond` holds for it.
 abbrev pub ReadsWithin : {F : Type 0} → Limits → List TokenModel → List TokenModel → Result Ipld (ReadError F) → Type 0
 ReadsWithin limits before after (Ok v) = Taken (λ ts. (run start ts ≡ done (tree_of v)) × KeepsWithin limits ts) before after
 ReadsWithin limits before after (Err TooDeep) = Beyond limits too_deep before after

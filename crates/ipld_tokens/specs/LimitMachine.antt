@@ -1,4 +1,5 @@
--- Reading a tree within limits as a machine: that of reading a tree, which stops at the first token beyond a limit.
+-- This file defines the state machine that reads a tree within limits. It is the machine that reads
+-- a tree, and stops at the first token beyond a limit.
 use Rattle.std.specs.Prelude.{◌≡◌, ℕ, Bool, true, false, List, [], ◌∷◌, Option, Some, None, Result, Ok, Err}
 use Rattle.ipld_tree.specs.TreeOf.{tree_of}
 use Rattle.ipld_tree.specs.declared.ipld.Ipld.{Ipld}
@@ -16,11 +17,11 @@ use Rattle.ipld_tokens.specs.declared.limited_reader.Excess.TheVariants.{TooDeep
 use Rattle.ipld_tokens.specs.declared.limited_reader.LimitedReader.{LimitedReader}
 
 pub data LimitState : Type 0 where
-  -- what is read so far, and what its tokens have opened and begun
+  -- within the limits: the state of reading, and the position of the tokens read so far
   within : Limits → ReadState → Position → LimitState
-  -- a token went beyond a limit
+  -- a token exceeded this limit
   beyond : limit.Excess → LimitState
-  -- after an end
+  -- a token came after the end: a complete tree, a rejection or an exceeded limit
   spent : LimitState
 
 abbrev pub unless_beyond : Option limit.Excess → LimitState → LimitState
@@ -40,19 +41,19 @@ limit_step spent t = spent
 abbrev pub limit_start : Limits → LimitState
 limit_start limits = within limits reading.start limit.start
 
--- neither complete, nor rejected, nor beyond a limit
+-- True if the state is within the limits, and neither complete nor rejected.
 abbrev pub GoesOn : LimitState → Type 0
 GoesOn (within limits s p) = IsGoing s
 GoesOn (beyond e) = ⊥
 GoesOn spent = ⊥
 
--- no token is taken any more
+-- Returns whether the tree is complete, a limit was exceeded, or the state is `spent`.
 abbrev pub has_ended : LimitState → Bool
 has_ended (within limits s p) = is_done s
 has_ended (beyond e) = true
 has_ended spent = true
 
--- a token within the limits is rejected for this
+-- True if the token `t` is within the limits, and the rejection `r` is possible for it.
 abbrev pub RejectsWithin : LimitState → TokenModel → Rejection → Type 0
 RejectsWithin (within limits s p) t r = Rejects s t r × (token_excess limits p t ≡ None)
 RejectsWithin (beyond e) t r = ⊥
@@ -62,7 +63,7 @@ abbrev pub excess_of : Excess → limit.Excess
 excess_of TooDeep = too_deep
 excess_of TooMany = too_many
 
--- the value is complete, and this is it; or this limit was exceeded
+-- True if the state is complete with the tree of the result, or beyond the limit in the result.
 abbrev pub HasOutput : LimitState → Result Ipld Excess → Type 0
 HasOutput s (Ok v) = (limits : Limits) × (p : Position) × (s ≡ within limits (done (tree_of v)) p)
 HasOutput s (Err e) = s ≡ beyond (excess_of e)
@@ -78,7 +79,7 @@ abbrev pub kinds : List reading.Container → List limit.OpenKind
 kinds [] = []
 kinds (l ∷ ls) = kind l ∷ kinds ls
 
--- after so many values have begun
+-- the position of a reader in a state, after `n` values have begun
 abbrev pub position : ReadState → ℕ → Position
 position (reading.open_at ls) n = limit.open_at (kinds ls) n
 position (reading.wanted ls) n = limit.wanted (kinds ls) n
@@ -100,7 +101,7 @@ limit_state r = unless_exceeded r.limits r.excess (state_of r.reader) r.values
 
 -- ---- one token
 
--- where a value may come, the token begins one
+-- Returns whether the token begins a value, if a value may come.
 abbrev pub begins_value : TokenModel → Bool
 begins_value some = false
 begins_value (variant name) = false
@@ -108,13 +109,14 @@ begins_value seq_end = false
 begins_value map_end = false
 begins_value t = true
 
--- where a value may come, the token opens a list or a map
+-- Returns whether the token opens a list or a map, if a value may come.
 abbrev pub opens : TokenModel → Bool
 opens seq = true
 opens map = true
 opens t = false
 
--- the limit that a token goes beyond, or how many values have begun with it
+-- True if `t` is within the limits and `n` values have begun after it, or the error is the limit
+-- that it exceeds.
 abbrev pub Counts : {A : Type 0} → Limits → Position → TokenModel → ℕ → Result A Excess → Type 0
 Counts limits p t n (Ok u) = (token_excess limits p t ≡ None) × (n ≡ begun (after p t))
 Counts limits p t n (Err e) = token_excess limits p t ≡ Some (excess_of e)

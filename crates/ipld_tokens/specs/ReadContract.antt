@@ -1,4 +1,4 @@
--- What reading a tree from a source of tokens returns.
+-- This file specifies the result of reading a tree from a source of tokens.
 use Rattle.std.specs.Prelude.{◌≡◌, List, [], ◌∷◌, ◌++◌, Some, Result, Ok, Err}
 use Rattle.ipld_tree.specs.Tree.{Tree}
 use Rattle.ipld_tree.specs.TreeOf.{tree_of}
@@ -16,17 +16,19 @@ use Rattle.ipld_tokens.specs.Outcome.{Taken}
 use Rattle.ipld_tokens.specs.ConsumerMachine.{Consumes}
 use Rattle.ipld_tokens.specs.ReaderSteps.{Rejects, HasTree}
 
--- an item with this tree comes first, and what follows it remains; each link stands in the item as often as in the tree,
--- and where keys ascend in the same order
+-- True if `before` begins with an item whose tree is `t`, and `after` are the other tokens. Every
+-- link appears equally often in the item and in the tree. If the keys of the item ascend, the links
+-- are also in the same order.
 abbrev pub ReadsItem : List TokenModel → List TokenModel → Tree → Type 0
 ReadsItem before after t =
     (i : Item 64) × (before ≡ tokens_of i ++ after) × (tree_of_item i ≡ Some t) × SameLinks i t × (KeysAscend i → links_in i ≡ links_of t)
 
--- what is taken, as the machine says
+-- True if a call takes tokens and returns a result as the machine does from its start.
 abbrev pub Consumed : {F : Type 0} → List TokenModel → List TokenModel → Result Ipld (TokenError F) → Type 0
 Consumed = Consumes step IsGoing Rejects HasTree start
 
--- reading returns what the machine comes to
+-- True if the result matches the state of the machine after the taken tokens, or is `Memory` and
+-- the last taken token needs memory.
 abbrev pub Reads : {F : Type 0} → List TokenModel → List TokenModel → Result Ipld (TokenError F) → Type 0
 Reads before after (Ok v) = Taken (λ ts. run start ts ≡ done (tree_of v)) before after
 Reads before after (Err error.Memory) = (p : List TokenModel) × (t : TokenModel) × (before ≡ p ++ t ∷ after) × Allocates (run start p) t

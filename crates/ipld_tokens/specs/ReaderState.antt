@@ -1,4 +1,4 @@
--- The state of a reader of trees.
+-- This file defines the state of the machine for a reader of trees.
 use Rattle.std.specs.Prelude.{List}
 use Rattle.ipld_tree.specs.Tree as tree
 use Rattle.ipld_tokens.specs.ReadMachine as reading
@@ -8,18 +8,19 @@ use Rattle.ipld_tokens.specs.declared.tree_reader.Expected.{Expected}
 use Rattle.ipld_tokens.specs.declared.tree_reader.Expected.TheVariants.{Any, Value, LinkBytes}
 use Rattle.ipld_tokens.specs.declared.tree_reader.TreeReader.{TreeReader}
 
--- a reader has read null where there is no tree that it builds
+-- the state of a reader, from that of its tree. If the reader does not have a tree, it has read
+-- null.
 abbrev pub or_null : ReadState → ReadState
 or_null (rejected never) = done tree.null
 or_null s = s
 
--- what is expected, where the tree that is built is in this state and has these levels open
+-- the state of a reader, from the expected part, the state `s` of its tree and its levels `ls`
 abbrev pub expecting : Expected → ReadState → List reading.Container → ReadState
 expecting Any s ls = or_null s
 expecting Value s ls = wanted ls
 expecting LinkBytes s ls = marked ls
 
--- what is open, innermost first
+-- the levels of the tree of a reader, innermost first
 abbrev pub levels_of : TreeReader → List reading.Container
 levels_of reader = building.levels_of reader.tree
 

@@ -1,4 +1,5 @@
--- Tokens (the kinds of serde's data model): what a token says, without hints of lengths and wherever its bytes are kept.
+-- This file defines the content of tokens, which are of the kinds of serde's data model. The
+-- content excludes length hints and the ownership of bytes.
 use Rattle.std.specs.Prelude.{ℕ, ℤ, Bool, List}
 use Rattle.ipld_tokens.specs.declared.token.TokenBytes.{TokenBytes}
 use Rattle.ipld_tokens.specs.declared.token.TokenBytes.TheVariants.{Lent, Owned}
@@ -17,7 +18,7 @@ pub data Atom : Type 0 where
   text : List ℕ → Atom
   unit_variant : List ℕ → Atom
 
--- The content of a token, without hints of lengths and wherever its bytes are kept.
+-- the model of a token: its content, without its length hint and the ownership of its bytes
 pub data TokenModel : Type 0 where
   atom : Atom → TokenModel
   bytes : List ℕ → TokenModel
@@ -29,12 +30,12 @@ pub data TokenModel : Type 0 where
   map : TokenModel
   map_end : TokenModel
 
--- the bytes of a token, lent or owned
+-- the bytes that a token borrows or owns
 abbrev pub bytes_in : TokenBytes → List ℕ
 bytes_in (Lent b) = b.now
 bytes_in (Owned b) = b.items
 
--- The content of a token: hints of lengths, and where its bytes are kept, are left out.
+-- the model of a token, without its length hint and the ownership of its bytes
 abbrev pub erase : Token → TokenModel
 erase token.None = atom none
 erase token.Unit = atom unit

@@ -1,4 +1,5 @@
--- The tokens of a tree of the IPLD data model, with the keys of a map in their order.
+-- This file defines the tokens of a tree of the IPLD data model. The keys of a map keep their
+-- order.
 use Rattle.std.specs.Prelude.{List, [], ◌∷◌, ◌++◌}
 use Rattle.ipld_cid.specs.Bytes.{bytes_of}
 use Rattle.ipld_tree.specs.Tree.{Tree, null, Items, no_items, item, Members, no_members, member}
@@ -6,7 +7,7 @@ use Rattle.ipld_tree.specs.Tree as tree
 use Rattle.ipld_tokens.specs.Token.{TokenModel, atom, bytes, link, seq, seq_end, map, map_end, none, boolean, integer, text}
 
 abbrev mutual
-  -- The tokens of a tree.
+  -- the tokens of a tree
   pub tokens_of_tree : Tree → List TokenModel
   tokens_of_tree null = atom none ∷ []
   tokens_of_tree (tree.boolean b) = atom (boolean b) ∷ []

@@ -1,4 +1,5 @@
-//! What reads an item token by token, and the loop that hands it the tokens of a source.
+//! The trait for readers of one item, token by token, and the loop that passes them the tokens of a
+//! source.
 
 ghost use Rattle.std.specs.Prelude.{◌≡◌, ◌<◌, Bool, true, false, length, OnOk};
 ghost use Rattle.ipld_tokens.specs.Token.{TokenModel, erase};
@@ -12,7 +13,7 @@ use crate::token::Token;
 use ipld_cid::CidError;
 use std::alloc::{AllocError, AllocFailed};
 
-// Why a token isn't taken.
+// The reason why a token isn't taken.
 #[derive(Drop)]
 pub(crate) enum Rejection {
     Memory,
@@ -52,20 +53,20 @@ impl<F> From<Rejection> for TokenError<F> {
     }
 }
 
-// What reads one item token by token, as a machine says.
+// A reader of one item, token by token, that follows a machine.
 pub(crate) trait TokenConsumer: Sized + Drop {
     ghost use Rattle.ipld_tokens.specs.declared.consumer.Rejection.{Rejection};
 
-    // What the item is read as.
+    // The value that the item is read as.
     type Output;
 
     // the states of the machine
     ghost State: { Type 0 };
 
-    // the state that it is in
+    // the state of the machine
     ghost state: { Self → State };
 
-    // where a token leads
+    // the state after a token
     ghost next_state: { State → TokenModel → State };
 
     // neither complete nor rejected
@@ -74,19 +75,19 @@ pub(crate) trait TokenConsumer: Sized + Drop {
     // the item is complete
     ghost is_complete: { State → Bool };
 
-    // a token may be rejected for this
+    // a token may be rejected with this error
     ghost rejects: { State → TokenModel → Rejection → Type 0 };
 
-    // what is read at the end
+    // the output that is read at the end
     ghost reads: { State → Self.Output → Type 0 };
 
-    // Takes one token. Of the state after a rejection nothing is said.
+    // Takes one token. The state after a rejection is unspecified.
     fn take(&mut self, token: &Token<'_>) -> Result<(), Rejection>
         requires { goes_on (state self.old) }
         ensures { Takes next_state rejects (state self.old) (erase token.now)
             (state self.new) result };
 
-    // Whether the item is complete.
+    // Returns whether the item is complete.
     fn has_ended(&self) -> bool
         ensures ended { result ≡ is_complete (state self.now) }
         ensures going { result ≡ false → goes_on (state self.now) };
@@ -122,7 +123,7 @@ fn advance<'a, T: TokenSource<'a>, C: TokenConsumer>(
     }
 }
 
-// Takes tokens until they are an item.
+// Takes tokens until they form an item.
 pub(crate) fn consume<'a, T: TokenSource<'a>, C: TokenConsumer>(
     source: &mut T,
     mut consumer: C,

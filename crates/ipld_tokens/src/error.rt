@@ -1,4 +1,4 @@
-//! Why no value can be read.
+//! The reasons why no value can be read.
 
 ghost use Rattle.std.specs.Fmt.{DisplaysStyledOnOk};
 ghost use Rattle.ipld_tokens.specs.declared.error.TokenError.TheVariants.{Memory};
@@ -8,27 +8,29 @@ use ipld_cid::CidError;
 use std::alloc::{AllocError, AllocFailed};
 use std::{error, fmt};
 
-/// Why tokens were not read.
+/// The reason why tokens were not read.
 ///
-/// Its `Display` is the variant's name, without its content; with `#`, as in `{error:#}`, it is a sentence that says what is wrong.
+/// Its `Display` prints the variant's name without its content. With `#`, for example `{error:#}`,
+/// it prints a sentence that describes the error.
 #[derive(Debug, PartialEq, Eq, Drop)]
 pub enum TokenError<F> {
     /// An allocation failed.
     Memory,
     /// The source failed.
     Source(F),
-    /// This token can't stand here. It was taken, and nothing after it.
+    /// This token is not possible here. It was taken, and no token after it.
     Token,
-    /// The bytes after a link mark are no CID. They were taken, and nothing after them.
+    /// The bytes after a link mark are not a CID. They were taken, and no token after them.
     Cid(CidError),
-    /// No token remains, and what was begun isn't complete.
+    /// No token remains, and the item is incomplete.
     End,
-    /// A key stands in a map for the second time. The second value was taken, and nothing after it.
+    /// A key appears in a map for the second time. The second value was taken, and no token after
+    /// it.
     DuplicateKey,
 }
 
 impl<F> TokenError<F> {
-    // What is wrong, in a sentence.
+    // Writes the error as a sentence.
     fn describe<W: fmt::Write>(&self, f: &mut fmt::Formatter<W>) -> fmt::Result
         ensures { DisplaysStyledOnOk W.write_str_gives f.old result (sentence_of self.now) f.new }
     {
@@ -91,22 +93,24 @@ impl<F, T: Drop> From<AllocFailed<T>> for TokenError<F> {
     }
 }
 
-/// Why tokens were not read within limits.
+/// The reason why tokens were not read within limits.
 ///
-/// Its `Display` is the variant's name, and that of the [`TokenError`] where there is one; with `#`, as in `{error:#}`, it is a sentence
-/// that says what is wrong.
+/// Its `Display` prints the variant's name, or for `Token` the name of the [`TokenError`]. With
+/// `#`, for example `{error:#}`, it prints a sentence that describes the error.
 #[derive(Debug, PartialEq, Eq, Drop)]
 pub enum ReadError<F> {
-    /// This token opens a list or a map deeper than the limit on levels. It was taken, and nothing after it.
+    /// This token opens a list or a map deeper than the limit on levels. It was taken, and no token
+    /// after it.
     TooDeep,
-    /// This token begins a value more than the limit on values. It was taken, and nothing after it.
+    /// This token begins one value more than the limit on values. It was taken, and no token after
+    /// it.
     TooMany,
-    /// Within the limits, the tokens were not read.
+    /// The tokens were not read, for a reason other than the limits.
     Token(TokenError<F>),
 }
 
 impl<F> ReadError<F> {
-    // What is wrong, in a sentence.
+    // Writes the error as a sentence.
     fn describe<W: fmt::Write>(&self, f: &mut fmt::Formatter<W>) -> fmt::Result
         ensures { DisplaysStyledOnOk W.write_str_gives f.old result
             (limit_sentence_of self.now) f.new }

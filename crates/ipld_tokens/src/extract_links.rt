@@ -22,14 +22,16 @@ use ipld_cid::laws::cid_bytes_law;
 use std::alloc::Global;
 use std::fmt;
 
-/// The links of one value that a source yields in tokens, without those that stand in the keys of its maps. The CIDs have
-/// digests of at most `S` bytes.
+/// The links of one value that a source yields in tokens, without the links in the keys of its
+/// maps.
+///
+/// The CIDs have digests of at most `S` bytes.
 #[derive(Drop)]
 pub struct ExtractLinks<const S: usize> {
     pub(crate) links: Vec<CidGeneric<S>>,
 }
 
-// A CID with a digest of so many bytes fits in no memory.
+// A CID with a digest of this many bytes does not fit in memory.
 pub(crate) const TOO_LARGE: usize = 1 << 62;
 
 impl<const S: usize> fmt::Debug for ExtractLinks<S> {
@@ -44,26 +46,31 @@ impl<const S: usize> fmt::Debug for ExtractLinks<S> {
 }
 
 impl<const S: usize> ExtractLinks<S> {
-    /// Takes one value off a source, and finds its links: each link but those in keys of maps, in the order of the tokens,
-    /// and each as often as it stands there. What followed the value remains. The source must not have failed.
+    /// Takes one value from a source and finds its links.
     ///
-    /// Of the tokens of a tree these are the links of the tree, as [`ipld_tree::Ipld::references`] returns them, where `S` is at
-    /// least 64.
+    /// It finds every link except those in keys of maps, in the order of the tokens and with
+    /// repetitions. The tokens after the value remain. The source must not have failed.
     ///
-    /// A value that can't go on is rejected at the first token that shows it, and what followed that token remains. Values
-    /// may nest as deep as memory reaches: a list or a map that is open takes one byte, and a link that is found one CID.
+    /// For the tokens of a tree, if `S` is at least 64, these are the links of the tree, as
+    /// [`ipld_tree::Ipld::references`] returns them.
+    ///
+    /// An invalid value is rejected at the first token that makes a value impossible. The tokens
+    /// after that token remain. The nesting of values is limited only by memory: an open list or
+    /// map takes one byte, and a link that is found takes one CID.
     ///
     /// # Errors
     ///
-    /// - `Token`: with this token no value is possible. It was taken, and nothing after it.
-    /// - `Cid`: the bytes after a link mark are no CID with a digest of at most `S` bytes. They were taken, and nothing
-    ///   after them. So are those in keys.
-    /// - `End`: no token remains, and what was taken is the beginning of a value.
-    /// - `Source`: the source failed in this call.
-    /// - `Memory`: an allocation failed. It allocates only at a link that is not in a key, and where a list or a map begins. Where
-    ///   `S` is 2^62 or more a CID fits in no memory: then the bytes after any link mark are `Memory`, with no allocation.
+    /// - `Token` if no value is possible with this token. It was taken, and no token after it.
+    /// - `Cid` if the bytes after a link mark are not a CID with a digest of at most `S` bytes.
+    ///   They were taken, and no token after them. This includes links in keys.
+    /// - `End` if no token remains, and the tokens that were taken are the beginning of a value.
+    /// - `Source` if the source failed in this call.
+    /// - `Memory` if an allocation fails. It allocates only at a link that is not in a key, and at
+    ///   the beginning of a list or a map. If `S` is 2^62 or more, a CID does not fit in memory.
+    ///   The call then returns `Memory` at the bytes after any link mark, without an allocation.
     ///
-    /// After `Source` what was taken is the beginning of a value, and after `Memory` it ends with the token that needed memory. `DuplicateKey` is never returned.
+    /// After `Source`, the tokens that were taken are the beginning of a value. After `Memory`,
+    /// they end with the token that needed memory. `DuplicateKey` is never returned.
     pub fn deserialize<'a, T: TokenSource<'a>>(
         alloc: Global,
         source: &mut T,
@@ -102,12 +109,12 @@ impl<const S: usize> ExtractLinks<S> {
         ensures allowed { IfSource result (λ fault. T.allows_fault (T.origin source.old) fault) }
         ensures ended { IfEnd result (T.allows_end (T.origin source.old)) }
     {
-        // A law, which does nothing when it runs: it says that bytes are read as a CID exactly where they are one's.
+        // A law, a no-op at run time: bytes are read as a CID if and only if they encode one.
         cid_bytes_law::<S>();
         consume(source, Extractor::new(alloc))
     }
 
-    /// The links.
+    /// Returns the links.
     pub fn into_vec(self) -> Vec<CidGeneric<S>>
         ensures { map link_of result.items ≡ links_at self.entry }
     {

@@ -17,14 +17,14 @@ use ipld_cid::laws::cid_bytes_law;
 use std::alloc::Global;
 use std::mem::size_of;
 
-// What an item stands in.
+// The container of an item.
 #[derive(Clone, Copy)]
 enum Frame {
     // Nothing.
     Whole,
     // A list.
     List,
-    // A map, as a key. The map itself is in no key.
+    // A map, as a key. The map itself is not in a key.
     Key,
     // A map, as a key. The map itself is in a key.
     InnerKey,
@@ -34,7 +34,7 @@ enum Frame {
 
 const _: () = prove!(size_of::<Frame>() == 1);
 
-// What may come next.
+// The tokens that may come next.
 #[derive(Clone, Copy)]
 enum Phase {
     // An item.
@@ -47,19 +47,19 @@ enum Phase {
     Ended,
 }
 
-// The links of what has been taken, and what is open.
+// The links found so far, and the open containers.
 #[derive(Drop)]
 pub(crate) struct Extractor<const S: usize> {
     phase: Phase,
     // Whether links are kept here: no key is open.
     keeps: bool,
     frame: Frame,
-    // What the frame stands in, innermost last.
+    // The frames around it, innermost last.
     outer: Vec<Frame>,
     links: Vec<CidGeneric<S>>,
 }
 
-// What a key stands in.
+// Returns the frame of a key.
 #[inline(always)]
 fn frame_of_key(keeps: bool) -> Frame
     ensures { result ≡ key_frame keeps }
@@ -80,7 +80,7 @@ impl<const S: usize> Extractor<S> {
         }
     }
 
-    // An item is complete.
+    // Completes an item.
     #[inline(always)]
     fn close(&mut self)
         ensures { state_of self.new ≡ closed self.old.keeps self.old.frame (outer_of self.old)
@@ -105,7 +105,7 @@ impl<const S: usize> Extractor<S> {
         }
     }
 
-    // An item has to come.
+    // Expects an item.
     #[inline(always)]
     fn expect_item(&mut self)
         ensures { state_of self.new ≡ open_at true self.old.keeps self.old.frame (outer_of self.old)
@@ -114,7 +114,7 @@ impl<const S: usize> Extractor<S> {
         self.phase = Phase::Item;
     }
 
-    // The bytes of a link have to come.
+    // Expects the bytes of a link.
     #[inline(always)]
     fn expect_link_bytes(&mut self)
         ensures { state_of self.new ≡ marked self.old.keeps self.old.frame (outer_of self.old)
@@ -123,7 +123,7 @@ impl<const S: usize> Extractor<S> {
         self.phase = Phase::LinkBytes;
     }
 
-    // Keeps the link of a value.
+    // Keeps the link if it is not in a key.
     #[inline(always)]
     fn keep_link(&mut self, cid: CidGeneric<S>) -> Result<(), Rejection>
         ensures { Keeps self.old (link_of cid.entry) self.new result }
@@ -134,7 +134,7 @@ impl<const S: usize> Extractor<S> {
         Ok(())
     }
 
-    // The bytes after a link mark.
+    // Takes the bytes after a link mark.
     fn take_link_bytes(&mut self, bytes: &[u8]) -> Result<(), Rejection>
         ensures { Reads S self.old.keeps bytes.now
             (link_read (read_link S bytes.now) self.old.keeps self.old.frame (outer_of self.old)
@@ -143,7 +143,7 @@ impl<const S: usize> Extractor<S> {
         if S >= TOO_LARGE {
             return Err(Rejection::Memory);
         }
-        // A law, which does nothing when it runs: it says that bytes are read as a CID exactly where they are one's.
+        // A law, a no-op at run time: bytes are read as a CID if and only if they encode one.
         cid_bytes_law::<S>();
         match CidGeneric::try_from(bytes) {
             Err(cid_error) => Err(Rejection::Cid(cid_error)),
@@ -180,7 +180,7 @@ impl<const S: usize> Extractor<S> {
         Ok(())
     }
 
-    // The list or the map that is open is complete.
+    // Ends the list or the map that is open.
     #[inline(always)]
     fn end(&mut self, keeps: bool) -> Result<(), Rejection>
         ensures { Follows ⊥ (ended keeps (outer_of self.old) (links_found self.old))
@@ -220,7 +220,7 @@ impl<const S: usize> Extractor<S> {
         }
     }
 
-    // A token where an item may come, or must.
+    // Takes a token where an item may come, or must.
     #[inline(always)]
     fn take_item(&mut self, token: &Token<'_>, must: bool) -> Result<(), Rejection>
         ensures { Follows (Opens (erase token.now)) (item_step must self.old.keeps self.old.frame
@@ -240,7 +240,7 @@ impl<const S: usize> Extractor<S> {
         Ok(())
     }
 
-    // A token where the bytes of a link must come.
+    // Takes a token where the bytes of a link must come.
     #[inline(always)]
     fn take_link(&mut self, token: &Token<'_>) -> Result<(), Rejection>
         ensures { Takes S (marked self.old.keeps self.old.frame (outer_of self.old)

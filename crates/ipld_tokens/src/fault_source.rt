@@ -9,8 +9,10 @@ use crate::slice_source::SliceSource;
 use crate::source::{Stopped, TokenSource};
 use crate::token::Token;
 
-/// The tokens of a slice, in order and with their hints, from a source that fails after so many calls. It is for tests. It
-/// does not allocate.
+/// The tokens of a slice, in order and with their hints, from a source that fails after a given
+/// number of calls.
+///
+/// It is for tests. It does not allocate.
 #[derive(Debug, Drop)]
 pub struct FaultSource<'a> {
     source: SliceSource<'a>,
@@ -22,7 +24,8 @@ pub struct FaultSource<'a> {
 impl<'a> FaultSource<'a> {
     ghost use Rattle.ipld_tokens.specs.FaultSource.{tokens_left, hints_left, calls_left, has_stopped, origin_of};
 
-    /// A source of all the tokens whose first `calls` calls succeed, and which then fails for good.
+    /// Creates a source of all the tokens. Its first `calls` calls succeed, and then it fails for
+    /// good.
     pub fn new(tokens: &'a [Token<'a>], calls: usize) -> Self
         ensures tokens { tokens_left result ≡ map erase tokens.entry.now }
         ensures hints { hints_left result ≡ map hint_of tokens.entry.now }

@@ -1,4 +1,4 @@
-//! What holds of items, of their trees, and of the tokens of trees.
+//! Laws about items, their trees, and the tokens of trees.
 
 ghost use Rattle.std.specs.Prelude.{◌≡◌, List, ◌∷◌, ◌++◌, Some};
 ghost use Rattle.ipld_cid.specs.declared.error.CidError.{CidError};
@@ -24,10 +24,10 @@ use ipld_tree::Ipld;
 use ipld_tree::laws::ipld_law;
 use std::alloc::{AllocError, Global};
 
-/// What holds of the tokens of items, at each size `S` of a digest. A call does nothing.
+/// States laws about the tokens of items, for any size `S` of a digest. A call does nothing.
 ///
-/// - No proper beginning of an item's tokens is an item: no item's tokens begin another's.
-/// - So tokens that begin with an item begin with one only, and it ends at one place.
+/// - The tokens of an item are never a proper prefix of the tokens of another item.
+/// - So tokens that begin with an item begin with only one item, which ends at one place.
 /// - Items with equal tokens have equal links.
 pub fn item_tokens_law<const S: usize>()
     ensures no_front { (i j : Item S) (next : TokenModel) (rest : List TokenModel)
@@ -40,9 +40,9 @@ pub fn item_tokens_law<const S: usize>()
     cid_bytes_law::<S>();
 }
 
-/// What holds of the trees of items. A call does nothing.
+/// States laws about the trees of items. A call does nothing.
 ///
-/// - Items with equal tokens read as the same tree, or as none.
+/// - Items with equal tokens read as the same tree, or none of them reads as a tree.
 /// - Trees with equal tokens are equal.
 pub fn item_tree_law()
     ensures same_tree { (i j : Item 64) → tokens_of i ≡ tokens_of j
@@ -53,19 +53,21 @@ pub fn item_tree_law()
     cid_bytes_law::<64>();
 }
 
-/// What holds of the links of an item that has a tree. A call does nothing.
+/// States laws about the links of an item that has a tree. A call does nothing.
 ///
-/// - Each link stands in the item as often as in its tree.
-/// - Where the keys of each map ascend in byte order, the links of the item are those of its tree, in the same order.
+/// - A link appears in the item as often as in its tree.
+/// - If the keys of every map ascend in byte order, the links of the item are those of its tree, in
+///   the same order.
 pub fn item_links_law()
     ensures times { (i : Item 64) (t : Tree) → tree_of_item i ≡ Some t → SameLinks i t }
     ensures order { (i : Item 64) (t : Tree) → tree_of_item i ≡ Some t → KeysAscend i
         → links_in i ≡ links_of t }
 {}
 
-/// What holds of the tokens of a tree. A call does nothing.
+/// States a law about the tokens of a tree. A call does nothing.
 ///
-/// - They are one item. It has this tree, and its links are those of the tree, in the same order.
+/// - They are one item. The item has this tree, and its links are those of the tree, in the same
+///   order.
 pub fn tree_tokens_law()
     ensures { (t : Tree) → IsTree t → IsWhole t
         → (i : Item 64) × (tokens_of i ≡ tokens_of_tree t) × (tree_of_item i ≡ Some t)
@@ -74,10 +76,16 @@ pub fn tree_tokens_law()
     cid_bytes_law::<64>();
 }
 
-/// What holds of tokens that a tree begins with, and perhaps goes on. A call does nothing.
+/// States laws about tokens that are the beginning of a tree, or a complete tree. A call does
+/// nothing.
 ///
-/// - They end in no error of [`read_ipld`]: with no token that can't stand where it came, with no bytes of a link that are no CID, and
-///   with no value of a key that its map has already. So a source that yields the beginning of a tree, and no more, is never rejected.
+/// They do not end in an error of [`read_ipld`], which means that they do not end with:
+///
+/// - a token that is not possible at its place
+/// - bytes of a link that are not a CID
+/// - the value of a key that its map has already
+///
+/// So a source that yields the beginning of a tree, and no more, is never rejected.
 pub fn tree_beginnings_law()
     ensures not_wrong { (taken : List TokenModel) → BeginsTree taken → EndsWrong taken → ⊥ }
     ensures no_bad_cid { (taken : List TokenModel) (cid_error : CidError) → BeginsTree taken
@@ -88,11 +96,13 @@ pub fn tree_beginnings_law()
     cid_bytes_law::<64>();
 }
 
-/// Reads the tokens of a tree, as [`IpldTokens`] yields them and [`read_ipld`] reads them: for every [`Ipld`] this is the same tree.
+/// Reads a tree with [`read_ipld`] from the tokens that [`IpldTokens`] yields. For every [`Ipld`],
+/// the result is the same tree.
 ///
 /// # Errors
 ///
-/// `Memory`, or `Source` where [`IpldTokens`] is out of memory. No other error is possible.
+/// `Memory` if an allocation fails, or `Source` if [`IpldTokens`] is out of memory while it yields
+/// tokens. No other error is possible.
 pub fn tokens_round_trip(alloc: Global, tree: &Ipld) -> Result<Ipld, TokenError<AllocError>>
     ensures { FindsUnless result (λ read. tree_of read ≡ tree_of tree.now) }
 {

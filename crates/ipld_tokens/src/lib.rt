@@ -1,9 +1,12 @@
-//! Values of the IPLD data model as tokens, and what is read from tokens.
+//! The tokens of values of the IPLD data model, and the values that are read from tokens.
 //!
-//! A [`TokenSource`] yields a value token by token: [`IpldTokens`] yields the tokens of a tree, [`SliceSource`] those of a slice, and a
-//! decoder those of a block. [`read_ipld`] reads a tree from a source, [`read_ipld_within`] one within [`Limits`], for tokens that are not
-//! trusted, and [`ExtractLinks`] finds the links of a value in tokens without building the value. [`FaultSource`] is a source that fails,
-//! for tests.
+//! A [`TokenSource`] yields a value token by token. [`IpldTokens`] yields the tokens of a tree,
+//! [`SliceSource`] the tokens of a slice, and a decoder the tokens of a block.
+//!
+//! - [`read_ipld`] reads a tree from a source.
+//! - [`read_ipld_within`] reads a tree within [`Limits`], for untrusted tokens.
+//! - [`ExtractLinks`] finds the links of a value in its tokens without building the value.
+//! - [`FaultSource`] is a source that fails, for tests.
 //!
 //! ```
 //! use ipld_tokens::{IpldTokens, read_ipld};
@@ -12,7 +15,7 @@
 //! let same = read_ipld(alloc, &mut tokens)?;
 //! ```
 //!
-//! `ipld_core::serde` has these names too.
+//! `ipld_core::serde` also exports these names.
 #![tactic(auto)]
 
 mod consumer;

@@ -14,14 +14,15 @@ use crate::tree_reader::TreeReader;
 use ipld_tree::{Ipld, Limits};
 use std::alloc::Global;
 
-// Which limit a token goes beyond.
+// The limit that a token exceeds.
 #[derive(Clone, Copy)]
 pub(crate) enum Excess {
     TooDeep,
     TooMany,
 }
 
-// A tree that is being read within limits, how many values of it have begun, and which limit a token went beyond.
+// A tree that is being read within limits, the number of its values that have begun, and the limit
+// that a token exceeded.
 #[derive(Drop)]
 pub(crate) struct LimitedReader {
     reader: TreeReader,
@@ -30,7 +31,7 @@ pub(crate) struct LimitedReader {
     excess: Option<Excess>,
 }
 
-// Whether the token begins a value, where one may come.
+// Returns whether the token begins a value, at a place where a value may come.
 fn begins_value(token: &Token<'_>) -> bool
     ensures { result ≡ machine.begins_value (erase token.now) }
 {
@@ -40,7 +41,7 @@ fn begins_value(token: &Token<'_>) -> bool
     )
 }
 
-// Whether the token opens a list or a map, where a value may come.
+// Returns whether the token opens a list or a map, at a place where a value may come.
 fn begins_container(token: &Token<'_>) -> bool
     ensures { result ≡ machine.opens (erase token.now) }
 {
@@ -61,7 +62,7 @@ impl LimitedReader {
         }
     }
 
-    // The limit that another value goes beyond.
+    // Returns the limit that another value exceeds.
     fn excess_of_value(&self) -> Option<Excess>
         ensures excess { option_map excess_of result ≡ limit.excess_of_value self.now.limits
             self.now.values }
@@ -74,7 +75,7 @@ impl LimitedReader {
         }
     }
 
-    // The limit that another list or map goes beyond.
+    // Returns the limit that another list or map exceeds.
     fn excess_of_container(&self) -> Option<Excess>
         ensures excess { option_map excess_of result ≡ limit.excess_of_container self.now.limits
             (kinds (levels_of self.now.reader)) self.now.values }
@@ -87,7 +88,7 @@ impl LimitedReader {
         }
     }
 
-    // The limit that a token which begins a value goes beyond.
+    // Returns the limit that a token exceeds if it begins a value.
     fn excess_of(&self, token: &Token<'_>) -> Option<Excess>
         requires { machine.begins_value (erase token.now) ≡ true }
         ensures excess { option_map excess_of result ≡ limit.value_excess self.now.limits

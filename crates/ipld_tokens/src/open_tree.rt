@@ -1,8 +1,8 @@
 //! A tree of the IPLD data model, built part by part.
 //!
-//! An [`OpenTree`] holds the lists and maps that are open, and the tree once it is complete. A reader of any format puts into it what it
-//! reads: values, keys, and where a list or a map begins and ends. However deep the tree nests, it is built by no recursion, and dropped
-//! by none.
+//! An [`OpenTree`] holds the open lists and maps, and the tree once it is complete. A reader of any
+//! format puts values and keys into it, and begins and ends lists and maps. Trees of any depth are
+//! built and dropped without recursion.
 //!
 //! ```
 //! use ipld_tokens::open_tree::OpenTree;
@@ -32,12 +32,12 @@ use std::alloc::{AllocError, AllocFailed, Global};
 use std::collections::BTreeMap;
 use std::mem;
 
-/// Why a part isn't put into an [`OpenTree`].
+/// The reason why a part isn't put into an [`OpenTree`].
 #[derive(Clone, Copy, Debug, PartialEq, Eq)]
 pub enum BuildError {
     /// An allocation failed.
     Memory,
-    /// The part can't stand where it came.
+    /// The part is not possible at this place.
     Misplaced,
     /// The map has the key already.
     DuplicateKey,
@@ -52,36 +52,36 @@ impl From<AllocError> for BuildError {
     }
 }
 
-// The most values that length hints reserve, for all lists together that are open.
+// The most values that length hints reserve, for all open lists together.
 const MOST_RESERVED: usize = 8192;
 
-// A list that is open: its values so far, and how many its length hint reserved.
+// An open list: its values so far, and the capacity that its length hint reserved.
 #[derive(Drop)]
 struct OpenList {
     items: Vec<Ipld>,
     reserved: usize,
 }
 
-// A map that is open: its members so far, and the key that waits for its value.
+// An open map: its members so far, and the key that waits for its value.
 #[derive(Drop)]
 struct OpenMap {
     members: BTreeMap<String, Ipld>,
     key: Option<String>,
 }
 
-// What the next value is put into.
+// The container that the next value is put into.
 #[derive(Drop)]
 enum Container {
     // The root, while it has no value.
     Root,
     List(OpenList),
     Map(OpenMap),
-    // Nothing: the root has its value, or there is no tree.
+    // No container: the root has its value, or there is no tree.
     Closed,
 }
 
 impl Container {
-    // Drops what it holds by a loop, however deep that nests.
+    // Drops its content by a loop, at any depth of nesting.
     fn discard(self) {
         match self {
             Container::List(list) => Ipld::List(list.items).discard(),
@@ -92,7 +92,7 @@ impl Container {
     }
 }
 
-// Puts a value behind the others of a list.
+// Puts a value at the end of a list.
 #[inline(always)]
 fn push_value(items: &mut Vec<Ipld>, value: Ipld) -> Result<(), BuildError>
     ensures { Pushes items.old.items value result items.new.items }
@@ -104,7 +104,7 @@ fn push_value(items: &mut Vec<Ipld>, value: Ipld) -> Result<(), BuildError>
     grow_and_push(items, value)
 }
 
-// Puts a value behind the others of a list that may be full.
+// Puts a value at the end of a list that may be full.
 #[inline(never)]
 fn grow_and_push(items: &mut Vec<Ipld>, value: Ipld) -> Result<(), BuildError>
     ensures { Pushes items.old.items value result items.new.items }
@@ -117,7 +117,7 @@ fn grow_and_push(items: &mut Vec<Ipld>, value: Ipld) -> Result<(), BuildError>
     Ok(())
 }
 
-// Gives back the capacity that a list doesn't use.
+// Releases the capacity that a list doesn't use.
 #[inline(never)]
 fn shrink(items: &mut Vec<Ipld>)
     ensures same { items.new.items ≡ items.old.items }
@@ -127,7 +127,8 @@ fn shrink(items: &mut Vec<Ipld>)
 }
 
 impl OpenList {
-    // An empty list. Its length hint reserves what it asks for, within the limit on a hint and what is spare.
+    // Creates an empty list. Reserves the capacity of its length hint, within the limit on a hint
+    // and the spare capacity.
     #[inline(always)]
     fn new(alloc: Global, hint: Option<usize>, spare: usize) -> Result<OpenList, AllocError>
         ensures empty { IfOk result (λ list. list.items.items ≡ []) }
@@ -141,7 +142,8 @@ impl OpenList {
         })
     }
 
-    // Its values. Where more than half of what the hint reserved is unused, it is given back.
+    // Returns its values. If they fill less than half of the reserved capacity, the rest is
+    // released.
     #[inline(always)]
     fn into_items(self) -> Vec<Ipld>
         ensures same { result.items ≡ self.items.items }
@@ -180,7 +182,7 @@ impl OpenMap {
         }
     }
 
-    // Its members, where no key waits for its value.
+    // Returns its members if no key waits for its value.
     #[inline(always)]
     fn end(self) -> Result<BTreeMap<String, Ipld>, BuildError>
         ensures { MatchResult result
@@ -198,17 +200,21 @@ impl OpenMap {
     }
 }
 
-/// A tree that is being built: the lists and maps that are open, and the tree once it is complete.
+/// A tree that is being built: the open lists and maps, and the tree once it is complete.
 ///
-/// However deep it nests, it is built by no recursion, and what it holds is dropped by a loop. It allocates what the tree takes, for each
-/// list and map that is open within another, and by length hints at most 8,192 values for all lists together that are open. After an
-/// error of any call what it holds is of no use, and is dropped with it.
+/// It is built without recursion, and its content is dropped by a loop, at any depth of nesting.
+///
+/// It allocates the tree, and a slot for each list and map that is open within another. Length
+/// hints reserve at most 8,192 values for all open lists together.
+///
+/// After an error of any call, its content is of no use. The content is dropped with the
+/// `OpenTree`.
 pub struct OpenTree {
     alloc: Global,
     innermost: Container,
     // The containers around the innermost, the outermost first.
     outer: Vec<Container>,
-    // How many values length hints may still reserve.
+    // The number of values that length hints may still reserve.
     spare: usize,
     // The value of the root, once it is complete.
     tree: Option<Ipld>,
@@ -220,7 +226,7 @@ pub struct OpenTree {
 impl OpenTree {
     ghost use Rattle.ipld_tokens.specs.OpenTree.{levels_of, state_of, around, inside, is_open, at_key, in_a_list, key_at, tree_found, has_open_key, Builds};
 
-    /// Nothing yet: a value comes next, which is the tree.
+    /// Creates an `OpenTree` without a value. A value comes next, which is the tree.
     pub fn new(alloc: Global) -> Self
         ensures { state_of result ≡ open_at [] }
     {
@@ -233,7 +239,8 @@ impl OpenTree {
         }
     }
 
-    /// Whether a value can come next: one does where nothing is complete yet, in a list, and in a map after a key.
+    /// Returns whether a value can come next. A value can come if nothing is complete yet, in a
+    /// list, and in a map after a key.
     #[inline(always)]
     pub fn takes_value(&self) -> bool
         ensures { result ≡ not (is_at_key (levels_of self.now)) }
@@ -246,7 +253,7 @@ impl OpenTree {
         }
     }
 
-    /// Whether a key can come next, or the end of a map.
+    /// Returns whether a key can come next, or the end of a map.
     #[inline(always)]
     pub fn is_at_key(&self) -> bool
         ensures { result ≡ at_key (state_of self.now) }
@@ -257,7 +264,7 @@ impl OpenTree {
         }
     }
 
-    /// Whether more comes: the tree isn't complete, nor was it rejected.
+    /// Returns whether more parts have to come: the tree is not complete and was not rejected.
     #[inline(always)]
     pub fn is_open(&self) -> bool
         ensures { result ≡ is_open (state_of self.now) }
@@ -265,7 +272,7 @@ impl OpenTree {
         !matches!(&self.innermost, Container::Closed)
     }
 
-    /// Whether the innermost map has the key, of a value that has come.
+    /// Returns whether the innermost map has the key, with a value that has been put.
     #[inline(always)]
     pub fn has_key(&self, key: &str) -> bool
         ensures { result ≡ has_open_key key.now (state_of self.now) }
@@ -276,7 +283,7 @@ impl OpenTree {
         }
     }
 
-    // How many lists and maps are open.
+    // Returns the number of open lists and maps.
     #[inline(always)]
     pub(crate) fn depth(&self) -> usize
         ensures { result ≡ length (levels_of self.now) }
@@ -287,12 +294,17 @@ impl OpenTree {
         }
     }
 
-    /// Puts a value into what is innermost. Where nothing is open it is the tree, which is complete then.
+    /// Puts a value into the innermost list or map. If no list or map is open, the value is the
+    /// tree, which is then complete.
     ///
     /// # Errors
     ///
-    /// `Misplaced` in a map where no key waits for a value, and where the tree is complete; `DuplicateKey` where the map has the key
-    /// already; `Memory` where the list or the map can't grow. The value is dropped.
+    /// - `Misplaced` in a map if no key waits for a value, or if the tree is complete or rejected.
+    /// - `DuplicateKey` if the map has the key already.
+    /// - `Memory` if the list or the map can't grow.
+    ///
+    /// If the call fails, the value is dropped. After `DuplicateKey`, the earlier value of the key
+    /// is dropped instead.
     #[inline(always)]
     pub fn put(&mut self, value: Ipld) -> Result<(), BuildError>
         ensures { Builds (PutsValue (levels_of self.old)) (completed (tree_of value)
@@ -304,7 +316,7 @@ impl OpenTree {
         }
     }
 
-    // Puts a value into whatever is innermost. It is kept out of line, so that a value of a list is moved once.
+    // Puts a value into any container. It is not inlined, so that a value of a list is moved once.
     #[inline(never)]
     fn put_any(&mut self, value: Ipld) -> Result<(), BuildError>
         ensures { Builds (PutsValue (levels_of self.old)) (completed (tree_of value)
@@ -324,7 +336,7 @@ impl OpenTree {
         }
     }
 
-    // The value is the tree: nothing is open.
+    // Completes the tree with this value. No list or map is open.
     #[inline(always)]
     fn complete(&mut self, value: Ipld)
         requires { self.old.innermost ≡ container.Root }
@@ -347,11 +359,11 @@ impl OpenTree {
         }
     }
 
-    /// Puts an integer: as [`OpenTree::put`], but with nothing to drop.
+    /// Puts an integer, as [`OpenTree::put`] does. An integer does not have to be dropped.
     ///
     /// # Errors
     ///
-    /// Those of [`OpenTree::put`].
+    /// The errors of [`OpenTree::put`].
     #[inline(always)]
     pub fn put_integer(&mut self, number: i128) -> Result<(), BuildError>
         ensures { Builds (PutsValue (levels_of self.old)) (completed (integer number)
@@ -366,7 +378,7 @@ impl OpenTree {
         }
     }
 
-    // Puts an integer into whatever is innermost, a list that is full too.
+    // Puts an integer into any container, including a full list.
     #[inline(never)]
     fn put_any_integer(&mut self, number: i128) -> Result<(), BuildError>
         ensures { Builds (PutsValue (levels_of self.old)) (completed (integer number)
@@ -375,12 +387,14 @@ impl OpenTree {
         self.put_any(Ipld::Integer(number))
     }
 
-    /// Takes a key, whose value comes next. Whether the map has it already is reported where the value comes; [`OpenTree::has_key`] says
-    /// it before.
+    /// Puts a key, whose value comes next.
+    ///
+    /// If the map has the key already, only the call that puts the value returns `DuplicateKey`.
+    /// [`OpenTree::has_key`] checks it earlier.
     ///
     /// # Errors
     ///
-    /// `Misplaced` where no map is innermost, and where another key waits for its value.
+    /// `Misplaced` if the innermost container is not a map, or if another key waits for its value.
     #[inline(always)]
     pub fn put_key(&mut self, key: String) -> Result<(), BuildError>
         ensures { Builds ⊥ (key_at (string_bytes key) (state_of self.old))
@@ -395,12 +409,15 @@ impl OpenTree {
         Err(BuildError::Misplaced)
     }
 
-    /// A list begins, as a value of what is innermost. Its length hint reserves the capacity that [`list_capacity`] says, and no more than
-    /// what the lists that are open leave of 8,192 values. Where no value can come, the list can be read, but not be put where it ends.
+    /// Begins a list as the next value.
+    ///
+    /// Reserves the capacity that [`list_capacity`] returns for the length hint, but no more than
+    /// the open lists leave of 8,192 values. If no value can come here, the list can be built, but
+    /// putting it after its end fails.
     ///
     /// # Errors
     ///
-    /// `Memory` where an allocation failed.
+    /// `Memory` if an allocation fails.
     #[inline(always)]
     pub fn begin_list(&mut self, hint: Option<usize>) -> Result<(), BuildError>
         ensures { Builds (Unit {0}) (open_at (in_list no_items ∷ levels_of self.old))
@@ -411,11 +428,12 @@ impl OpenTree {
         self.enter(Container::List(list))
     }
 
-    /// A map begins, as a value of what is innermost. Where no value can come, the map can be read, but not be put where it ends.
+    /// Begins a map as the next value. If no value can come here, the map can be built, but putting
+    /// it after its end fails.
     ///
     /// # Errors
     ///
-    /// `Memory` where an allocation failed.
+    /// `Memory` if an allocation fails.
     #[inline(always)]
     pub fn begin_map(&mut self) -> Result<(), BuildError>
         ensures { Builds (Unit {0}) (open_at (in_key no_members ∷ levels_of self.old))
@@ -427,7 +445,7 @@ impl OpenTree {
         }))
     }
 
-    // Goes on inside a container, for which is reserved what is not spare.
+    // Makes the container the innermost one. The capacity that it reserves is no longer spare.
     fn enter(&mut self, container: Container) -> Result<(), BuildError>
         requires opens { IsOpen container }
         requires within { reserved_for container + reserved_for self.old.innermost
@@ -437,7 +455,7 @@ impl OpenTree {
     {
         let around = mem::replace(&mut self.innermost, container);
         match around {
-            // Nothing is around the outermost container.
+            // The outermost container is not inside another.
             Container::Root => Ok(()),
             _ => match self.outer.push(around) {
                 Ok(()) => Ok(()),
@@ -449,7 +467,7 @@ impl OpenTree {
         }
     }
 
-    // Takes what is innermost out, and goes on in what is around it.
+    // Takes out the innermost container. The one around it becomes the innermost.
     #[inline(always)]
     fn leave(&mut self) -> Container
         ensures taken { result ≡ self.old.innermost }
@@ -463,12 +481,15 @@ impl OpenTree {
         }
     }
 
-    /// The innermost list ends. It is taken out, and the next value is put into what is around it: that list, or what it stands for. What
-    /// its length hint reserved can be reserved again, and where more than half of that is unused, it is given back.
+    /// Ends the innermost list and returns its items. The next value is put into the container
+    /// around it: the list, or another value that the list represents.
+    ///
+    /// The capacity that its length hint reserved can be reserved again. If the items fill less
+    /// than half (rounded down) of it, the unused capacity is released.
     ///
     /// # Errors
     ///
-    /// `Misplaced` where no list is innermost.
+    /// `Misplaced` if the innermost container is not a list.
     #[inline(always)]
     pub fn end_list(&mut self) -> Result<Vec<Ipld>, BuildError>
         ensures { MatchResult result
@@ -489,11 +510,12 @@ impl OpenTree {
         }
     }
 
-    /// The innermost map ends. It is taken out, and the next value is put into what is around it: that map, or what it stands for.
+    /// Ends the innermost map and returns its entries. The next value is put into the container
+    /// around it: the map, or another value that the map represents.
     ///
     /// # Errors
     ///
-    /// `Misplaced` where no map is innermost, and where a key waits for its value.
+    /// `Misplaced` if the innermost container is not a map, or if a key waits for its value.
     #[inline(always)]
     pub fn end_map(&mut self) -> Result<BTreeMap<String, Ipld>, BuildError>
         ensures { MatchResult result
@@ -511,7 +533,8 @@ impl OpenTree {
         }
     }
 
-    /// Drops what was built: there is no tree, and nothing can be put any more.
+    /// Rejects the tree: [`OpenTree::finish`] then returns `None`, and no value or key can be put.
+    /// Drops the innermost list or map, and the tree if it is complete.
     #[inline(never)]
     pub fn reject(&mut self)
         ensures { state_of self.new ≡ rejected never }
@@ -520,7 +543,7 @@ impl OpenTree {
         self.drop_tree();
     }
 
-    /// The tree, where it is complete.
+    /// Returns the tree if it is complete.
     pub fn finish(mut self) -> Option<Ipld>
         ensures { option_map tree_of result ≡ tree_found (state_of self) }
     {

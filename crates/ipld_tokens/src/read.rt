@@ -28,33 +28,47 @@ use ipld_cid::laws::cid_bytes_law;
 use ipld_tree::{Ipld, Limits};
 use std::alloc::Global;
 
-/// Reads a tree: the first tokens of the source have to be an item, which is taken, and nothing after it.
+/// Reads a tree from the first tokens of the source. These have to be an item. The item is taken,
+/// and no token after it.
 ///
-/// - `None`, `Unit` and `UnitStruct` are [`Ipld::Null`]; a scalar of any other kind is what it says, a `Char` a string of
-///   one character, and a `U128` an integer where it is at most [`i128::MAX`].
-/// - `Some` is what follows it.
-/// - A list, a map and a link are what they are in a tree. Each key of a map is a `Str` or a `Char`, and no two have the same string.
+/// - `None`, `Unit` and `UnitStruct` are [`Ipld::Null`]. A `Char` is a string of one character. A
+///   `U128` is an integer if it is at most [`i128::MAX`]. A scalar of any other kind is its own
+///   value, except that `UnitVariant` is rejected, like `Variant`.
+/// - `Some` is the value that follows it.
+/// - Lists, maps and links are lists, maps and links of the tree. The keys of a map are `Str` or
+///   `Char`, and no two of them have the same string.
 ///
-/// The source may not have failed before. It allocates the tree, and a slot for each list and map that is open within another. Where a
-/// list begins it reserves the capacity that [`list_capacity`](ipld_tree::list_capacity) says for its length hint, at most 4,096 values, and
-/// for all lists together that are open at most 8,192; a wrong hint changes no result but `Memory`. Where a list ends that uses less than
-/// half of what its hint reserved, it gives the rest back.
-/// Tokens that nest deeply are read by a loop, and where an error is returned what was read is dropped by one. A tree that is
-/// returned may nest so deep that its ordinary drop, which recurses, overruns the call stack: [`Ipld::discard`] drops it by a loop.
+/// The source must not have failed before.
+///
+/// It allocates the tree, and a slot for each list and map that is open within another. At the
+/// beginning of a list it reserves the capacity that [`list_capacity`](ipld_tree::list_capacity)
+/// returns for the length hint. This is at most 4,096 values for a list, and at most 8,192 for all
+/// open lists together. At the end of a list that uses less than half (rounded down) of its
+/// reserved capacity, the rest is released. A wrong hint does not change any result except
+/// `Memory`.
+///
+/// Deeply nested tokens are read by a loop. If an error is returned, the partial tree is dropped by
+/// a loop. A returned tree may nest so deep that its ordinary drop, which is recursive, overflows
+/// the call stack. [`Ipld::discard`] drops it by a loop.
 ///
 /// # Errors
 ///
-/// - [`TokenError::Token`]: the token can't stand where it came. No tree begins with it where a value has to come, or it isn't the
-///   bytes of a link after a link mark, or it is no string where a key has to come. It was taken, and nothing after it.
-/// - [`TokenError::Cid`]: the bytes after a link mark are no CID with a digest of at most 64 bytes. They were taken, and nothing
-///   after them.
-/// - [`TokenError::DuplicateKey`]: a map has the key already. The second value was taken, and nothing after it.
-/// - [`TokenError::End`]: no token remains, and no tree is complete.
-/// - [`TokenError::Source`]: the source failed in this call.
-/// - [`TokenError::Memory`]: an allocation failed. It allocates for a string, a character, bytes and a key, where a list or a map begins,
-///   and where a value is added to a list or to a map that lacks its key; nowhere else.
+/// - [`TokenError::Token`] if the token is not possible at its place. If a value has to come, no
+///   tree begins with the token. After a link mark, the token is not bytes. If a key has to come,
+///   the token is neither a string nor a character nor the end of the map. It was taken, and no
+///   token after it.
+/// - [`TokenError::Cid`] if the bytes after a link mark are not a CID with a digest of at most 64
+///   bytes. They were taken, and no token after them.
+/// - [`TokenError::DuplicateKey`] if a map has the key already. The second value was taken, and no
+///   token after it.
+/// - [`TokenError::End`] if no token remains, and no tree is complete.
+/// - [`TokenError::Source`] if the source failed in this call.
+/// - [`TokenError::Memory`] if an allocation fails. It allocates for a string, a character, bytes
+///   and a key, and at the beginning of a list or a map. It also allocates to add a value to a
+///   list, or to a map that lacks its key. It does not allocate otherwise.
 ///
-/// After `Source` what was taken is the beginning of a tree, and after `Memory` it ends with the token that needed memory.
+/// After `Source`, the tokens that were taken are the beginning of a tree. After `Memory`, they end
+/// with the token that needed memory.
 pub fn read_ipld<'a, T: TokenSource<'a>>(
     alloc: Global,
     source: &mut T,
@@ -96,27 +110,34 @@ pub fn read_ipld<'a, T: TokenSource<'a>>(
     ensures allowed { IfSource result (T.allows_fault (T.origin source.old)) }
     ensures ended { IfEnd result (T.allows_end (T.origin source.old)) }
 {
-    // A law, which does nothing when it runs: it says that bytes are read as a CID exactly where they are one's.
+    // A law, a no-op at run time: bytes are read as a CID if and only if they encode one.
     cid_bytes_law::<64>();
     consume(source, TreeReader::new(alloc))
 }
 
-/// Reads a tree within limits: as [`read_ipld`], but it stops at the first token that opens a list or a map deeper than
-/// [`Limits::levels`], or begins a value more than [`Limits::values`].
+/// Reads a tree within limits, as [`read_ipld`] does. It stops at the first token that opens a list
+/// or a map deeper than [`Limits::levels`], or that begins one value more than [`Limits::values`].
 ///
-/// A value begins with its token: a scalar, bytes, a link mark, `Seq`, `Map`. `Some` begins none, and a key is none. So the tokens of a
-/// tree go beyond no limit exactly where the tree is within them. The limits are looked at before the token is read: a token that goes
-/// beyond one, and can't stand where it came or is out of memory, is reported as `TooDeep` or `TooMany`; one that goes beyond both as
-/// `TooDeep`.
+/// A value begins with its token: a scalar, bytes, a link mark, `Seq` or `Map`. `Some` does not
+/// begin a value, and a key is not a value. So the tokens of a tree stay within the limits if and
+/// only if the tree does.
 ///
-/// The source may not have failed before. It allocates as [`read_ipld`] does: the tree, and a slot for each list and map that is open
-/// within another, so no more than `levels` of these. It reads and drops by loops, whatever the limits are.
+/// The limits are checked before the token is read. If a token exceeds a limit, the error is
+/// `TooDeep` or `TooMany`, even if the token is not possible at its place or an allocation for it
+/// fails. If it exceeds both, the error is `TooDeep`.
+///
+/// The source must not have failed before. It allocates as [`read_ipld`] does: the tree, and a slot
+/// for each list and map that is open within another, so at most `levels` slots. It reads and drops
+/// by loops, whatever the limits are.
 ///
 /// # Errors
 ///
-/// - [`ReadError::TooDeep`]: a token opens a list or a map where `levels` are open. It was taken, and nothing after it.
-/// - [`ReadError::TooMany`]: a token begins a value where `values` have begun. It was taken, and nothing after it.
-/// - [`ReadError::Token`]: an error of [`read_ipld`], where no token that was taken goes beyond a limit.
+/// - [`ReadError::TooDeep`] if a token opens a list or a map when `levels` are open. It was taken,
+///   and no token after it.
+/// - [`ReadError::TooMany`] if a token begins a value when `values` have begun. It was taken, and
+///   no token after it.
+/// - [`ReadError::Token`] with an error of [`read_ipld`], if no token that was taken exceeds a
+///   limit.
 pub fn read_ipld_within<'a, T: TokenSource<'a>>(
     alloc: Global,
     source: &mut T,
@@ -177,12 +198,12 @@ pub fn read_ipld_within<'a, T: TokenSource<'a>>(
     ensures allowed { UnlessBeyond result (λ r. IfSource r (T.allows_fault (T.origin source.old))) }
     ensures ended { UnlessBeyond result (λ r. IfEnd r (T.allows_end (T.origin source.old))) }
 {
-    // A law, which does nothing when it runs: it says that bytes are read as a CID exactly where they are one's.
+    // A law, a no-op at run time: bytes are read as a CID if and only if they encode one.
     cid_bytes_law::<64>();
     read_error_of(consume(source, LimitedReader::new(alloc, *limits)))
 }
 
-// The errors of both kinds as one.
+// Returns the errors of both kinds as one.
 fn read_error_of<F>(read: Result<Result<Ipld, Excess>, TokenError<F>>) -> Result<Ipld, ReadError<F>>
     ensures { result ≡ flatten read }
 {

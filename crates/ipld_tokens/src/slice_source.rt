@@ -9,14 +9,14 @@ ghost use Rattle.ipld_tokens.specs.SliceSource.{tokens_left, hints_left, has_sto
 use crate::source::{Stopped, TokenSource};
 use crate::token::Token;
 
-/// The tokens of a slice, in order, with their hints. It never fails, and does not allocate.
+/// The tokens of a slice, in order and with their hints. It never fails and does not allocate.
 #[derive(Debug, Drop)]
 pub struct SliceSource<'a> {
     tokens: &'a [Token<'a>],
 }
 
 impl<'a> SliceSource<'a> {
-    /// A source of all the tokens, each with its hint.
+    /// Creates a source of all the tokens, with their hints.
     pub fn new(tokens: &'a [Token<'a>]) -> Self
         ensures tokens { tokens_left result ≡ map erase tokens.entry.now }
         ensures hints { hints_left result ≡ map hint_of tokens.entry.now }

@@ -1,4 +1,4 @@
-//! Where tokens come from.
+//! The sources of tokens.
 
 ghost use Rattle.std.specs.Prelude.{◌≡◌, ℕ, List, Bool, true, is_err};
 ghost use Rattle.ipld_tokens.specs.Token.{TokenModel};
@@ -6,11 +6,11 @@ ghost use Rattle.ipld_tokens.specs.Source.{NextToken};
 
 use crate::token::Token;
 
-/// A source of tokens. It has a finite list of tokens that remain, and either has failed or has not.
+/// A source of tokens. A finite list of tokens remains in it, and it either has failed or has not.
 ///
 /// A source that has failed returns an error from then on.
 pub trait TokenSource<'a> {
-    /// Why a source fails.
+    /// The reason why a source fails.
     type Fault: Drop;
 
     // the tokens that remain, with bytes by their contents and without hints
@@ -28,9 +28,13 @@ pub trait TokenSource<'a> {
     // whether a source with this origin may come to its end
     ghost allows_end: { List ℕ → Type 0 };
 
-    /// The next token, which is taken off what remains, or `None` where nothing remains.
+    /// Returns the next token and removes it from the remaining tokens, or returns `None` if no
+    /// token remains.
     ///
-    /// An error leaves what remains as it was, and a source that has failed for good.
+    /// # Errors
+    ///
+    /// The error of a source that failed, in this call or before. The remaining tokens stay as they
+    /// were, and the source has failed for good.
     fn next_token(&mut self) -> Result<Option<Token<'a>>, Self::Fault>
         ensures next { NextToken (allows_fault (origin self.old)) (allows_end (origin self.old))
             (remaining self.old) (remaining self.new) result }
@@ -38,11 +42,11 @@ pub trait TokenSource<'a> {
         ensures failed { failed self.new ≡ is_err result }
         ensures stays { failed self.old ≡ true → is_err result ≡ true };
 
-    /// Whether the source has failed.
+    /// Returns whether the source has failed.
     fn has_failed(&self) -> bool
         ensures { result ≡ failed self.now };
 }
 
-/// Why a source over memory stops: it was made to.
+/// The reason why a source over memory stops: it was made to stop.
 #[derive(Clone, Copy, Debug, PartialEq, Eq)]
 pub struct Stopped;

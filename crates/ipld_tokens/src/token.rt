@@ -4,17 +4,17 @@ ghost use Rattle.std.specs.Prelude.{◌≡◌};
 ghost use Rattle.ipld_tokens.specs.Token.{erase, bytes_in};
 ghost use Rattle.ipld_tokens.specs.Hints.{hint_of};
 
-/// The bytes of a token, lent or owned.
+/// The bytes of a token, borrowed or owned.
 #[derive(Debug, PartialEq, Eq, Drop)]
 pub enum TokenBytes<'a> {
-    /// Bytes that the source lends.
+    /// Bytes that are borrowed from the source.
     Lent(&'a [u8]),
     /// Bytes that the source made.
     Owned(Vec<u8>),
 }
 
 impl<'a> TokenBytes<'a> {
-    /// The bytes. Does not allocate.
+    /// Returns the bytes. Does not allocate.
     #[inline(always)]
     pub fn as_slice(&self) -> &[u8]
         ensures { result.now ≡ bytes_in self.now }
@@ -26,13 +26,17 @@ impl<'a> TokenBytes<'a> {
     }
 }
 
-/// A step of a serialized value, in the kinds of serde's data model. A value is one or more tokens:
+/// A step of a serialized value, in the kinds of serde's data model.
 ///
-/// - a scalar is one of `None`, `Unit`, `UnitStruct`, `Bool`, `Int`, `U128`, `Char`, `Str`, `Bytes`, `UnitVariant`;
-/// - `Some` and `Variant` stand before one value;
-/// - a list is `Seq`, its values, and `SeqEnd`;
-/// - a map is `Map`, its pairs of a key and a value, each any value, and `MapEnd`;
-/// - a link is `Link`, and `Bytes` that are a CID.
+/// A value is one or more tokens:
+///
+/// - A scalar is one of `None`, `Unit`, `UnitStruct`, `Bool`, `Int`, `U128`, `Char`, `Str`, `Bytes`
+///   and `UnitVariant`.
+/// - `Some` and `Variant` come before one value.
+/// - A list is `Seq`, its values, and `SeqEnd`.
+/// - A map is `Map`, its pairs of a key and a value, and `MapEnd`. Keys and values can be any
+///   values.
+/// - A link is `Link`, and `Bytes` that are a CID.
 #[derive(Debug, PartialEq, Eq, Drop)]
 pub enum Token<'a> {
     /// Nothing.
@@ -61,18 +65,18 @@ pub enum Token<'a> {
     Variant(&'a str),
     /// The bytes of a CID come next.
     Link,
-    /// A list begins. The number is a hint of its length, and may be wrong.
+    /// The beginning of a list. The number is a hint of its length, and may be wrong.
     Seq(Option<usize>),
-    /// A list ends.
+    /// The end of a list.
     SeqEnd,
-    /// A map begins. The number is a hint of how many pairs it has, and may be wrong.
+    /// The beginning of a map. The number is a hint of the number of its pairs, and may be wrong.
     Map(Option<usize>),
-    /// A map ends.
+    /// The end of a map.
     MapEnd,
 }
 
 impl<'a> Token<'a> {
-    // A token of this content, which it borrows.
+    // Returns a token with this content, which it borrows.
     pub(crate) fn lend(&'a self) -> Token<'a>
         ensures same { erase result ≡ erase self.now }
         ensures hint { hint_of result ≡ hint_of self.now }

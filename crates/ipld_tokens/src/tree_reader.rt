@@ -30,10 +30,10 @@ impl From<BuildError> for Rejection {
     }
 }
 
-// What has to come next.
+// The part that has to come next.
 #[derive(Clone, Copy)]
 enum Expected {
-    // What the tree takes, or its end.
+    // Any part that the tree takes, or its end.
     Any,
     // A value.
     Value,
@@ -49,7 +49,7 @@ pub(crate) struct TreeReader {
     expected: Expected,
 }
 
-// An integer within the model's.
+// Returns the number as an integer of the data model, if it fits.
 fn integer_of(number: u128) -> Option<i128>
     ensures { result ≡ (if nat_lt number (2 ^ 127) then Some (pos number) else None) }
 {
@@ -68,11 +68,11 @@ fn text_of(alloc: Global, character: char) -> Result<String, AllocError>
     Ok(text)
 }
 
-// The link that the bytes encode.
+// Returns the link that the bytes encode.
 fn link_of_bytes(bytes: &[u8]) -> Result<Ipld, Rejection>
     ensures { MakesLink bytes.now result }
 {
-    // A law, which does nothing when it runs: it says that bytes are read as a CID exactly where they are one's.
+    // A law, a no-op at run time: bytes are read as a CID if and only if they encode one.
     cid_bytes_law::<64>();
     match Cid::try_from(bytes) {
         Ok(cid) => Ok(Ipld::Link(cid)),
@@ -80,7 +80,7 @@ fn link_of_bytes(bytes: &[u8]) -> Result<Ipld, Rejection>
     }
 }
 
-// Whether the token ends a list.
+// Returns whether the token ends a list.
 #[inline(always)]
 fn ends_list(token: &Token<'_>) -> bool
     ensures { result ≡ ends_list (erase token.now) }
@@ -101,7 +101,7 @@ impl TreeReader {
         }
     }
 
-    // A list begins.
+    // Begins a list.
     fn open_list(&mut self, hint: Option<usize>) -> Result<(), Rejection>
         ensures { Follows (Unit {0}) (open_at (in_list no_items ∷ levels_of self.old))
             (state_of self.new) result }
@@ -111,7 +111,7 @@ impl TreeReader {
         Ok(())
     }
 
-    // A map begins.
+    // Begins a map.
     fn open_map(&mut self) -> Result<(), Rejection>
         ensures { Follows (Unit {0}) (open_at (in_key no_members ∷ levels_of self.old))
             (state_of self.new) result }
@@ -121,7 +121,7 @@ impl TreeReader {
         Ok(())
     }
 
-    // A value is complete.
+    // Puts a complete value.
     fn complete(&mut self, value: Ipld) -> Result<(), Rejection>
         ensures { Follows (PutsValue (levels_of self.old)) (completed (tree_of value)
             (levels_of self.old)) (state_of self.new) result }
@@ -131,7 +131,7 @@ impl TreeReader {
         Ok(())
     }
 
-    // The end of a list comes.
+    // Ends the innermost list.
     fn end_list(&mut self) -> Result<(), Rejection>
         ensures { Follows (AllocatesOpen (levels_of self.old) seq_end)
             (open_step (levels_of self.old) seq_end) (state_of self.new) result }
@@ -140,7 +140,7 @@ impl TreeReader {
         self.complete(Ipld::List(items))
     }
 
-    // The innermost map ends.
+    // Ends the innermost map.
     fn end_map(&mut self) -> Result<(), Rejection>
         requires { building.at_key (building.state_of self.old.tree) ≡ true }
         ensures { Follows (PutsClosed (levels_of self.old)) (closed (levels_of self.old))
@@ -216,7 +216,7 @@ impl TreeReader {
         Ok(())
     }
 
-    // A token where a value has to come.
+    // Takes a token where a value has to come.
     fn take_value(&mut self, token: &Token<'_>) -> Result<(), Rejection>
         ensures { Follows (AllocatesValue (levels_of self.old) (erase token.now))
             (value_step (levels_of self.old) (erase token.now)) (state_of self.new) result }
@@ -239,7 +239,7 @@ impl TreeReader {
         }
     }
 
-    // Whether a value may come: neither a key nor the bytes of a link have to.
+    // Returns whether a value may come: neither a key nor the bytes of a link have to.
     pub(crate) fn takes_value(&self) -> bool
         ensures { result ≡ takes_value (state_of self.now) }
     {
@@ -250,14 +250,14 @@ impl TreeReader {
         }
     }
 
-    // How many lists and maps are open.
+    // Returns the number of open lists and maps.
     pub(crate) fn depth(&self) -> usize
         ensures { result ≡ length (levels_of self.now) }
     {
         self.tree.depth()
     }
 
-    // A key is complete.
+    // Puts a complete key.
     fn keep_key(&mut self, key: String) -> Result<(), Rejection>
         requires { building.at_key (building.state_of self.old.tree) ≡ true }
         ensures { Follows ⊥ (key_kept (string_bytes key) (levels_of self.old))
@@ -268,7 +268,7 @@ impl TreeReader {
         Ok(())
     }
 
-    // A token where a key has to come, or the end of the map.
+    // Takes a token where a key has to come, or the end of the map.
     fn take_key(&mut self, token: &Token<'_>) -> Result<(), Rejection>
         requires { building.at_key (building.state_of self.old.tree) ≡ true }
         ensures { Follows (AllocatesKeyToken (levels_of self.old) (erase token.now))
@@ -288,7 +288,7 @@ impl TreeReader {
         }
     }
 
-    // A token where a value may come, or a key, or an end.
+    // Takes a token where a value may come, or a key, or an end.
     fn take_open(&mut self, token: &Token<'_>) -> Result<(), Rejection>
         requires { building.is_open (building.state_of self.old.tree) ≡ true }
         ensures { Follows (AllocatesOpen (levels_of self.old) (erase token.now))
@@ -303,7 +303,7 @@ impl TreeReader {
         }
     }
 
-    // A token where the bytes of a link have to come.
+    // Takes a token where the bytes of a link have to come.
     fn take_link(&mut self, token: &Token<'_>) -> Result<(), Rejection>
         ensures { Follows (AllocatesLink (levels_of self.old) (erase token.now))
             (link_step (levels_of self.old) (erase token.now)) (state_of self.new) result }

@@ -1,4 +1,4 @@
-//! Tokens from a tree.
+//! The tokens of a tree.
 
 ghost use Rattle.std.specs.Prelude.{◌≡◌, ◌≤◌, ◌^◌, ◌+◌, suc, ◌∷◌, ◌++◌, None, true, false, is_err, length, vec_capacity, IfOk, IfErr, OnOk, OnErr, OnSome, MatchOption, MatchResult};
 ghost use Rattle.ipld_tree.specs.TreeOf.{tree_of};
@@ -19,8 +19,8 @@ use std::alloc::{AllocError, Global};
 use std::collections::btree_map;
 use std::slice;
 
-// What is left of a value: all of it, the bytes of a link, the items of a list and its end, or a map's next value, if its
-// key was given, its other pairs and its end.
+// The remaining part of a value: all of it, the bytes of a link, the items of a list and its end,
+// or a map's next value (if its key was yielded), its other pairs and its end.
 #[derive(Drop)]
 enum TokenCursor<'a> {
     Itself(&'a Ipld),
@@ -29,7 +29,7 @@ enum TokenCursor<'a> {
     Members(Option<&'a Ipld>, btree_map::Iter<'a, String, Ipld>),
 }
 
-// What a cursor yields: a token, what is left of it, and what opens in it.
+// A step of a cursor: a token, the rest of the cursor, and the cursor that opens in it.
 #[derive(Drop)]
 struct Step<'a> {
     token: Token<'a>,
@@ -37,10 +37,12 @@ struct Step<'a> {
     inner: Option<TokenCursor<'a>>,
 }
 
-/// The tokens of a tree, the keys of each map in byte order. The hint of each list and map is its true length.
+/// The tokens of a tree, with the keys of every map in byte order. The hint of a list or a map is
+/// its true length.
 ///
-/// It borrows the tree. [`IpldTokens::new`] allocates what the walk needs, and after it only the bytes of a link are allocated. Where
-/// that allocation fails the source has failed for good, and the bytes remain. It fails nowhere else.
+/// It borrows the tree. [`IpldTokens::new`] allocates the memory for the walk. After that, only the
+/// bytes of a link are allocated. If that allocation fails, the source has failed for good, and the
+/// bytes remain. It does not fail otherwise.
 #[derive(Drop)]
 pub struct IpldTokens<'a> {
     alloc: Global,
@@ -54,13 +56,17 @@ impl<'a> IpldTokens<'a> {
 
     /// Returns a source of the tokens of the tree.
     ///
-    /// It measures the nesting first, as [`Ipld::try_nesting`] does, and then allocates at once a slot for the value itself and one for
-    /// each level of nesting. So it allocates once if lists and maps nest at most 1,024 levels deep, down to which it recurses; of a
-    /// deeper tree measuring allocates too, and gives that back.
+    /// It first measures the nesting, as [`Ipld::try_nesting`] does. Then it allocates at once a
+    /// slot for the value itself and one for each level of nesting.
+    ///
+    /// The measurement recurses down to 1,024 levels. So `new` allocates only once if lists and
+    /// maps nest at most 1,024 levels deep. In a deeper tree, the measurement also allocates, and
+    /// releases that memory afterwards.
     ///
     /// # Errors
     ///
-    /// `AllocError` if an allocation fails, or if the tree nests deeper than a `usize` counts, as no tree that fits in memory does.
+    /// `AllocError` if an allocation fails, or if the tree nests deeper than a `usize` can count.
+    /// No tree that fits in memory nests that deep.
     pub fn new(alloc: Global, tree: &'a Ipld) -> Result<Self, AllocError>
         ensures tokens { IfOk result (λ source. tokens_left source ≡ tokens_of_tree
             (tree_of tree.now)) }
@@ -136,7 +142,7 @@ fn slots_needed(alloc: Global, tree: &Ipld) -> Result<Option<usize>, AllocError>
     Ok(tree.try_nesting(alloc)?.checked_add(1))
 }
 
-// Puts what is left back, below what opened.
+// Puts the rest back, below the cursor that opened.
 fn push_cursors<'a>(
     stack: &mut Vec<TokenCursor<'a>>,
     rest: Option<TokenCursor<'a>>,
@@ -156,7 +162,7 @@ fn push_cursors<'a>(
     }
 }
 
-// The token that a value begins with, and what opens in it.
+// Returns the token that a value begins with, and the cursor that opens in it.
 fn begin_value<'a>(value: &'a Ipld) -> (Token<'a>, Option<TokenCursor<'a>>)
     ensures tokens { tokens_of_tree (tree_of value.now) ≡ erase result.0 ∷ all_left
         (cursors_in result.1) }
@@ -181,7 +187,7 @@ fn begin_value<'a>(value: &'a Ipld) -> (Token<'a>, Option<TokenCursor<'a>>)
     }
 }
 
-// A value, and what comes after it.
+// Returns the step into a value, and the rest after it.
 fn step_into<'a>(value: &'a Ipld, rest: Option<TokenCursor<'a>>) -> Step<'a>
     ensures rest { result.rest ≡ rest.entry }
     ensures tokens { tokens_of_tree (tree_of value.now) ≡ erase result.token ∷ all_left
@@ -225,7 +231,7 @@ fn map_step<'a>(mut members: btree_map::Iter<'a, String, Ipld>) -> Step<'a>
     }
 }
 
-// The cursor is handed back where an allocation fails for the bytes of a link.
+// Returns the next step. If the allocation of the bytes of a link fails, it returns the cursor.
 fn cursor_step<'a>(alloc: Global, cursor: TokenCursor<'a>) -> Result<Step<'a>, TokenCursor<'a>>
     ensures steps { MatchResult result (λ s. StepOf cursor.entry s) (λ c. c ≡ cursor.entry) }
     ensures counts { IfOk result (λ s. CountsFirst s.token (left_of cursor.entry)) }

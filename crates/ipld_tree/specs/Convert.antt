@@ -1,4 +1,5 @@
--- What a conversion of a value of the IPLD data model returns: a type takes the content of one kind, and an integer has to be in the type's range.
+-- The results of conversions of values of the IPLD data model. A type takes the content of one
+-- kind, and an integer has to be in the type's range.
 use Rattle.std.specs.Prelude.{◌≡◌, ℕ, ℤ, pos, negsuc, ◌^◌, ◌-◌, nat_lt, List, Bool, Option, Some, None, Result, Ok, Err, if◌then◌else◌}
 use Rattle.std.specs.Option.{ok_or}
 use Rattle.std.specs.Result.{result_map_both}
@@ -13,9 +14,9 @@ use Rattle.ipld_tree.specs.declared.convert.ConversionError.{ConversionError}
 use Rattle.ipld_tree.specs.declared.convert.ConversionError.TheVariants.{WrongIpldKind, FromIpld}
 use Rattle.ipld_tree.specs.declared.convert.TargetType.{TargetType}
 
--- ---- the content of each kind
+-- ---- the content of each kind, or nothing for a tree of another kind
 
--- nothing, of Null
+-- the unit value, of Null
 abbrev pub nothing_in : Tree → Option (Unit {0})
 nothing_in null = Some tt
 nothing_in t = None
@@ -57,24 +58,24 @@ link_in t = None
 
 -- ---- ranges
 
--- the number, where an unsigned type of so many bits holds it
+-- the number if an unsigned type of `bits` bits holds it
 abbrev pub unsigned_at : ℕ → ℤ → Option ℕ
 unsigned_at bits (pos n) = if nat_lt n (2 ^ bits) then Some n else None
 unsigned_at bits (negsuc n) = None
 
--- the number, where a signed type of so many bits holds it
+-- the number if a signed type of `bits` bits holds it
 abbrev pub signed_at : ℕ → ℤ → Option ℤ
 signed_at bits (pos n) = if nat_lt n (2 ^ (bits - 1)) then Some (pos n) else None
 signed_at bits (negsuc n) = if nat_lt n (2 ^ (bits - 1)) then Some (negsuc n) else None
 
--- the number, unless it is negative: `u128` holds each such number of an `Ipld`
+-- the number if it is not negative. `u128` holds every such number of an `Ipld`.
 abbrev pub not_negative : ℤ → Option ℕ
 not_negative (pos n) = Some n
 not_negative (negsuc n) = None
 
 -- ---- conversions
 
--- a type that takes one kind: its content, or which kind is found
+-- the content that a type of one kind takes, or an error with the kinds expected and found
 abbrev pub of_kind : {C : Type 0} → IpldKind → (Tree → Option C) → Tree → Result C ConversionError
 of_kind expected content t = ok_or (content t) (WrongIpldKind expected (kind_of t))
 
@@ -82,18 +83,18 @@ abbrev pub in_range : {N : Type 0} → (ℤ → Option N) → TargetType → Res
 in_range within target (Ok n) = ok_or (within n) (FromIpld Integer target)
 in_range within target (Err e) = Err e
 
--- The integer that a type takes from a tree: the number, or an error with the kind that is found,
--- or an error that the type is too narrow (this project's own; the Rust crate's rules).
+-- The integer that a type takes from a tree: the number, an error with the kind that is found, or
+-- an error that the type is too narrow (this project's own; the Rust crate's rules).
 abbrev pub integer_within : {N : Type 0} → (ℤ → Option N) → TargetType → Tree → Result N ConversionError
 integer_within within target t = in_range within target (of_kind Integer integer_in t)
 
--- The content that an `Option` of a type takes: nothing from null, and otherwise what the type
--- takes (this project's own; the Rust crate's rules).
+-- The content that an `Option` of a type takes: nothing from Null, and otherwise the content that
+-- the type takes (this project's own; the Rust crate's rules).
 abbrev pub optional : {C : Type 0} → (Tree → Result C ConversionError) → Tree → Result (Option C) ConversionError
 optional taken null = Ok None
 optional taken t = result_map_both Some (λ e. e) (taken t)
 
--- True if a conversion returns what the value's tree yields, or is rejected with the error that it
--- yields (this project's own; the Rust crate's rules).
+-- True if a conversion returns the content or the error that `taken` yields for the tree of the
+-- value (this project's own; the Rust crate's rules).
 abbrev pub Converts : {T C : Type 0} → (T → C) → (Tree → Result C ConversionError) → Ipld → Result T ConversionError → Type 0
 Converts contents taken value result = result_map_both contents (λ e. e) result ≡ taken (tree_of value)

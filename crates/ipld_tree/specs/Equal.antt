@@ -1,4 +1,5 @@
--- When two trees are equal: where they are of one kind of the IPLD data model, and hold the same.
+-- Equality of trees: two trees are equal if they are of one kind of the IPLD data model, with equal
+-- contents.
 use Rattle.std.specs.Prelude.{◌&&◌, Bool, true, false}
 use Rattle.std.specs.Bool.{beq}
 use Rattle.std.specs.Ordering.{int_eq}
@@ -7,7 +8,7 @@ use Rattle.ipld_cid.specs.Order.{link_eq}
 use Rattle.ipld_tree.specs.Tree.{Tree, null, boolean, integer, text, bytes, list, entries, link, Items, no_items, item, Members, no_members, member}
 
 abbrev mutual
-  -- Whether two trees are equal.
+  -- Returns whether two trees are equal.
   pub tree_eq : Tree → Tree → Bool
   tree_eq null null = true
   tree_eq (boolean a) (boolean b) = beq a b

@@ -1,4 +1,5 @@
--- Trees of the IPLD data model, one value at a time: whether two values are of one kind and hold as much, the values inside left aside.
+-- Comparison of trees of the IPLD data model, one value at a time: the kind, the content, and the
+-- number of items or the keys, without the values inside.
 use Rattle.std.specs.Prelude.{◌&&◌, Bool, true, false, List, [], ◌∷◌}
 use Rattle.std.specs.Bool.{beq}
 use Rattle.std.specs.Ordering.{int_eq}
@@ -6,13 +7,13 @@ use Rattle.std.specs.Str.{bytes_eq}
 use Rattle.ipld_cid.specs.Order.{link_eq}
 use Rattle.ipld_tree.specs.Tree.{Tree, null, boolean, integer, text, bytes, list, entries, link, Items, no_items, item, Members, no_members, member}
 
--- as many items
+-- whether two lists have the same number of items
 abbrev pub count_eq : Items → Items → Bool
 count_eq no_items no_items = true
 count_eq (item t ts) (item u us) = count_eq ts us
 count_eq _ _ = false
 
--- the same keys, in the same order
+-- whether two maps have the same keys, in the same order
 abbrev pub keys_eq : Members → Members → Bool
 keys_eq no_members no_members = true
 keys_eq (member j t ms) (member k u ns) = bytes_eq j k && keys_eq ms ns

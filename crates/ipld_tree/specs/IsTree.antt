@@ -1,10 +1,12 @@
--- What every value of the IPLD data model meets here: a string is UTF-8, and a link is a valid CID.
+-- The condition that every value of the IPLD data model meets here: its strings are UTF-8, and its
+-- links are valid CIDs.
 use Rattle.std.specs.Str.{IsUtf8}
 use Rattle.ipld_cid.specs.Cid.{IsValid}
 use Rattle.ipld_tree.specs.Tree.{Tree, null, boolean, integer, text, bytes, list, entries, link, Items, no_items, item, Members, no_members, member}
 
 abbrev mutual
-  -- True if each text in the tree is UTF-8 and each link a valid CID (The IPLD Data Model).
+  -- True if every string in the tree, keys included, is UTF-8 and every link is a valid CID (The
+  -- IPLD Data Model).
   pub IsTree : Tree → Type 0
   IsTree null = Unit {0}
   IsTree (boolean b) = Unit {0}

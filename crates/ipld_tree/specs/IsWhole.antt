@@ -1,4 +1,6 @@
--- What a tree of the IPLD data model meets beside `IsTree`: its integers are within 128 bits, its bytes are bytes, and the keys of each map ascend in byte order, none twice.
+-- The conditions that a tree of the IPLD data model meets in addition to `IsTree`. Its integers fit
+-- in signed 128 bits, its bytes are below 256, and the keys of every map ascend in byte order
+-- without repeats.
 use Rattle.std.specs.Prelude.{ℕ, List, [], ◌∷◌, FitsSigned}
 use Rattle.std.specs.Int.{w128}
 use Rattle.std.specs.List.Sorted.{IsStrictlySortedBy}
@@ -11,13 +13,13 @@ abbrev pub keys_in : Members → List (List ℕ)
 keys_in no_members = []
 keys_in (member k t ms) = k ∷ keys_in ms
 
--- the keys ascend in byte order, none twice
+-- True if the keys ascend in byte order, without repeats.
 abbrev pub Ascends : Members → Type 0
 Ascends ms = IsStrictlySortedBy (slice_cmp nat_cmp) (keys_in ms)
 
 abbrev mutual
-  -- True if integers are within 128 bits, bytes are bytes, and the keys of each map ascend in byte
-  -- order, none twice (this project's own limits).
+  -- True if integers fit in signed 128 bits, bytes are below 256, and the keys of every map ascend
+  -- in byte order without repeats (this project's own limits).
   pub IsWhole : Tree → Type 0
   IsWhole null = Unit {0}
   IsWhole (boolean b) = Unit {0}

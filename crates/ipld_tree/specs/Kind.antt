@@ -14,7 +14,7 @@ kind_of (list ts) = List
 kind_of (entries ms) = Map
 kind_of (link l) = Link
 
--- a value of the kind owns memory: it is a string, bytes, a list or a map
+-- True if a value of the kind owns memory: it is a string, bytes, a list or a map.
 abbrev pub HoldsMemory : Tree → Type 0
 HoldsMemory null = ⊥
 HoldsMemory (boolean b) = ⊥

@@ -1,2 +1,2 @@
--- Proofs that the source cites, of laws that a trait asks for: no definitions.
+-- Proofs of trait laws that the source cites, without definitions.
 pub mod EqualLaws

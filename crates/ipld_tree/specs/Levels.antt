@@ -1,4 +1,5 @@
--- Where a walk of a tree of the IPLD data model stands: what each of its cursors has left, the outermost first, how many iterations it took, and for how many cursors it has memory.
+-- The state of a walk of a tree of the IPLD data model: the values that its cursors have left, the
+-- outermost first, the number of iterations so far, and the capacity for cursors.
 use Rattle.std.specs.Prelude.{◌≡◌, ◌≤◌, ℕ, suc, ◌+◌, max, List, [], ◌∷◌, ◌++◌, length, Option, MatchOption}
 use Rattle.std.specs.Borrow.{Bor}
 use Rattle.ipld_tree.specs.Tree.{Tree}
@@ -6,8 +7,8 @@ use Rattle.ipld_tree.specs.TreeOf.{tree_of}
 use Rattle.ipld_tree.specs.Walk.{preorder, nest, containers}
 use Rattle.ipld_tree.specs.declared.ipld.Ipld.{Ipld}
 
--- The state of a walk: what each cursor has left, how many iterations it took, and for how many
--- cursors it has memory.
+-- The state of a walk: the values that its cursors have left, the outermost first, the number of
+-- iterations so far, and the capacity for cursors.
 pub record Walk : Type 0 where
   pub levels : List (List Ipld)
   pub iterations : ℕ
@@ -19,7 +20,7 @@ abbrev pub walks : List Ipld → List Tree
 walks [] = []
 walks (x ∷ xs) = preorder (tree_of x) ++ walks xs
 
--- the innermost level is walked first
+-- the trees that the levels still yield. The innermost level is walked first.
 abbrev pub trees_left : List (List Ipld) → List Tree
 trees_left [] = []
 trees_left (xs ∷ levels) = trees_left levels ++ walks xs
@@ -32,7 +33,7 @@ abbrev pub deepest : List Ipld → ℕ
 deepest [] = 0
 deepest (x ∷ xs) = max (nest (tree_of x)) (deepest xs)
 
--- The number of cursors that the walk holds at most from here on.
+-- The largest number of cursors that a walk with these levels holds from here on.
 abbrev pub slots : List (List Ipld) → ℕ
 slots [] = 0
 slots (xs ∷ levels) = suc (max (deepest xs) (slots levels))
@@ -41,12 +42,13 @@ slots (xs ∷ levels) = suc (max (deepest xs) (slots levels))
 abbrev pub held : Walk → ℕ
 held w = length w.levels
 
--- how many iterations are left: one yields a tree, one drops a cursor that has ended, and the last finds none
+-- the number of iterations that are left: one yields a tree, one drops a cursor that has ended, and
+-- the last finds that no cursor is left
 abbrev pub iterations_left : Walk → ℕ
 iterations_left w = length (rest w) + containers (rest w) + held w + 1
 
--- True if a call of `next` leads from the walk before to the walk after: it counts each iteration,
--- the slots that are needed never grow, and the memory stays as it was.
+-- True if a call of `next` leads from `before` to `after`. Every iteration is counted, the walk has
+-- no levels after its end, the slots that are needed don't grow, and the capacity stays the same.
 pub record NextCall (before : Walk) (result : Option (Bor Ipld)) (after : Walk) : Type 0 where
   pub iterations : MatchOption result (after.iterations ≡ before.iterations + iterations_left before) (λ _. after.iterations + iterations_left after ≡ before.iterations + iterations_left before)
   pub ended : MatchOption result (after.levels ≡ []) (λ _. Unit {0})

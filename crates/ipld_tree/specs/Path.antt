@@ -1,4 +1,5 @@
--- What stands at the end of a path (IPLD data model, pathing): a string for each segment, looked up one after the other.
+-- The value at the end of a path (IPLD data model, pathing). The segments are strings, which are
+-- looked up one after the other.
 use Rattle.std.specs.Prelude.{ℕ, ◌==◌, nat_lt, List, [], ◌∷◌, length, filter, Option, Some, None, Result, Ok, Err, if◌then◌else◌}
 use Rattle.std.specs.List.{onto_first}
 use Rattle.ipld_tree.specs.Tree.{Tree}
@@ -14,14 +15,14 @@ parts_of (c ∷ cs) = if c == 47 then [] ∷ parts_of cs else onto_first c (part
 abbrev pub segments : List ℕ → List (List ℕ)
 segments path = filter (λ part. nat_lt 0 (length part)) (parts_of path)
 
--- what is looked up next, where a tree was found
+-- Returns the result of `next` for a tree that was found, and otherwise the earlier result.
 abbrev pub then_in : (Tree → Result (Option Tree) LookupError) → Result (Option Tree) LookupError → Result (Option Tree) LookupError
 then_in next (Err e) = Err e
 then_in next (Ok None) = Ok None
 then_in next (Ok (Some t)) = next t
 
--- The value after all the segments, each looked up as a string; after none it is the tree itself
--- (The IPLD Data Model, pathing).
+-- The value after all the segments, which are looked up as strings. Without segments it is the tree
+-- itself (The IPLD Data Model, pathing).
 abbrev pub found_along : List (List ℕ) → Tree → Result (Option Tree) LookupError
 found_along [] t = Ok (Some t)
 found_along (s ∷ ss) t = then_in (found_along ss) (found_at t (name_ref s))

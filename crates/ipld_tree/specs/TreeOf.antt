@@ -1,4 +1,4 @@
--- The tree of the IPLD data model that an `Ipld` is.
+-- The model of an `Ipld`: a tree of the IPLD data model.
 use Rattle.std.specs.Prelude.{List, [], ◌∷◌, map, String, string_bytes}
 use Rattle.std.specs.declared.alloc.Global.{Global}
 use Rattle.ipld_cid.specs.LinkOf.{link_of}
@@ -15,7 +15,7 @@ abbrev pub as_members : List (String Global × Tree) → Members
 as_members [] = no_members
 as_members (m ∷ ms) = member (string_bytes m.0) m.1 (as_members ms)
 
--- one level, with each value inside already seen as its tree
+-- the tree of a value, from the trees of the values directly inside it
 abbrev pub tree_step : Ipld-F Tree → Tree
 tree_step Ipld-F.Null = null
 tree_step (Ipld-F.Bool b) = boolean b
@@ -26,14 +26,14 @@ tree_step (Ipld-F.List v) = list (as_items v.items)
 tree_step (Ipld-F.Map m) = entries (as_members m.entries)
 tree_step (Ipld-F.Link c) = link (link_of c)
 
--- The tree that a value is (The IPLD Data Model, kinds; floats are left out).
+-- The tree of a value (The IPLD Data Model, kinds; floats are left out).
 abbrev pub tree_of : Ipld → Tree
 tree_of = fold-Ipld Tree tree_step
 
--- what the values of a list are
+-- the trees of the values of a list
 abbrev pub items_of : List Ipld → Items
 items_of vs = as_items (map tree_of vs)
 
--- what the entries of a map are
+-- the trees of the entries of a map
 abbrev pub members_of : List (String Global × Ipld) → Members
 members_of es = as_members (map (λ e. (e.0, tree_of e.1)) es)

@@ -1,4 +1,4 @@
--- What the two steps that conversions share return, by what they call.
+-- The results of two steps that conversions share, from the results of the calls in them.
 use Rattle.std.specs.Prelude.{◌≡◌, ℤ, Option, Some, None, Result, Ok, Err}
 use Rattle.std.specs.Result.{result_map_both}
 use Rattle.std.specs.declared.num.TryFromIntError.{TryFromIntError}
@@ -11,13 +11,14 @@ use Rattle.ipld_tree.specs.declared.convert.ConversionError.{ConversionError}
 use Rattle.ipld_tree.specs.declared.convert.ConversionError.TheVariants.{WrongIpldKind, FromIpld}
 use Rattle.ipld_tree.specs.declared.convert.TargetType.{TargetType}
 
--- a number as the conversion between integers returns it
+-- True if `result` is that of the conversion of an integer, with `FromIpld` for its error, or is
+-- `WrongIpldKind` for a tree of another kind.
 abbrev pub Tried : {N : Type 0} → (ℤ → Result N TryFromIntError → Type 0) → TargetType → Tree → Result N ConversionError → Type 0
 Tried {N} converts target (integer n) result =
     (tried : Result N TryFromIntError) × converts n tried × (result ≡ result_map_both (λ x. x) (λ _. FromIpld Integer target) tried)
 Tried converts target t result = result ≡ Err (WrongIpldKind Integer (kind_of t))
 
--- nothing of a Null, else what the conversion of the content returns
+-- True if `result` is `None` for Null, and otherwise that of the conversion of the content.
 abbrev pub OptionalAt : {T : Type 0} → (Result T ConversionError → Type 0) → Tree → Result (Option T) ConversionError → Type 0
 OptionalAt converts null result = result ≡ Ok None
 OptionalAt {T} converts t result = (taken : Result T ConversionError) × converts taken × (result ≡ result_map_both Some (λ e. e) taken)

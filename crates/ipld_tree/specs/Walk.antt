@@ -1,10 +1,11 @@
--- The walk of a tree: the tree, then what it holds, in order (IPLD data model: keys of maps are no values, and are not visited).
+-- The walk of a tree: the tree, then the values inside it, in order (IPLD data model). Keys of maps
+-- are not values, and are not visited.
 use Rattle.std.specs.Prelude.{ℕ, suc, ◌+◌, max, List, [], ◌∷◌, ◌++◌}
 use Rattle.ipld_cid.specs.Cid.{Link}
 use Rattle.ipld_tree.specs.Tree.{Tree, null, boolean, integer, text, bytes, list, entries, link, Items, no_items, item, Members, no_members, member}
 
 abbrev mutual
-  -- The tree and then what it holds, in order.
+  -- The tree and then the values inside it, in order.
   pub preorder : Tree → List Tree
   preorder null = null ∷ []
   preorder (boolean b) = boolean b ∷ []
@@ -43,7 +44,7 @@ abbrev mutual
   members_nest no_members = 0
   members_nest (member k t ms) = max (nest t) (members_nest ms)
 
--- 1 for a list or a map, else 0
+-- 1 for a list or a map, and 0 for other trees
 abbrev pub container : Tree → ℕ
 container null = 0
 container (boolean b) = 0
@@ -59,7 +60,7 @@ abbrev pub containers : List Tree → ℕ
 containers [] = 0
 containers (t ∷ ts) = container t + containers ts
 
--- the link that a tree is, if it is one
+-- a list of the link if the tree is one, and otherwise an empty list
 abbrev pub own_link : Tree → List Link
 own_link null = []
 own_link (boolean b) = []

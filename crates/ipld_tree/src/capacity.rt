@@ -6,10 +6,11 @@ ghost use Rattle.ipld_tree.specs.Capacity.{capacity_for};
 // The most values that a length hint reserves.
 const MAX_CAPACITY: usize = 4096;
 
-/// The capacity that a list reserves where it begins: as many values as the length hint says, at most 4,096, and none without a
-/// hint.
+/// Returns the capacity that a new list reserves: the length hint, at most 4,096 values, or 0
+/// without a hint.
 ///
-/// A hint is a claim of the source. The bound keeps a wrong one from reserving more memory than 4,096 values take.
+/// A hint is a claim of the source. The limit keeps an invalid hint from reserving more memory than
+/// 4,096 values take.
 pub fn list_capacity(hint: Option<usize>) -> usize
     ensures { result ≡ capacity_for hint }
 {

@@ -18,11 +18,15 @@ use std::default::Emptied;
 impl Clone for Ipld {
     ghost is_clone = { λ v w. tree_of w ≡ tree_of v };
 
-    /// A copy of the tree, equal to it, made by a loop however deep the tree nests. [`Ipld::try_clone`] makes the same copy, and
-    /// faster where there are maps.
+    /// Returns a copy of the tree, equal to it, by a loop however deep the tree nests.
+    /// [`Ipld::try_clone`] makes the same copy, and is faster if the tree has maps.
     ///
-    /// It allocates for each string, list of bytes, list and map, by their own allocator, and for a stack that grows with the
-    /// nesting of lists and maps. It returns `AllocError` where an allocation fails, and what was copied so far is dropped by a loop.
+    /// It allocates for every String, Bytes, List and Map, by their own allocator. It also
+    /// allocates for a stack that grows with the nesting of lists and maps.
+    ///
+    /// # Errors
+    ///
+    /// `AllocError` if an allocation fails. The copied part is then dropped by a loop.
     fn clone(&self) -> Result<Ipld, AllocError> {
         match self {
             Ipld::Null => Ok(Ipld::Null),
@@ -42,12 +46,16 @@ impl Clone for Ipld {
 }
 
 impl Ipld {
-    /// A copy of the tree, equal to it. It recurses for 32 levels of nesting and goes on by a loop, so that trees of any depth
-    /// are copied.
+    /// Returns a copy of the tree, equal to it. It recurses for 32 levels of nesting and continues
+    /// by a loop, so it copies trees of any depth.
     ///
-    /// It allocates for each string, list of bytes, list and map, and, where lists or maps nest more than 32 levels deep, for a
-    /// stack that grows with their nesting. It returns `AllocError` where an allocation fails, never for a Null, a Bool, an Integer
-    /// or a Link, and what was copied so far is dropped, without recursion as deep as the tree nests.
+    /// It allocates for every String, Bytes, List and Map. If lists or maps nest more than 32
+    /// levels deep, it also allocates for a stack that grows with their nesting.
+    ///
+    /// # Errors
+    ///
+    /// `AllocError` if an allocation fails, which never happens for a Null, a Bool, an Integer or a
+    /// Link. The copied part is then dropped, without recursion as deep as the tree nests.
     pub fn try_clone(&self, alloc: Global) -> Result<Ipld, AllocError>
         ensures copy { IfOk result (λ v. tree_of v ≡ tree_of self.now) }
         ensures scalar { OnErr result (HoldsMemory (tree_of self.now)) }
@@ -56,7 +64,7 @@ impl Ipld {
     }
 }
 
-// A copy of a value, made by recursion for so many levels, and by a loop below them.
+// A copy of a value, by recursion for at most `levels` levels, and by a loop below them.
 #[cycle(copied)]
 fn copy_within(alloc: Global, value: &Ipld, levels: usize) -> Result<Ipld, AllocError>
     ensures copy { IfOk result (λ v. tree_of v ≡ tree_of value.now) }
@@ -80,7 +88,8 @@ fn copy_within(alloc: Global, value: &Ipld, levels: usize) -> Result<Ipld, Alloc
     }
 }
 
-// This and those below stand apart, so that a copy of a value that allocates nothing takes little of the stack.
+// This function and those below are separate, so that a copy of a value that does not allocate uses
+// little of the stack.
 #[inline(never)]
 fn copy_text(alloc: Global, content: &str) -> Result<Ipld, AllocError>
     ensures { IfOk result (λ v. tree_of v ≡ text content.now) }
@@ -193,8 +202,9 @@ fn copy_map(
     Ok(Ipld::Map(copies.finish()))
 }
 
-// Whether nothing in the map nests but lists of what nests nothing. A copy of it is made node by node, and is dropped where an
-// allocation fails by recursion, which is as shallow as the map.
+// Whether the map contains no maps, and only lists that contain no lists or maps. Such a map is
+// copied node by node. If an allocation fails, the copy is dropped by recursion, which is as
+// shallow as the map.
 fn is_flat(members: &BTreeMap<String, Ipld>) -> bool {
     for member in members.values() {
         match member {
@@ -221,7 +231,7 @@ fn holds_scalars(items: &[Ipld]) -> bool {
     true
 }
 
-// A list of copies of the items. Lists and maps among them would each be copied by a loop of its own.
+// A list of copies of the items. Lists and maps among them would be copied by separate loops.
 #[inline(never)]
 fn copy_scalars(alloc: Global, items: &Vec<Ipld>) -> Result<Ipld, AllocError>
     ensures { IfOk result (λ v. tree_of v ≡ list (items_of items.now.items)) }
@@ -234,7 +244,7 @@ fn copy_scalars(alloc: Global, items: &Vec<Ipld>) -> Result<Ipld, AllocError>
     Ok(Ipld::List(copies.finish()))
 }
 
-// A copy of a value: at once where it holds no others, and by a loop where it does.
+// A copy of a value: directly if it contains no other values, and by a loop otherwise.
 #[inline(always)]
 fn copy_scalar(alloc: Global, value: &Ipld) -> Result<Ipld, AllocError>
     ensures { IfOk result (λ v. tree_of v ≡ tree_of value.now) }
@@ -264,7 +274,7 @@ fn add_flat_copy(copies: &mut Vec<Ipld>, members: &BTreeMap<String, Ipld>) -> Re
     Ok(())
 }
 
-// A map of copies of the entries, in nodes like those of the map: no key is looked for.
+// A map of copies of the entries, in nodes like those of the map. It does not search for keys.
 #[inline(never)]
 fn copy_flat_map(members: &BTreeMap<String, Ipld>) -> Result<Ipld, AllocError>
     ensures { IfOk result (λ v. tree_of v ≡ entries (members_of members.now.entries)) }

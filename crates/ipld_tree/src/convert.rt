@@ -1,9 +1,18 @@
 //! Conversions between [`Ipld`] and the types of Rust.
 //!
-//! `From` makes a value of the data model, `TryFrom<Ipld>` takes its content back out. Neither allocates. A type takes
-//! one kind of value: `()` takes Null, `bool` Bool, the integer types Integer, `String` String, `Vec<u8>` Bytes,
-//! `Vec<Ipld>` List, `BTreeMap<String, Ipld>` Map, `Cid` Link. An `Option` of each of these but `()` takes Null too, as
-//! `None`.
+//! `From` makes a value of the data model, and `TryFrom<Ipld>` takes its content out again. Neither
+//! allocates. A type takes one kind of value:
+//!
+//! - `()` takes Null,
+//! - `bool` takes Bool,
+//! - the integer types take Integer,
+//! - `String` takes String,
+//! - `Vec<u8>` takes Bytes,
+//! - `Vec<Ipld>` takes List,
+//! - `BTreeMap<String, Ipld>` takes Map,
+//! - `Cid` takes Link.
+//!
+//! An `Option` of one of these types, except `()`, also takes Null and returns `None` for it.
 
 ghost use Rattle.std.specs.Prelude.{◌≡◌, IfOk};
 ghost use Rattle.ipld_tree.specs.Tree as tree;
@@ -19,10 +28,12 @@ pub use into::{IntoIpld, IntoKey};
 use std::alloc::{AllocError, Global};
 use std::{error, fmt};
 
-/// Why an [`Ipld`] can't be taken as a type. What was to be converted is dropped as [`Ipld::discard`] does.
+/// The error of converting an [`Ipld`] to another type. The value is dropped as [`Ipld::discard`]
+/// does.
 #[derive(Clone, Copy, Debug, PartialEq, Eq)]
 pub enum ConversionError {
-    /// The value is of another kind than the type takes. An `Option` names the kind that its content takes.
+    /// The value is not of the kind that the type takes. For an `Option`, the expected kind is that
+    /// of its content.
     WrongIpldKind {
         /// The kind that the type takes.
         expected: IpldKind,
@@ -33,12 +44,12 @@ pub enum ConversionError {
     FromIpld {
         /// The kind of the value, which is always [`IpldKind::Integer`].
         from: IpldKind,
-        /// The type that is too narrow. An `Option` names the type of its content.
+        /// The type that is too narrow. For an `Option`, it is the type of its content.
         into: TargetType,
     },
 }
 
-/// An integer type, whose range a number can be out of. No other conversion has a range.
+/// An integer type. A number can be out of its range. No other conversion has a range.
 #[derive(Clone, Copy, Debug, PartialEq, Eq)]
 pub enum TargetType {
     /// The type `i8`.
@@ -49,7 +60,7 @@ pub enum TargetType {
     I32,
     /// The type `i64`.
     I64,
-    /// The type `i128`. It holds every number of an [`Ipld`], so that no error names it.
+    /// The type `i128`. It holds every number of an [`Ipld`], so no error names it.
     I128,
     /// The type `isize`.
     Isize,
@@ -83,15 +94,23 @@ impl fmt::Display for ConversionError {
 impl error::Error for ConversionError {}
 
 impl Ipld {
-    /// Makes an [`Ipld::String`] of the text, which is copied; where `Cid::from_text` reads a text, this reads nothing from it. It
-    /// allocates for the string's bytes, and is rejected only if that fails.
+    /// Creates an [`Ipld::String`] with a copy of the string. Unlike `Cid::from_text`, it does not
+    /// parse the string.
+    ///
+    /// # Errors
+    ///
+    /// `AllocError` if the allocation of the string's bytes fails.
     pub fn from_text(alloc: Global, text: &str) -> Result<Ipld, AllocError>
         ensures { IfOk result (λ v. tree_of v ≡ tree.text text.now) }
     {
         Ok(Ipld::String(String::from_str(alloc, text)?))
     }
 
-    /// A copy of the bytes, as [`Ipld::Bytes`]. It allocates for the bytes, and is rejected only if that fails.
+    /// Creates an [`Ipld::Bytes`] with a copy of the bytes.
+    ///
+    /// # Errors
+    ///
+    /// `AllocError` if the allocation of the bytes fails.
     pub fn from_byte_slice(alloc: Global, bytes: &[u8]) -> Result<Ipld, AllocError>
         ensures { IfOk result (λ v. tree_of v ≡ tree.bytes bytes.now) }
     {

@@ -1,4 +1,4 @@
-//! Trees of any depth, dropped.
+//! Dropping trees of any depth.
 
 ghost use Rattle.std.specs.Prelude.{◌≡◌, ◌+◌, ◌<◌, ◌≤◌, [], IfSome, MatchResult};
 ghost use Rattle.std.specs.Map.{values_of};
@@ -11,13 +11,16 @@ use std::collections::BTreeMap;
 use std::mem;
 
 impl Ipld {
-    /// Drops the tree, however deep it nests: with a bounded part of the call stack, in time linear in the number of its values (and
-    /// the search for the last key of each map), and without allocating. A tree of at most 32 levels is dropped as usual, and a deeper
-    /// one by a loop.
+    /// Drops the tree, however deep it nests.
     ///
-    /// The ordinary drop recurses once for each level of nesting, and so ends the process where a tree nests too deep for the
-    /// call stack. Call this for a tree from untrusted input instead. It drops a vector of values as `Ipld::List(values)`, and
-    /// a map of them as `Ipld::Map(members)`.
+    /// It uses a bounded part of the call stack, and does not allocate. Its time is linear in the
+    /// number of values, plus the search for the last key of every map. A tree of at most 32 levels
+    /// is dropped as usual, and a deeper one by a loop.
+    ///
+    /// The ordinary drop recurses once for every level of nesting, so it ends the process if a tree
+    /// nests too deep for the call stack. Call this for a tree from untrusted input instead. To
+    /// drop a vector of values, call it on `Ipld::List(values)`, and for a map of them on
+    /// `Ipld::Map(members)`.
     pub fn discard(self) {
         if nesting_within(&self, SHALLOW).is_none() {
             discard_by_loop(self);
@@ -34,9 +37,10 @@ fn discard_by_loop(value: Ipld) {
     }
 }
 
-// Goes down into the first value inside the value, into the first inside that one, and so on, and drops the last of these,
-// which holds none. Where each of them stood it leaves the container around, and `outer` in the value itself. It returns the
-// innermost container, with all that is left.
+// Descends into the first value in `value`, into the first value in that one, and so on. Drops the
+// last of these, which contains no values. The first value of every container is replaced by the
+// container around it, and that of `value` itself by `outer`. Returns the innermost container,
+// which contains all that is left.
 #[tactic(auto, using(crate::proofs::Sizes::size_list, crate::proofs::Sizes::size_map, crate::proofs::Sizes::size_positive))]
 fn descend(mut outer: Ipld, mut value: Ipld) -> Ipld
     ensures { size result < size outer + size value }
@@ -73,8 +77,8 @@ fn descend(mut outer: Ipld, mut value: Ipld) -> Ipld
     }
 }
 
-// Takes the last value out of a container. Where no other is left there, that value is the container around, and is
-// looked into in turn.
+// Takes the last value out of a container. If the container is then empty, that value is the outer
+// container, and the loop continues with it.
 #[tactic(auto, using(crate::proofs::Sizes::size_list, crate::proofs::Sizes::size_map, crate::proofs::Sizes::total_append, crate::proofs::Sizes::total_cons, crate::proofs::Sizes::total_entries))]
 fn ascend(mut container: Ipld) -> Option<(Ipld, Ipld)>
     ensures { IfSome result (λ p. size p.0 + size p.1 ≤ size container) }
@@ -113,7 +117,8 @@ fn ascend(mut container: Ipld) -> Option<(Ipld, Ipld)>
     }
 }
 
-// Puts a value in place of the first item, and returns that one; the value itself where there is none.
+// Replaces the first item by a value, and returns that item. Returns the value itself if the list
+// is empty.
 fn exchange_first_item(items: &mut Vec<Ipld>, value: Ipld) -> Result<Ipld, Ipld>
     ensures kept { MatchResult result (λ x. total items.new.items + size x ≡ total items.old.items
         + size value) (λ x. x ≡ value) }
@@ -126,7 +131,8 @@ fn exchange_first_item(items: &mut Vec<Ipld>, value: Ipld) -> Result<Ipld, Ipld>
     }
 }
 
-// Puts a value in place of the one at the first key, and returns that one; the value itself where there is none.
+// Replaces the value at the first key, and returns the earlier one. Returns the value itself if the
+// map is empty.
 fn exchange_first_member(members: &mut BTreeMap<String, Ipld>, value: Ipld) -> Result<Ipld, Ipld>
     ensures kept { MatchResult result (λ x. total (values_of members.new.entries) + size x ≡ total
         (values_of members.old.entries) + size value) (λ x. x ≡ value) }

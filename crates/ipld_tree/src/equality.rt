@@ -8,10 +8,11 @@ ghost use Rattle.ipld_tree.specs.TreeOf.{tree_of, items_of, members_of};
 use crate::ipld::Ipld;
 use std::collections::BTreeMap;
 
-/// Two values are equal where they are one tree: of one kind, with equal contents. Does not allocate.
+/// Two values are equal if they are the same tree: of the same kind, with equal contents. The
+/// comparison does not allocate.
 ///
-/// It recurses once for each level of nesting that both have, so that trees that nest too deep for the call stack end the
-/// process: [`Ipld::same_tree`] compares trees of any depth by a loop.
+/// It recurses once for every level of nesting that both have, so trees that nest too deep for the
+/// call stack end the process. [`Ipld::same_tree`] compares trees of any depth by a loop.
 impl PartialEq for Ipld {
     ghost use Rattle.std.specs.Cmp.{partial_equiv_from_equiv, on_equiv};
     ghost use Rattle.std.specs.Ordering.{on};

@@ -5,11 +5,15 @@ use crate::ipld::Ipld;
 use ipld_cid::Cid;
 use std::{error, fmt};
 
-/// Without `#`, `null` for [`Ipld::Null`], the text of the CID for a link, and the content's own debug string for each other
-/// kind. With `#`, the kind's name, with the content in parentheses; the items of a list and the members of a map stand on
-/// lines of their own, and all else on one. Width, precision and other flags are ignored.
+/// Prints a value in one of two forms. Width, precision and other flags are ignored.
 ///
-/// It recurses once for each level of nesting, so that a tree that nests too deep for the call stack ends the process.
+/// - Without `#`, it prints `null` for [`Ipld::Null`], the text of the CID for a link, and the
+///   debug string of the content for every other kind.
+/// - With `#`, it prints the name of the kind, with the content in parentheses. The items of a list
+///   and the members of a map are on their own lines, and all other content is on one line.
+///
+/// It recurses once for every level of nesting, so a tree that nests too deep for the call stack
+/// ends the process.
 impl fmt::Debug for Ipld {
     #[cycle(shown)]
     fn fmt<W: fmt::Write>(&self, f: &mut fmt::Formatter<W>) -> fmt::Result {
@@ -26,7 +30,7 @@ impl fmt::Debug for Ipld {
     }
 }
 
-// The content of a kind, on lines of its own with `#`.
+// The content of a kind. With `#` it is on its own lines.
 fn fmt_content<T: fmt::Debug, W: fmt::Write>(
     kind: &str,
     content: &T,

@@ -13,14 +13,16 @@ use crate::nesting::nesting_within;
 use std::alloc::{AllocError, Global};
 use std::mem;
 
-// How many levels a call that copies, drops or gathers goes down by recursion, before it goes on by a loop.
+// The number of levels for which copying, dropping and gathering links recurse, before they
+// continue by a loop.
 pub(crate) const SHALLOW: usize = 32;
 
-// How many levels are measured by recursion, before that goes on with a stack that grows: as many as `Limits::default()` allows. A list
-// takes 48 bytes of the call stack, and a map 160.
+// The number of levels that are measured by recursion, before a walk with a growing stack: as many
+// as `Limits::default()` allows. A list uses 48 bytes of the call stack, and a map 160.
 const MEASURED: usize = 1024;
 
-// A walk in the order of `IpldIter` that allocates as it goes deeper: the innermost cursor, and those around it.
+// A walk in the order of `IpldIter` that allocates as it descends. It has the innermost cursor, and
+// the cursors of the containers around it.
 #[derive(Drop)]
 pub(crate) struct GrowingWalk<'a> {
     outer: Vec<Cursor<'a>>,
@@ -28,7 +30,7 @@ pub(crate) struct GrowingWalk<'a> {
 }
 
 impl<'a> GrowingWalk<'a> {
-    // A walk of one tree, which allocates nothing yet.
+    // Begins a walk of a tree. Does not allocate yet.
     pub(crate) fn new(alloc: Global, value: &'a Ipld) -> GrowingWalk<'a>
         ensures { levels_in result ≡ (value.now ∷ []) ∷ [] }
     {
@@ -55,7 +57,7 @@ impl<'a> GrowingWalk<'a> {
         }
     }
 
-    // Goes into what has opened, if anything.
+    // Enters a container, if the value is one.
     #[inline(always)]
     fn enter(&mut self, opened: Option<Cursor<'a>>) -> Result<(), AllocError>
         ensures { OnOk result (levels_in self.new ≡ levels_in self.old ++ levels_of
@@ -69,7 +71,7 @@ impl<'a> GrowingWalk<'a> {
         Ok(())
     }
 
-    // How many cursors the walk holds.
+    // The number of cursors in the walk.
     #[inline(always)]
     fn cursor_count(&self) -> usize
         ensures { result ≡ length (levels_in self.now) }
@@ -79,14 +81,15 @@ impl<'a> GrowingWalk<'a> {
 }
 
 impl Ipld {
-    /// Returns how deep lists and maps nest, as [`Ipld::nesting`] does, of a tree of any depth.
+    /// Returns the nesting of lists and maps, as [`Ipld::nesting`] does, for a tree of any depth.
     ///
-    /// It recurses for at most 1,024 levels, which takes at most 256 KiB of the call stack, and measures a deeper tree by a loop.
+    /// It recurses for at most 1,024 levels, which takes at most 256 KiB of the call stack, and
+    /// measures a deeper tree by a loop.
     ///
     /// # Errors
     ///
-    /// `AllocError` if an allocation fails. It allocates only if lists or maps nest more than 1,024 levels deep, for a stack that
-    /// grows with their nesting.
+    /// `AllocError` if an allocation fails. It allocates only if lists or maps nest more than 1,024
+    /// levels deep, for a stack that grows with their nesting.
     pub fn try_nesting(&self, alloc: Global) -> Result<usize, AllocError>
         ensures nested { IfOk result (λ n. n ≡ nest (tree_of self.now)) }
         ensures whole { OnOk result (IsWhole (tree_of self.now)) }
@@ -96,8 +99,8 @@ impl Ipld {
     }
 }
 
-// How many cursors a walk of the value holds at most: found by recursion down to `MEASURED` levels, for a deeper tree by a walk
-// whose stack grows.
+// The maximum number of cursors in a walk of the value. It is measured by recursion for up to
+// `MEASURED` levels, and for a deeper tree by a walk with a growing stack.
 pub(crate) fn slots_needed(alloc: Global, value: &Ipld) -> Result<usize, AllocError>
     ensures slots { IfOk result (λ n. n ≡ 1 + nest (tree_of value.now)) }
     ensures whole { OnOk result (IsWhole (tree_of value.now)) }

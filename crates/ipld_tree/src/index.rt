@@ -1,4 +1,4 @@
-//! Looking into a list or a map.
+//! Lookups in a list or a map.
 
 ghost use Rattle.std.specs.Prelude.{◌≡◌, [], ◌∷◌, ℕ, List, length, filter, nat_lt, Some, None, option_map, MatchResult, IfOk, IsOk, string_bytes};
 ghost use Rattle.ipld_tree.specs.Index.{Index, number, name, name_ref, no_number, number_of, number_meant, key_meant, item_at, value_at, numbered, found_at};
@@ -11,35 +11,38 @@ use itoa::Buffer;
 use std::alloc::{AllocError, Global};
 use std::collections::BTreeMap;
 
-/// A position in a list or a map: a number, or a string of its own or a borrowed one.
+/// A position in a list or a map: a number, or an owned or borrowed string.
 ///
-/// On a list a string means a number where it is an optional `+` and one or more decimal digits, and the number is one of a
-/// `usize`: `007` and `+7` mean 7. On a map a number means its decimal string.
+/// In a list, a string means a number if it is an optional `+` and one or more decimal digits, and
+/// the number fits in a `usize`. For example, `007` and `+7` mean 7. In a map, a number means its
+/// decimal string.
 #[derive(Debug, PartialEq, Eq, Drop)]
 pub enum IpldIndex<'a> {
-    /// A number, as for a list.
+    /// A number, such as the position of an item in a list.
     List(usize),
-    /// A string that the index owns, as for a map.
+    /// A string that the index owns, such as a key of a map.
     Map(String),
-    /// A string that the index borrows, as for a map.
+    /// A string that the index borrows, such as a key of a map.
     MapRef(&'a str),
 }
 
-/// Why nothing can be looked up at an index.
+/// The error of a lookup at an index.
 #[derive(Debug, PartialEq, Eq, Drop)]
 pub enum IndexError<'a> {
-    /// A list was indexed by a string that means no number. The index is handed back as it was.
+    /// A list was indexed by a string that does not mean a number. The error contains the unchanged
+    /// index.
     ParseInteger(IpldIndex<'a>),
-    /// What was indexed is neither a list nor a map, but of this kind.
+    /// The indexed value is neither a list nor a map. The error contains its kind.
     WrongKind(IpldKind),
 }
 
-/// What a list or a map can be indexed by: a `usize`, a `String`, a `&str`, or an [`IpldIndex`] itself.
+/// A type that a list or a map can be indexed by: `usize`, `String`, `&str`, or [`IpldIndex`]
+/// itself.
 pub trait IntoIndex<'a> {
     // the index that a value is
     ghost index: { Self → Index };
 
-    /// The index that the value is. Does not allocate.
+    /// Returns the value as an index. Does not allocate.
     fn into_index(self) -> IpldIndex<'a>
         ensures { index_of result ≡ index self };
 }
@@ -76,7 +79,8 @@ impl<'a> IntoIndex<'a> for IpldIndex<'a> {
     }
 }
 
-/// The number that an index means, or [`IndexError::ParseInteger`] with the index where it means none. Does not allocate.
+/// Converts an index to the number that it means. If it does not mean a number, returns
+/// [`IndexError::ParseInteger`] with the index. Does not allocate.
 impl<'a> TryFrom<IpldIndex<'a>> for usize {
     type Error = IndexError<'a>;
 
@@ -92,10 +96,12 @@ impl<'a> TryFrom<IpldIndex<'a>> for usize {
 }
 
 impl IpldIndex<'_> {
-    /// The key that the index means: its string, or the decimal string of its number. It allocates but for a string that the
-    /// index owns, which is returned.
+    /// Returns the key that the index means: its string, or the decimal string of its number. It
+    /// allocates, except for a string that the index owns, which it returns.
     ///
-    /// It returns `AllocError` where an allocation fails, and the index is then gone.
+    /// # Errors
+    ///
+    /// `AllocError` if an allocation fails. The index is then dropped.
     pub fn into_text(self, alloc: Global) -> Result<String, AllocError>
         ensures meant { IfOk result (λ s. string_bytes s ≡ key_meant (index_of self.entry)) }
         ensures owned { (key : List ℕ) → index_of self.entry ≡ name key → IsOk result }
@@ -109,11 +115,15 @@ impl IpldIndex<'_> {
 }
 
 impl Ipld {
-    /// Lends what stands at an index: an item of a list, or the value at a key of a map. `None` past the end of a list, and
-    /// where a map lacks the key. Does not allocate.
+    /// Borrows the value at an index: an item of a list, or the value at a key of a map. Returns
+    /// `None` if the index is past the end of a list, or if a map does not have the key. Does not
+    /// allocate.
     ///
-    /// It returns [`IndexError::WrongKind`] where the value is neither a list nor a map, whatever the index is, and
-    /// [`IndexError::ParseInteger`] where it is a list and the index is a string that means no number.
+    /// # Errors
+    ///
+    /// - [`IndexError::WrongKind`] if the value is neither a list nor a map, whatever the index is.
+    /// - [`IndexError::ParseInteger`] if it is a list and the index is a string that does not mean
+    ///   a number.
     pub fn get<'a, T: IntoIndex<'a>>(&self, index: T) -> Result<Option<&Ipld>, IndexError<'a>>
         ensures { outcome_of_get result ≡ found_at (tree_of self.now) (T.index index) }
     {
@@ -125,7 +135,8 @@ impl Ipld {
         }
     }
 
-    /// Returns what [`Ipld::get`] lends, or the same error, and drops the rest as [`Ipld::discard`] does. Does not allocate.
+    /// Returns the value that [`Ipld::get`] borrows, or the same error, and drops the rest as
+    /// [`Ipld::discard`] does. Does not allocate.
     pub fn take<'a, T: IntoIndex<'a>>(self, index: T) -> Result<Option<Ipld>, IndexError<'a>>
         ensures { outcome_of_take result ≡ found_at (tree_of self) (T.index index) }
     {
@@ -139,15 +150,23 @@ impl Ipld {
 }
 
 impl Ipld {
-    /// Lends what stands at the end of a path, as `name/0/first`: [`Ipld::get`] at each of its segments in turn, which `/`
-    /// separates. `None` where one of them is past the end of a list, or no key of a map. Does not allocate.
+    /// Borrows the value at the end of a path, such as `name/0/first`. Calls [`Ipld::get`] for
+    /// every segment of the path in turn. The segments are separated by `/`. Returns `None` if a
+    /// segment is past the end of a list, or is not a key of a map. Does not allocate.
     ///
-    /// Empty segments are skipped, as IPLD's paths from strings are read elsewhere: `/a//b/` is `a/b`, and the empty path and `/` lead to
-    /// the value itself. So a key that is empty or has a `/` in it is reached by [`Ipld::get`] alone. Links are not followed.
+    /// Like other implementations of IPLD paths, it skips empty segments: `/a//b/` is `a/b`, and
+    /// the empty path and `/` lead to the value itself. So only [`Ipld::get`] reaches a key that is
+    /// empty or contains a `/`. Links are not followed.
     ///
-    /// It returns the error of the first segment that can't be looked up, as [`Ipld::get`] does: [`IndexError::WrongKind`]
-    /// where the value there is neither a list nor a map, and [`IndexError::ParseInteger`] with the segment where it is a list
-    /// and the segment means no number.
+    /// # Errors
+    ///
+    /// The error of the first segment that can't be looked up, as from [`Ipld::get`]:
+    ///
+    /// - [`IndexError::WrongKind`] if the value there is neither a list nor a map.
+    /// - [`IndexError::ParseInteger`] with the segment if the value there is a list and the segment
+    ///   does not mean a number.
+    ///
+    /// # Examples
     ///
     /// ```rust
     /// let city = person.at_path("addresses/0/city")?;
@@ -169,7 +188,7 @@ impl Ipld {
     }
 }
 
-// What stands at a segment, or the value itself where that is empty.
+// The value at a segment, or the value itself if the segment is empty.
 #[inline(always)]
 fn value_at_segment<'t, 'a>(
     value: &'t Ipld,

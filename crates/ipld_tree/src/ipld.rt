@@ -7,17 +7,18 @@ ghost use Rattle.ipld_tree.specs.TreeOf.{tree_of};
 use ipld_cid::Cid;
 use std::collections::BTreeMap;
 
-/// A value of the IPLD data model, which owns what it holds.
+/// A value of the IPLD data model. It owns its contents.
 ///
-/// Its ordinary drop recurses once for each level of nesting, so that a tree that nests too deep for the call stack ends the
-/// process: how deep that is is said at the head of the crate, and [`Ipld::discard`] drops a tree of any depth by a loop.
+/// The ordinary drop recurses once for every level of nesting, so a tree that nests too deep for
+/// the call stack ends the process. The head of the crate lists the depths. [`Ipld::discard`] drops
+/// a tree of any depth by a loop.
 #[derive(Drop)]
 pub enum Ipld {
-    /// Nothing.
+    /// Null.
     Null,
     /// A bool.
     Bool(bool),
-    /// An integer of 128 bits, with its sign.
+    /// A signed integer of 128 bits.
     Integer(i128),
     /// A string.
     String(String),
@@ -25,16 +26,16 @@ pub enum Ipld {
     Bytes(Vec<u8>),
     /// A list of values.
     List(Vec<Ipld>),
-    /// Values under strings, in byte order of the strings.
+    /// A map from strings to values, in byte order of the strings.
     Map(BTreeMap<String, Ipld>),
     /// A link to other content.
     Link(Cid),
 }
 
-/// The kinds of the IPLD data model, one for each variant of [`Ipld`].
+/// The kinds of the IPLD data model, one for every variant of [`Ipld`].
 #[derive(Clone, Copy, Debug, PartialEq, Eq)]
 pub enum IpldKind {
-    /// Nothing.
+    /// Null.
     Null,
     /// A bool.
     Bool,
@@ -46,14 +47,14 @@ pub enum IpldKind {
     Bytes,
     /// A list of values.
     List,
-    /// Values under strings.
+    /// A map from strings to values.
     Map,
     /// A link to other content.
     Link,
 }
 
 impl Ipld {
-    /// The kind of the value. Does not allocate.
+    /// Returns the kind of the value. Does not allocate.
     pub fn kind(&self) -> IpldKind
         ensures { result ≡ kind_of (tree_of self.now) }
     {

@@ -18,7 +18,7 @@ use std::collections::btree_map;
 use std::marker::Model;
 use std::slice;
 
-// What a list or a map that was given has left, or the value that the walk began with.
+// The rest of a list or a map, or the value that the walk begins with.
 #[derive(Drop)]
 pub(crate) enum Cursor<'a> {
     Itself(Option<&'a Ipld>),
@@ -26,17 +26,18 @@ pub(crate) enum Cursor<'a> {
     Members(btree_map::Values<'a, String, Ipld>),
 }
 
-// What one iteration of the walk does.
+// The result of one iteration of the walk.
 enum Iteration<'a> {
     Yielded(&'a Ipld),
     Dropped,
     Ended,
 }
 
-/// A walk of a tree: a list or a map before what it holds, the items of a list in order, the values of a map in byte order
-/// of their keys. Keys are not visited. After its end it returns `None` always. [`Ipld::iter`] begins one.
+/// A walk of a tree, which [`Ipld::iter`] begins. A list or a map comes before its contents, the
+/// items of a list in order, and the values of a map in byte order of their keys. Keys are not
+/// visited. After its end it always returns `None`.
 ///
-/// It borrows the tree, and allocated all that it needs when it began.
+/// It borrows the tree. It allocated all that it needs when it began.
 #[derive(Drop)]
 pub struct IpldIter<'a> {
     stack: Vec<Cursor<'a>>,
@@ -87,12 +88,13 @@ impl<'a> Iterator for IpldIter<'a> {
 }
 
 impl Ipld {
-    /// Begins a walk of the tree: a list or a map comes before what it holds, items in order, values in byte order of their
-    /// keys, and keys not at all.
+    /// Begins a walk of the tree. A list or a map comes before its contents, items come in order,
+    /// and values in byte order of their keys. Keys are not visited.
     ///
-    /// It measures the nesting first, as [`Ipld::try_nesting`] does, and then allocates at once a slot for the value itself and one for
-    /// each level of nesting. So it allocates once if lists and maps nest at most 1,024 levels deep; of a deeper tree measuring allocates
-    /// too. The walk allocates no more.
+    /// It measures the nesting first, as [`Ipld::try_nesting`] does. Then it allocates a slot for
+    /// the value itself and one for every level of nesting, all at once. So it allocates once if
+    /// lists and maps nest at most 1,024 levels deep. For a deeper tree, measuring allocates too.
+    /// The walk itself does not allocate.
     ///
     /// # Errors
     ///
@@ -114,11 +116,12 @@ impl Ipld {
         })
     }
 
-    /// How deep lists and maps nest: 0 for any other kind, 1 for a list of such values, and so on. `None` where that is no
-    /// number of a `usize`, which no tree that fits in memory comes to. Does not allocate.
+    /// Returns the nesting of lists and maps: 0 for any other kind, 1 for a list of such values,
+    /// and so on. Returns `None` if the nesting does not fit in a `usize`, which no tree in memory
+    /// reaches. Does not allocate.
     ///
-    /// It recurses once for each level, so that a tree that nests too deep for the call stack ends the process:
-    /// [`Ipld::try_nesting`] measures by a loop, which allocates.
+    /// It recurses once for every level, so a tree that nests too deep for the call stack ends the
+    /// process. [`Ipld::try_nesting`] measures such a tree by a loop, which allocates.
     pub fn nesting(&self) -> Option<usize>
         ensures nested { MatchOption result (2 ^ 64 ≤ nest (tree_of self.now)) (λ n.
             n ≡ nest (tree_of self.now)) }
@@ -127,10 +130,14 @@ impl Ipld {
         nesting_within(self, usize::MAX)
     }
 
-    /// Walks the whole tree, and returns the walk at its end, where it returns `None` always. The walk takes an iteration for each value,
-    /// one for each list or map, and two more.
+    /// Walks the whole tree, and returns the walk at its end, after which it always returns `None`.
+    /// The walk takes one iteration for every value, one for every list or map, and two more.
     ///
-    /// It allocates as [`Ipld::iter`] does, and returns `AllocError` where that does.
+    /// It allocates as [`Ipld::iter`] does.
+    ///
+    /// # Errors
+    ///
+    /// `AllocError` if an allocation fails.
     pub fn whole_walk(&self, alloc: Global) -> Result<IpldIter<'_>, AllocError>
         ensures ended { IfOk result (λ w. w.levels ≡ []) }
         ensures iterations { IfOk result (λ w. w.iterations ≡ length (preorder (tree_of self.now))
@@ -143,7 +150,7 @@ impl Ipld {
     }
 }
 
-// Lends bytes for what the type of a slice says of them.
+// Borrows bytes, so that the proof has the bounds of their type.
 #[inline(always)]
 pub(crate) fn know_bytes(bytes: &[u8])
     ensures { IsBytes bytes.now }
@@ -151,7 +158,7 @@ pub(crate) fn know_bytes(bytes: &[u8])
     let _bytes = bytes;
 }
 
-// A cursor over what a list or a map holds.
+// A cursor over the contents of a list or a map.
 #[inline(always)]
 pub(crate) fn cursor_into(value: &Ipld) -> Option<Cursor<'_>>
     ensures opens { Opens (tree_of value.now) (levels_of (cursors_in result)) }
@@ -160,7 +167,7 @@ pub(crate) fn cursor_into(value: &Ipld) -> Option<Cursor<'_>>
     match value {
         Ipld::List(items) => Some(Cursor::Items(items.iter())),
         Ipld::Map(members) => Some(Cursor::Members(members.values())),
-        // A number is read for what its type says of it.
+        // The number is read so that the proof has the bounds of its type.
         Ipld::Integer(number) => {
             let _number = *number;
             None
@@ -173,7 +180,7 @@ pub(crate) fn cursor_into(value: &Ipld) -> Option<Cursor<'_>>
     }
 }
 
-// What a cursor has next.
+// The next value of a cursor.
 #[inline(always)]
 pub(crate) fn advance<'a>(cursor: &mut Cursor<'a>) -> Option<&'a Ipld>
     ensures { YieldsFirstBy (λ x. x.now) left_of cursor.old result cursor.new }
@@ -185,7 +192,7 @@ pub(crate) fn advance<'a>(cursor: &mut Cursor<'a>) -> Option<&'a Ipld>
     }
 }
 
-// Takes what the innermost cursor has next, or drops the cursor at its end.
+// Takes the next value of the innermost cursor, or drops the cursor at its end.
 #[inline(always)]
 fn take_next<'a>(stack: &mut Vec<Cursor<'a>>) -> Iteration<'a>
     ensures takes { TakesNext (levels_of stack.old.items) result (levels_of stack.new.items) }
@@ -201,7 +208,7 @@ fn take_next<'a>(stack: &mut Vec<Cursor<'a>>) -> Iteration<'a>
     Iteration::Dropped
 }
 
-// Holds what opens in a value, if anything.
+// Pushes a cursor over the contents of a value, if it is a list or a map.
 #[inline(always)]
 fn push_cursor_into<'a>(stack: &mut Vec<Cursor<'a>>, value: &'a Ipld)
     requires { length stack.old.items + container (tree_of value.now) ≤ vec_capacity stack.old }
@@ -216,7 +223,8 @@ fn push_cursor_into<'a>(stack: &mut Vec<Cursor<'a>>, value: &'a Ipld)
     }
 }
 
-// Holds what opens in a list or a map. It stands apart, so that `push_cursor_into` is small and a value in which nothing opens is taken fast.
+// Pushes a cursor over the contents of a list or a map. It is a separate function, so that
+// `push_cursor_into` is small and a value without contents is fast.
 #[inline(never)]
 fn push_container_cursor<'a>(stack: &mut Vec<Cursor<'a>>, value: &'a Ipld)
     requires { length stack.old.items + container (tree_of value.now) ≤ vec_capacity stack.old }
@@ -229,7 +237,8 @@ fn push_container_cursor<'a>(stack: &mut Vec<Cursor<'a>>, value: &'a Ipld)
     }
 }
 
-// Yields what the innermost cursor has next, once what opens in it has a cursor too, or drops the innermost at its end.
+// Yields the next value of the innermost cursor, and pushes a cursor over its contents. Drops the
+// innermost cursor at its end.
 #[inline(always)]
 fn iterate<'a>(stack: &mut Vec<Cursor<'a>>) -> Iteration<'a>
     requires { slots (levels_of stack.old.items) ≤ vec_capacity stack.old }

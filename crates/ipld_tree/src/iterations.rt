@@ -12,7 +12,7 @@ enum Count {
     After(Snapshot<Count>),
 }
 
-// How many iterations were taken. It has no bytes, and no greatest value.
+// The number of iterations so far. It has no bytes, and no greatest value.
 #[derive(Drop)]
 pub(crate) struct Iterations {
     seen: Snapshot<Count>,

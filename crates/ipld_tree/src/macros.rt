@@ -1,4 +1,4 @@
-//! `ipld!`, and what it expands to.
+//! `ipld!`, and the items that it expands to.
 
 ghost use Rattle.std.specs.Prelude.{◌≡◌, ◌∷◌, ◌++◌, [], None, IfOk, OnOk, OnErr, string_bytes, vec_capacity, vec_len, ◌≤◌};
 ghost use Rattle.ipld_tree.specs.Builders.{items_so_far, items_len, items_capacity, members_so_far};
@@ -11,8 +11,12 @@ use crate::ipld::Ipld;
 use std::alloc::{AllocError, AllocFailed, Global};
 use std::collections::BTreeMap;
 
-/// Adds an item to a list, for `ipld!`. It allocates only where the list has no capacity left. If that fails, the list is
-/// as before, and the item is dropped as [`Ipld::discard`] does.
+/// Appends an item to a list, for `ipld!`. It allocates only if the list has no capacity left.
+///
+/// # Errors
+///
+/// `AllocError` if the allocation fails. The list is then as before, and the item is dropped as
+/// [`Ipld::discard`] does.
 pub fn push(list: &mut Vec<Ipld>, item: Ipld) -> Result<(), AllocError>
     ensures ok { OnOk result (list.new.items ≡ list.old.items ++ item ∷ []) }
     ensures err { OnErr result (list.new.items ≡ list.old.items) }
@@ -30,8 +34,13 @@ pub fn push(list: &mut Vec<Ipld>, item: Ipld) -> Result<(), AllocError>
     }
 }
 
-/// Puts a value at a key of a map, in place of what stood there, for `ipld!`. If an allocation fails for another entry, the map is
-/// as before, and the key and the value are dropped. What is dropped is dropped as [`Ipld::discard`] does.
+/// Sets the value at a key of a map, for `ipld!`. It replaces an earlier value at the key, and
+/// drops that as [`Ipld::discard`] does.
+///
+/// # Errors
+///
+/// `AllocError` if the allocation for a new entry fails. The map is then as before. The key is
+/// dropped, and the value is dropped as [`Ipld::discard`] does.
 pub fn put(map: &mut BTreeMap<String, Ipld>, key: String, value: Ipld) -> Result<(), AllocError>
     ensures ok { OnOk result (members_of map.new.entries ≡ with_member (string_bytes key)
         (tree_of value) (members_of map.old.entries)) }
@@ -58,8 +67,12 @@ pub struct ListBuilder {
 }
 
 impl ListBuilder {
-    /// No items yet, with capacity for so many. It allocates once, and not for a capacity of 0. If that fails it returns
-    /// `AllocError`.
+    /// Creates a builder without items, with this capacity. It allocates once, and does not
+    /// allocate for a capacity of 0.
+    ///
+    /// # Errors
+    ///
+    /// `AllocError` if the allocation fails.
     #[inline(always)]
     pub fn with_capacity(alloc: Global, capacity: usize) -> Result<ListBuilder, AllocError>
         ensures empty { IfOk result (λ b. items_so_far b ≡ []) }
@@ -69,7 +82,7 @@ impl ListBuilder {
         Ok(ListBuilder { items })
     }
 
-    /// Adds an item, as [`push`] does.
+    /// Appends an item, as [`push`] does.
     #[inline(always)]
     pub fn push(&mut self, item: Ipld) -> Result<(), AllocError>
         ensures ok { OnOk result (items_so_far self.new ≡ items_so_far self.old ++ item ∷ []) }
@@ -79,7 +92,7 @@ impl ListBuilder {
         push(&mut self.items, item)
     }
 
-    /// The items. It does not allocate.
+    /// Returns the items. Does not allocate.
     #[inline(always)]
     pub fn finish(self) -> Vec<Ipld>
         ensures { result.items ≡ items_so_far self }
@@ -102,7 +115,7 @@ pub struct MapBuilder {
 }
 
 impl MapBuilder {
-    /// No entries yet. It does not allocate.
+    /// Creates a builder without entries. Does not allocate.
     #[inline(always)]
     pub fn new(alloc: Global) -> MapBuilder
         ensures { members_so_far result ≡ no_members }
@@ -112,7 +125,7 @@ impl MapBuilder {
         }
     }
 
-    /// Puts a value at a key, in place of what stood there, as [`put`] does.
+    /// Sets the value at a key, and replaces an earlier one, as [`put`] does.
     #[inline(always)]
     pub fn put(&mut self, key: String, value: Ipld) -> Result<(), AllocError>
         ensures ok { OnOk result (members_so_far self.new ≡ with_member (string_bytes key)
@@ -124,7 +137,7 @@ impl MapBuilder {
         put(&mut self.members, key, value)
     }
 
-    /// The entries. It does not allocate.
+    /// Returns the entries. Does not allocate.
     #[inline(always)]
     pub fn finish(self) -> BTreeMap<String, Ipld>
         ensures { members_of result.entries ≡ members_so_far self }
@@ -141,11 +154,14 @@ impl Drop for MapBuilder {
     }
 }
 
-/// Makes an [`Ipld`](crate::Ipld) of what is written: `null`, a list `[..]`, a map `{key: value, ..}`, or an expression of a
-/// type that is [`IntoIpld`](crate::convert::IntoIpld), as `true` and `"text"` are. A key is an expression of a type that is
-/// [`IntoKey`](crate::convert::IntoKey), in parentheses or not. A comma may follow the last item and the last member.
+/// Creates an [`Ipld`](crate::Ipld) from `null`, a list `[..]`, a map `{key: value, ..}`, or an
+/// expression.
 ///
-/// It evaluates to a `Result<Ipld, AllocError>`, whatever the function returns that the call stands in.
+/// An expression is of a type that is [`IntoIpld`](crate::convert::IntoIpld), such as `true` or
+/// `"text"`. A key is an expression of a type that is [`IntoKey`](crate::convert::IntoKey), with or
+/// without parentheses. A comma may follow the last item and the last entry.
+///
+/// It evaluates to a `Result<Ipld, AllocError>`, whatever the function around the call returns.
 ///
 /// ```
 /// let tree = ipld!(alloc, {
@@ -154,9 +170,13 @@ impl Drop for MapBuilder {
 /// })?;
 /// ```
 ///
-/// Expressions are evaluated in the order in which they are written, and the first error, which is only ever a failed allocation, is
-/// returned: what comes after it isn't evaluated, and what was built so far is dropped by a loop. Of two equal keys the later wins. It allocates for what the value holds and no more: a list is
-/// reserved at its length. A list or a map of more than about a hundred items is too long for one call.
+/// Expressions are evaluated in the order in which they are written. The first error is returned,
+/// and it is always a failed allocation. The expressions after it are not evaluated, and the part
+/// that was built is dropped by a loop.
+///
+/// If two keys are equal, the later value wins. The macro allocates for the contents of the value
+/// and no more: a list reserves its length. A list or a map of more than about a hundred items is
+/// too long for one call.
 #[macro_export]
 macro_rules! ipld {
     ($alloc:expr, $($ipld:tt)+) => {{
@@ -209,7 +229,7 @@ macro_rules! ipld_internal {
         $crate::ipld_internal!(@list $alloc $out [$($done)* ($last)])
     };
 
-    // A map: the tokens before a `:` are the key's.
+    // A map: the tokens before a `:` are the key.
     (@map $alloc:ident $out:lifetime $map:ident ()) => {};
     (@map $alloc:ident $out:lifetime $map:ident ($($key:tt)+) : null $(, $($rest:tt)*)?) => {
         $crate::ipld_internal!(@member $alloc $out $map ($($key)+) (null));

@@ -1,4 +1,4 @@
-//! How deep a shallow tree nests.
+//! The nesting of shallow trees.
 
 ghost use Rattle.std.specs.Prelude.{◌≡◌, ◌<◌, ◌≤◌, suc, IfSome, OnSome, MatchOption, string_cmp};
 ghost use Rattle.std.specs.List.Sorted.{IsStrictlySortedBy};
@@ -15,8 +15,8 @@ use crate::iter::know_bytes;
 use std::collections::BTreeMap;
 use std::slice;
 
-// How deep lists and maps nest in a value, `None` where that is more than `levels`. It recurses once for each level, at most
-// `levels` deep, and does not allocate.
+// The nesting of lists and maps in a value, or `None` if it is more than `levels`. It recurses once
+// for every level, at most `levels` deep, and does not allocate.
 #[cycle(nesting_within)]
 #[inline(always)]
 pub(crate) fn nesting_within(value: &Ipld, levels: usize) -> Option<usize>
@@ -28,7 +28,7 @@ pub(crate) fn nesting_within(value: &Ipld, levels: usize) -> Option<usize>
     match value {
         Ipld::List(items) => list_nesting_within(items.iter(), levels),
         Ipld::Map(members) => map_nesting_within(members, levels),
-        // A number is read for what its type says of it.
+        // The number is read so that the proof has the bounds of its type.
         Ipld::Integer(number) => {
             let _number = *number;
             Some(0)
@@ -41,7 +41,7 @@ pub(crate) fn nesting_within(value: &Ipld, levels: usize) -> Option<usize>
     }
 }
 
-// How deep a list of the items nests.
+// The nesting of a list of the items.
 #[cycle(nesting_within)]
 fn list_nesting_within(items: slice::Iter<'_, Ipld>, levels: usize) -> Option<usize>
     ensures nested { MatchOption result (levels < suc (deepest (iter_rest items.entry))) (λ n.
@@ -57,7 +57,7 @@ fn list_nesting_within(items: slice::Iter<'_, Ipld>, levels: usize) -> Option<us
     Some(greatest + 1)
 }
 
-// How deep a map of the members nests.
+// The nesting of a map of the members.
 #[cycle(nesting_within)]
 fn map_nesting_within(members: &BTreeMap<String, Ipld>, levels: usize) -> Option<usize>
     ensures nested { MatchOption result (levels < suc (deepest (values_of members.now.entries)))

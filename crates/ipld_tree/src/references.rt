@@ -16,22 +16,33 @@ use std::collections::{BTreeMap, BTreeSet};
 use std::slice;
 
 impl Ipld {
-    /// Appends the links of the tree, in the order of its walk, repeats included. Keys of maps are no links.
+    /// Appends the links of the tree, in the order of its walk, including repeats. Keys of maps are
+    /// not links.
     ///
-    /// It allocates for the links that are appended and, where lists or maps nest more than 32 levels deep, for a stack that
-    /// grows with their nesting: it recurses for 32 levels, and goes on by a loop. Where an allocation fails it returns
-    /// `AllocError`, and a beginning of the links was appended, perhaps none of them.
+    /// It recurses for 32 levels, and continues by a loop. It allocates for the appended links. If
+    /// lists or maps nest more than 32 levels deep, it also allocates for a stack that grows with
+    /// their nesting.
+    ///
+    /// # Errors
+    ///
+    /// `AllocError` if an allocation fails. A prefix of the links, perhaps an empty one, has then
+    /// been appended.
     pub fn references(&self, alloc: Global, set: &mut Vec<Cid>) -> Result<(), AllocError>
         ensures { Appends set.old.items set.new.items (links_of (tree_of self.now)) (is_ok result) }
     {
         add_links(alloc, set, self, SHALLOW)
     }
 
-    /// Puts the links of the tree into a set, each once. Keys of maps are no links. What the set had before stays.
+    /// Inserts the links of the tree into a set, every link once. Keys of maps are not links. The
+    /// earlier elements of the set stay.
     ///
-    /// It allocates for the links that are new in the set and for a stack that grows with the nesting of lists and maps; it is a
-    /// loop, so that trees of any depth are walked. Where an allocation fails it returns `AllocError`, and the links of a
-    /// beginning of the walk are in the set, perhaps none of them.
+    /// It is a loop, so it walks trees of any depth. It allocates for the links that are new in the
+    /// set, and for a stack that grows with the nesting of lists and maps.
+    ///
+    /// # Errors
+    ///
+    /// `AllocError` if an allocation fails. The links of a prefix of the walk, perhaps an empty
+    /// one, are then in the set.
     pub fn references_into_set(
         &self,
         alloc: Global,
@@ -47,7 +58,7 @@ impl Ipld {
     }
 }
 
-// Puts the link that a value is into a set, if it is one.
+// Inserts a value into a set if it is a link.
 #[inline(always)]
 fn insert_link(set: &mut BTreeSet<Cid>, value: &Ipld) -> Result<(), AllocError>
     ensures { Inserts set.old set.new (own_link (tree_of value.now)) (is_ok result) }
@@ -61,7 +72,7 @@ fn insert_link(set: &mut BTreeSet<Cid>, value: &Ipld) -> Result<(), AllocError>
     Ok(())
 }
 
-// Appends the links of a value: by recursion for so many levels, and by a loop below them.
+// Appends the links of a value, by recursion for at most `levels` levels, and by a loop below them.
 #[cycle(add_links)]
 #[inline(always)]
 fn add_links(
@@ -120,7 +131,7 @@ fn add_links_of_members(
     Ok(())
 }
 
-// Appends the links of a value, whatever its depth.
+// Appends the links of a value of any depth.
 fn add_links_by_loop(alloc: Global, set: &mut Vec<Cid>, value: &Ipld) -> Result<(), AllocError>
     ensures { Appends set.old.items set.new.items (links_of (tree_of value.now)) (is_ok result) }
 {
@@ -131,7 +142,7 @@ fn add_links_by_loop(alloc: Global, set: &mut Vec<Cid>, value: &Ipld) -> Result<
     Ok(())
 }
 
-// Appends the link that a value is, if it is one.
+// Appends a value if it is a link.
 #[inline(always)]
 fn add_link(set: &mut Vec<Cid>, value: &Ipld) -> Result<(), AllocError>
     ensures { Appends set.old.items set.new.items (own_link (tree_of value.now)) (is_ok result) }

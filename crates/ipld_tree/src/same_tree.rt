@@ -12,11 +12,15 @@ use std::alloc::{AllocError, Global};
 use std::collections::BTreeMap;
 
 impl Ipld {
-    /// Whether two values are one tree, as `==` says, found by a loop over both walks: it doesn't recurse, so that trees of
-    /// any depth are compared.
+    /// Returns whether two values are equal. The result is that of `==`. It is a loop over both
+    /// walks and doesn't recurse, so it compares trees of any depth.
     ///
-    /// It allocates, where both are lists or maps, for stacks that grow with the nesting of both, and returns `AllocError` where
-    /// that fails. It stops at the first value that differs.
+    /// If both are lists or maps, it allocates for stacks that grow with the nesting of both. It
+    /// stops at the first value that differs.
+    ///
+    /// # Errors
+    ///
+    /// `AllocError` if an allocation fails.
     pub fn same_tree(&self, alloc: Global, other: &Ipld) -> Result<bool, AllocError>
         ensures same { IfOk result (λ same. same ≡ tree_eq (tree_of self.now) (tree_of other.now)) }
         ensures nested { OnErr result ((0 < nest (tree_of self.now))
@@ -48,7 +52,8 @@ fn holds_none(value: &Ipld) -> bool
     !matches!(value, Ipld::List(_) | Ipld::Map(_))
 }
 
-// Whether two values are of one kind and hold as much, the values inside them left aside.
+// Whether two values are of the same kind, with equal contents apart from the values in them. Lists
+// are compared only by length, and maps by their keys.
 fn same_head(a: &Ipld, b: &Ipld) -> bool
     ensures { result ≡ head_eq (tree_of a.now) (tree_of b.now) }
 {

@@ -1,4 +1,4 @@
--- CIDs as the structs that cross to C.
+-- The C structs of CIDs.
 use Rattle.std.specs.Prelude.{ℕ, ◌++◌, ◌-◌, List, length, replicate}
 use Rattle.ipld_cid.specs.declared.cid.Version.{Version}
 use Rattle.ipld_cid.specs.declared.cid.Version.TheVariants.{V0, V1}
@@ -7,11 +7,11 @@ use Rattle.ipld_cid.specs.Bytes.{bytes_of}
 use Rattle.kombilad_c.specs.declared.cid_record.CidBytes.{CidBytes}
 use Rattle.kombilad_c.specs.declared.cid_record.CidParts.{CidParts}
 
--- the bytes with their length, and zeros up to 87 bytes
+-- The length of the bytes, and the bytes with zeros up to 87 bytes
 abbrev pub record_with : List ℕ → CidBytes
 record_with bytes = record { len = length bytes; bytes = bytes ++ replicate (87 - length bytes) 0 }
 
--- The bytes of a CID with their length, and zeros up to 87 bytes.
+-- The length of a CID's bytes, and the bytes with zeros up to 87 bytes.
 abbrev pub record_of : Link → CidBytes
 record_of link = record_with (bytes_of link)
 

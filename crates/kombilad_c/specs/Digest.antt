@@ -1,12 +1,12 @@
--- What the export about the digest of a block returns.
+-- The result of the export about the digest of a block.
 use Rattle.std.specs.Prelude.{◌≡◌, ◌⊎◌, ℕ, List, Some}
 use Rattle.ipld_block.specs.Digest.{digest_by, IsVerifyError}
 use Rattle.ipld_block.specs.declared.block_cid.error.VerifyError.{VerifyError}
 use Rattle.ipld_cid.specs.Cid.{Link}
 use Rattle.kombilad_c.specs.Status.{verify_status}
 
--- True if the block has the CID's digest by its hash function, with status 0; or the status is the
--- number of why it is not known to.
+-- True if the block has the CID's digest by its hash function, and the status is 0. Or the status
+-- is the number of the error of verifying it.
 abbrev pub Verifies : Link → List ℕ → ℕ → Type 0
 Verifies link block status =
     ((status ≡ 0) × (digest_by link.code block ≡ Some link.digest))

@@ -1,4 +1,4 @@
--- What the export that rewrites a block returns.
+-- The result of the export that rewrites a block.
 use Rattle.std.specs.Prelude.{◌⊎◌, ℕ, List}
 use Rattle.ipld_tree.specs.declared.limits.Limits.{Limits}
 use Rattle.dag_cbor_tape.specs.Canonical.{IsCanonicalOf}
@@ -6,9 +6,9 @@ use Rattle.kombilad_c.specs.Block.{IsWithin, IsStopped}
 use Rattle.kombilad_c.specs.Fill.{Variable, Fills, IsUntouched}
 use Rattle.kombilad_c.specs.Tape.{IsTooLong}
 
--- True if the canonical block of the value that the block encodes goes to the buffer. Or a length
--- of an entry of its tape would have more than 32 bits, or reading it stopped, and nothing is
--- written.
+-- True if the canonical block of the value that the block encodes goes to the buffer. Or an entry
+-- of its tape would have a length of 2^32 or more, and nothing is written. Or reading the block
+-- stopped, and only the offset is written.
 abbrev pub Rewrites :
     Limits → List ℕ → (status : ℕ) → Variable (List ℕ) → (needed offset : Variable ℕ) → Type 0
 Rewrites limits block status buffer needed offset =

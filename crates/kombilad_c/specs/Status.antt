@@ -1,4 +1,4 @@
--- The numbers that the exports return. The header for C has a name for each.
+-- The status numbers that the exports return. The C header has their names.
 use Rattle.std.specs.Prelude.{ℕ}
 use Rattle.ipld_cid.specs.declared.error.CidError.{CidError}
 use Rattle.ipld_cid.specs.declared.error.CidError.TheVariants as cid
@@ -17,8 +17,8 @@ use Rattle.dag_pb.specs.declared.error.PbErrorKind.TheVariants as pb
 use Rattle.ipld_car.specs.declared.error.CarErrorKind.{CarErrorKind}
 use Rattle.ipld_car.specs.declared.error.CarErrorKind.TheVariants as car
 
--- The number of an error why bytes are not a CID, as `bindings/c/kombilad.h` names it; 15 is an
--- error that no export returns.
+-- The status of an error of bytes that are not a CID, named in `bindings/c/kombilad.h`. No export
+-- returns 15.
 abbrev pub cid_status : CidError → ℕ
 cid_status cid.Memory = 1
 cid_status cid.End = 16
@@ -31,7 +31,7 @@ cid_status cid.TrailingBytes = 22
 cid_status cid.InvalidV0Multihash = 15
 cid_status cid.InvalidText = 15
 
--- The number of an error why a text is not one of a CID, as `bindings/c/kombilad.h` names it.
+-- The status of an error of a text that is not one of a CID, named in `bindings/c/kombilad.h`.
 abbrev pub text_status : TextError → ℕ
 text_status text.UnknownBase = 32
 text_status text.InvalidLength = 33
@@ -40,8 +40,8 @@ text_status text.UnusedBits = 35
 text_status text.WrongVersion = 36
 text_status (text.Cid error) = cid_status error
 
--- The number of an error why the bytes of a link are not a CID, as `bindings/c/kombilad.h` names
--- it.
+-- The status of an error of the bytes of a link that are not a CID, named in
+-- `bindings/c/kombilad.h`. No export returns 15.
 abbrev pub link_status : CidError → ℕ
 link_status cid.Memory = 1
 link_status cid.End = 80
@@ -54,7 +54,8 @@ link_status cid.TrailingBytes = 86
 link_status cid.InvalidV0Multihash = 15
 link_status cid.InvalidText = 15
 
--- The number of an error why bytes are not a block, as `bindings/c/kombilad.h` names it.
+-- The status of an error of bytes that are not a block, named in `bindings/c/kombilad.h`. No export
+-- returns 15.
 abbrev pub block_status : CborError → ℕ
 block_status block.Memory = 1
 block_status block.End = 48
@@ -71,15 +72,14 @@ block_status block.Read = 15
 block_status block.Write = 15
 block_status block.IntegerRange = 15
 
--- The number of an error why a block is not read within limits, as `bindings/c/kombilad.h` names
--- it.
+-- The status of an error of reading a block within limits, named in `bindings/c/kombilad.h`.
 abbrev pub limit_status : BlockErrorKind → ℕ
 limit_status TooDeep = 6
 limit_status TooMany = 7
 limit_status (Cbor error) = block_status error
 
--- The number of an error why a CAR is not read, as `bindings/c/kombilad.h` names it. Reading bytes
--- in memory does not fail.
+-- The status of an error of reading a CAR, named in `bindings/c/kombilad.h`. Reading bytes in
+-- memory does not fail.
 abbrev pub car_status : CarErrorKind → ℕ
 car_status car.Memory = 1
 car_status (car.Read error) = 1
@@ -94,13 +94,12 @@ car_status (car.ShortPayload expected found) = 104
 car_status (car.Cid error) = cid_status error
 car_status (car.HeaderBlock kind) = limit_status kind
 
--- The number of an error why a block is not known to be a CID's, as `bindings/c/kombilad.h` names
--- it.
+-- The status of an error of verifying that a block is a CID's, named in `bindings/c/kombilad.h`.
 abbrev pub verify_status : VerifyError → ℕ
 verify_status (UnknownHash code) = 112
 verify_status WrongDigest = 113
 
--- The number of an error why no block is written of a tape, as `bindings/c/kombilad.h` names it.
+-- The status of an error of writing the block of a tape, named in `bindings/c/kombilad.h`.
 abbrev pub encode_status : EncodeErrorKind → ℕ
 encode_status tape.Memory = 1
 encode_status tape.Missing = 128
@@ -114,7 +113,7 @@ encode_status tape.Float = 135
 encode_status tape.DuplicateKey = 137
 encode_status (tape.Cid error) = link_status error
 
--- The number of an error why bytes are not a node of DAG-PB, as `bindings/c/kombilad.h` names it.
+-- The status of an error of bytes that are not a DAG-PB node, named in `bindings/c/kombilad.h`.
 abbrev pub pb_status : PbErrorKind → ℕ
 pb_status pb.Memory = 1
 pb_status pb.End = 144

@@ -1,7 +1,7 @@
--- What each status reports, in a sentence. The statuses of one cause begin at a multiple of 16.
+-- The sentence of every status. The statuses of one cause begin at a multiple of 16.
 use Rattle.std.specs.Prelude.{ℕ, ◌/◌, ◌%◌, ◌==◌, if◌then◌else◌, List, Option, Some, None, codes, unwrap_or}
 
--- from 0 on: of any call
+-- The sentences of the statuses from 0 on: any call
 abbrev pub any_sentence : ℕ → Option (List ℕ)
 any_sentence n =
     if n == 0 then Some (codes "the call succeeded")
@@ -15,7 +15,7 @@ any_sentence n =
     else if n == 8 then Some (codes "a string, a byte string, a list or a map is too long for a tape")
     else None
 
--- from 16 on: why bytes are not a CID
+-- The sentences of the statuses from 16 on: bytes that are not a CID
 abbrev pub cid_sentence : ℕ → Option (List ℕ)
 cid_sentence n =
     if n == 0 then Some (codes "the bytes end before the CID does")
@@ -27,7 +27,7 @@ cid_sentence n =
     else if n == 6 then Some (codes "more bytes follow the CID")
     else None
 
--- from 32 on: why a text is not one of a CID
+-- The sentences of the statuses from 32 on: a text that is not one of a CID
 abbrev pub text_sentence : ℕ → Option (List ℕ)
 text_sentence n =
     if n == 0 then Some (codes "the text is empty, or begins with the prefix of an unknown base")
@@ -38,7 +38,7 @@ text_sentence n =
     else if n == 5 then Some (codes "the text is not UTF-8")
     else None
 
--- from 48 on: why bytes are not a block
+-- The sentences of the statuses from 48 on: bytes that are not a block
 abbrev pub block_sentence : ℕ → Option (List ℕ)
 block_sentence n =
     if n == 0 then Some (codes "the bytes end before the item does")
@@ -52,7 +52,7 @@ block_sentence n =
     else if n == 8 then Some (codes "more bytes follow the item")
     else None
 
--- from 80 on: why the bytes of a link are not a CID
+-- The sentences of the statuses from 80 on: the bytes of a link that are not a CID
 abbrev pub link_sentence : ℕ → Option (List ℕ)
 link_sentence n =
     if n == 0 then Some (codes "the bytes of a link end before its CID does")
@@ -64,7 +64,7 @@ link_sentence n =
     else if n == 6 then Some (codes "more bytes follow the CID of a link")
     else None
 
--- from 96 on: why a CAR is not read
+-- The sentences of the statuses from 96 on: a CAR that cannot be read
 abbrev pub car_sentence : ℕ → Option (List ℕ)
 car_sentence n =
     if n == 0 then Some (codes "the CAR has no more sections")
@@ -78,14 +78,14 @@ car_sentence n =
     else if n == 8 then Some (codes "the bytes end before the payload of version 2 does")
     else None
 
--- from 112 on: why a block is not known to be that of a CID
+-- The sentences of the statuses from 112 on: a block that is not known to be that of a CID
 abbrev pub digest_sentence : ℕ → Option (List ℕ)
 digest_sentence n =
     if n == 0 then Some (codes "the hash function of the CID is not SHA2-256, SHA2-512 or identity")
     else if n == 1 then Some (codes "the digest of the block is not that of the CID")
     else None
 
--- from 128 on: why no block is written of a tape
+-- The sentences of the statuses from 128 on: a tape that has no block
 abbrev pub tape_sentence : ℕ → Option (List ℕ)
 tape_sentence n =
     if n == 0 then Some (codes "an entry for a value or a key is missing")
@@ -99,7 +99,7 @@ tape_sentence n =
     else if n == 9 then Some (codes "a map has the same key twice")
     else None
 
--- from 144 on: why bytes are not a node of DAG-PB
+-- The sentences of the statuses from 144 on: bytes that are not a DAG-PB node
 abbrev pub pb_sentence : ℕ → Option (List ℕ)
 pb_sentence n =
     if n == 0 then Some (codes "the bytes end before the field does")
@@ -110,7 +110,7 @@ pb_sentence n =
     else if n == 5 then Some (codes "the name of a link is not UTF-8")
     else None
 
--- the sentence of a number of a family, if it has one
+-- The sentence of the number `n` in a family, if it has one
 abbrev pub sentence_in : ℕ → ℕ → Option (List ℕ)
 sentence_in family n =
     if family == 0 then any_sentence n

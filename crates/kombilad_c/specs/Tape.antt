@@ -1,4 +1,4 @@
--- What the export that lists the values of a block returns.
+-- The result of the export that lists the values of a block.
 use Rattle.std.specs.Prelude.{◌≡◌, ◌⊎◌, ℕ, true, false, List}
 use Rattle.ipld_tree.specs.declared.limits.Limits.{Limits}
 use Rattle.dag_cbor_blocks.specs.Tape.{IsTapeOf, all_short}
@@ -6,7 +6,8 @@ use Rattle.dag_cbor_blocks.specs.declared.tape.TapeEntry.{TapeEntry}
 use Rattle.kombilad_c.specs.Block.{IsWithin, IsStopped}
 use Rattle.kombilad_c.specs.Fill.{Variable, Fills, IsUntouched}
 
--- a length of one of the block's entries has more than 32 bits, and nothing is written
+-- True if an entry of the block's tape has a length of 2^32 or more. The status is 8, and the
+-- offset is as before.
 pub record IsTooLong (limits : Limits) (block : List ℕ) (status before after : ℕ) : Type 0 where
   pub entries : List TapeEntry
   pub is_tape : IsTapeOf entries block
@@ -14,8 +15,9 @@ pub record IsTooLong (limits : Limits) (block : List ℕ) (status before after :
   pub within : IsWithin limits block before after
   pub failed : status ≡ 8
 
--- True if the entries of the block's values and keys, of which none is too long, go to the buffer.
--- Or one of them would be too long, or reading the block stopped, and nothing is written.
+-- True if the entries of the block's values and keys, with lengths below 2^32, go to the buffer. Or
+-- one of them would be longer, and nothing is written. Or reading the block stopped, and only the
+-- offset is written.
 abbrev pub ListsTape :
     Limits → List ℕ → (status : ℕ) → Variable (List TapeEntry) → (needed offset : Variable ℕ) → Type 0
 ListsTape limits block status buffer needed offset =
@@ -27,6 +29,6 @@ ListsTape limits block status buffer needed offset =
     ⊎ (IsStopped limits block status offset.after
     × IsUntouched buffer.before buffer.after needed.before needed.after)
 
--- the status of a call that lists a block's values
+-- True if the status is one of a call that lists a block's values: 0 or 2
 abbrev pub IsListed : ℕ → Type 0
 IsListed status = (status ≡ 0) ⊎ (status ≡ 2)

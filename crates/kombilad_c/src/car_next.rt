@@ -9,7 +9,7 @@ use crate::positions::Span;
 use crate::status::{CAR_DONE, OK, car_status};
 use ipld_car::section_at;
 
-/// Finds the section that begins at the byte `at` of a CAR, of the sections that go on to the byte `end`.
+/// Finds the section that begins at the byte `at` of a CAR, whose sections end at the byte `end`.
 #[unsafe(no_mangle)]
 pub extern "C" fn kombilad_car_next(
     car: &[u8],

@@ -1,4 +1,4 @@
-//! What stands before the sections of a CAR.
+//! The part of a CAR before its sections.
 
 ghost use Rattle.std.specs.Prelude.{◌≡◌, ◌≤◌, ◌<◌, ◌^◌, ◌++◌, List, ℕ, length, map};
 ghost use Rattle.ipld_cid.specs.Cid.{Link};
@@ -15,7 +15,7 @@ use ipld_car::{CarReader, CarVersion};
 use ipld_cid::Cid;
 use std::alloc::Global;
 
-/// Where the sections of a CAR stand in its bytes.
+/// The places of a CAR's sections in its bytes.
 #[repr(C)]
 #[derive(Clone, Copy)]
 pub struct CarBounds {
@@ -23,12 +23,13 @@ pub struct CarBounds {
     pub version: u64,
     /// The byte at which the first section begins.
     pub sections: usize,
-    /// The byte at which the last one ends: that of the bytes of version 1; of version 2 that of the payload by its header, which may be
-    /// behind the bytes.
+    /// The byte at which the last section ends. For version 1, it is the number of bytes. For
+    /// version 2, it is the end of the payload by its header, which may be after the end of the
+    /// bytes.
     pub end: usize,
 }
 
-// The number of a version.
+// Returns the number of a version.
 fn number_of(version: CarVersion) -> u64
     ensures { result ≡ version_number version }
 {
@@ -38,7 +39,8 @@ fn number_of(version: CarVersion) -> u64
     }
 }
 
-// Writes the CIDs to the buffer's beginning, where it holds them, and how many they are in either case.
+// Writes the CIDs to the beginning of the buffer if they fit. Sets `needed` to their number in
+// either case.
 fn fill_roots(cids: &[Cid], buffer: &mut [CidBytes], needed: &mut usize) -> u32
     ensures { Fills (map (λ cid. record_of (link_of cid)) cids.now) result buffer.old buffer.new
         needed.new }
@@ -53,7 +55,8 @@ fn fill_roots(cids: &[Cid], buffer: &mut [CidBytes], needed: &mut usize) -> u32
     OK
 }
 
-/// Reads what stands before the sections of a CAR, of which neither a header nor its pragma has more than `limit` bytes, and lists the roots.
+/// Reads the part of a CAR before its sections, and lists the roots. A header or its pragma has at
+/// most `limit` bytes.
 #[unsafe(no_mangle)]
 pub extern "C" fn kombilad_car_open(
     alloc: Global,

@@ -1,4 +1,4 @@
-//! CIDs checked, taken apart, written as text and read from it.
+//! CIDs checked, taken apart, written as text and read from text.
 
 ghost use Rattle.std.specs.Prelude.{◌≡◌, ◌⊎◌, MatchResult, MatchOption, Ok, Err};
 ghost use Rattle.ipld_cid.specs.Cid.{Link};
@@ -19,7 +19,7 @@ use ipld_cid_text::{Base, TextError, ToStringError, parse_any, to_string_of_base
 use std::alloc::Global;
 use std::str;
 
-/// Checks that the bytes are those of a CID, all of them.
+/// Checks that the bytes are a CID, with nothing after it.
 #[unsafe(no_mangle)]
 pub extern "C" fn kombilad_cid_check(bytes: &[u8]) -> u32
     ensures { result ≡ read_status (read_cid 64 bytes.now) }
@@ -30,7 +30,7 @@ pub extern "C" fn kombilad_cid_check(bytes: &[u8]) -> u32
     }
 }
 
-/// Reads the parts of the CID that the bytes are.
+/// Reads the parts of the CID that the bytes encode.
 #[unsafe(no_mangle)]
 pub extern "C" fn kombilad_cid_parts_of(bytes: &[u8], parts: &mut CidParts) -> u32
     ensures { MatchResult (read_cid 64 bytes.now)
@@ -46,7 +46,7 @@ pub extern "C" fn kombilad_cid_parts_of(bytes: &[u8], parts: &mut CidParts) -> u
     }
 }
 
-// The base of a CID's text that the number asks for.
+// Returns the base of a CID's text that has this number.
 #[inline(always)]
 fn base_of(version: Version, number: u32) -> Option<Base>
     ensures { result ≡ asked_base version number }
@@ -63,7 +63,7 @@ fn base_of(version: Version, number: u32) -> Option<Base>
     }
 }
 
-// Writes the text of a version 1 CID in base32, which its bytes in base32 are.
+// Writes the text of a version 1 CID in base32, from the CID's bytes.
 #[inline(always)]
 fn write_base32(cid: &Cid, bytes: &[u8], text: &mut [u8], needed: &mut usize) -> Option<u32>
     requires read { read_cid 64 bytes.now ≡ Ok (link_of cid.now) }
@@ -90,7 +90,7 @@ fn write_in_base(alloc: Global, cid: &Cid, base: Base, text: &mut [u8], needed: 
     }
 }
 
-// Writes the text of the CID in the base, of base32 without an allocation.
+// Writes the text of the CID in the base, without an allocation for base32.
 #[inline(always)]
 fn write_quickly(
     alloc: Global,
@@ -115,7 +115,8 @@ fn write_quickly(
     }
 }
 
-/// Writes the text of the CID that the bytes are, in the base that the number asks for, to the buffer.
+/// Writes the text of the CID that the bytes encode to the buffer, in the base that has this
+/// number.
 #[unsafe(no_mangle)]
 pub extern "C" fn kombilad_cid_to_text(
     alloc: Global,
@@ -142,7 +143,7 @@ pub extern "C" fn kombilad_cid_to_text(
     }
 }
 
-// The CID of a text, or the place of the letter that is none.
+// Reads the CID of a text, or returns the place of the invalid letter.
 fn parse_text(text: &str, cid: &mut CidBytes, place: &mut usize) -> u32
     ensures read { IsParsed text.now result cid.new place.old place.new
         ⊎ IsRejected text.now result cid.old cid.new place.old place.new }
@@ -163,7 +164,7 @@ fn parse_text(text: &str, cid: &mut CidBytes, place: &mut usize) -> u32
     }
 }
 
-/// Reads the CID that is named by a text in any of the bases, or by one after `/ipfs/`.
+/// Reads a CID from its text in any of the bases, or from one after `/ipfs/`.
 #[unsafe(no_mangle)]
 pub extern "C" fn kombilad_cid_from_text(text: &[u8], cid: &mut CidBytes, place: &mut usize) -> u32
     ensures read { IsParsed text.now result cid.new place.old place.new

@@ -1,4 +1,4 @@
-//! CIDs as structs that cross to C.
+//! CIDs as structs for C.
 
 ghost use Rattle.std.specs.Prelude.{◌≡◌, ◌≤◌, length};
 ghost use Rattle.ipld_cid.specs.LinkOf.{link_of};
@@ -9,7 +9,7 @@ use ipld_cid::{Cid, Version};
 #[repr(C)]
 #[derive(Clone, Copy)]
 pub struct CidBytes {
-    /// How many bytes the CID has, at most 86.
+    /// The number of bytes of the CID, at most 86.
     pub len: u8,
     /// The bytes, and zeros after them.
     pub bytes: [u8; 87],
@@ -32,7 +32,7 @@ pub struct CidParts {
 impl CidBytes {
     ghost use Rattle.kombilad_c.specs.CidRecord.{record_of, record_with};
 
-    // These bytes, with their length.
+    // Creates a record of these bytes, with their length.
     #[inline(always)]
     pub(crate) fn with(content: &[u8]) -> Self
         requires { length content.now ≤ 87 }
@@ -46,7 +46,7 @@ impl CidBytes {
         }
     }
 
-    /// The bytes of a CID.
+    /// Creates the record of a CID's bytes.
     #[inline(always)]
     pub(crate) fn of(cid: &Cid) -> Self
         ensures { result ≡ record_of (link_of cid.now) }
@@ -65,7 +65,7 @@ impl CidBytes {
 impl CidParts {
     ghost use Rattle.kombilad_c.specs.CidRecord.{parts_of};
 
-    /// The parts of a CID.
+    /// Creates the record of a CID's parts.
     #[inline(always)]
     pub(crate) fn of(cid: &Cid) -> Self
         ensures { result ≡ parts_of (link_of cid.now) }

@@ -1,4 +1,4 @@
-//! Whether a block is the one that a CID names.
+//! The check of a block against a CID.
 
 ghost use Rattle.std.specs.Prelude.{◌≡◌, MatchResult};
 ghost use Rattle.ipld_cid.specs.Bytes.{read_cid};
@@ -9,7 +9,7 @@ use crate::status::{OK, cid_status, verify_status};
 use ipld_block::verify;
 use ipld_cid::Cid;
 
-/// Compares the digest of a block with that of the CID that the bytes are.
+/// Compares the digest of a block with that of the CID that the bytes encode.
 #[unsafe(no_mangle)]
 pub extern "C" fn kombilad_verify(cid: &[u8], block: &[u8]) -> u32
     ensures { MatchResult (read_cid 64 cid.now)

@@ -1,4 +1,4 @@
-//! The block of a tape, written.
+//! Tapes encoded as blocks.
 
 ghost use Rattle.std.specs.Prelude.{ℕ, List};
 ghost use Rattle.ipld_tokens.specs.Item.{Item};
@@ -11,7 +11,8 @@ use dag_cbor_blocks::tape::TapeEntry;
 use dag_cbor_tape::encode_tape;
 use std::alloc::Global;
 
-/// Writes the canonical block of the value that the entries describe, the pairs of a map in any order, over the data to which they refer.
+/// Writes the canonical block of the value that the entries describe, over the data that they refer
+/// to. The pairs of a map may be in any order.
 #[unsafe(no_mangle)]
 pub extern "C" fn kombilad_encode(
     alloc: Global,

@@ -1,10 +1,11 @@
-//! A buffer of the caller, filled.
+//! The caller's buffers.
 
 ghost use Rattle.kombilad_c.specs.Fill.{Fills};
 
 use crate::status::{OK, TOO_SHORT};
 
-/// Writes the bytes to the buffer's beginning, where it holds them, and how many they are in either case.
+/// Writes the bytes to the beginning of the buffer if they fit. Sets `needed` to their number in
+/// either case.
 #[inline(always)]
 pub(crate) fn fill(content: &[u8], buffer: &mut [u8], needed: &mut usize) -> u32
     ensures { Fills content.now result buffer.old buffer.new needed.new }

@@ -1,7 +1,9 @@
-//! The library `libkombilad`: what C, and whatever calls C, needs of CIDs, of blocks of DAG-CBOR and of DAG-PB, and of CARs.
+//! The library `libkombilad`: CIDs, blocks of DAG-CBOR and DAG-PB, and CARs for C and for languages
+//! that call C.
 //!
-//! Each export calls the libraries below and says in its clauses what it returns and what it writes. The numbers that they return are
-//! those of `status`. `bindings/c/kombilad.h` declares the exports for C, and says what a caller has to keep to.
+//! Each export calls the libraries below, and its clauses state its result and its output. The
+//! numbers that the exports return are those of `status`. `bindings/c/kombilad.h` declares the
+//! exports for C, with the rules for callers.
 #![tactic(auto)]
 
 mod base32;

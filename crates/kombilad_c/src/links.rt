@@ -14,7 +14,7 @@ use dag_cbor_blocks::{LinkPosition, ReadOptions, link_positions};
 use ipld_tree::Limits;
 use std::alloc::Global;
 
-// The bytes of the block at the position, as far as the block goes.
+// Returns the bytes of the block at the position, up to the end of the block.
 #[inline(always)]
 fn bytes_at<'a>(block: &'a [u8], position: &LinkPosition) -> &'a [u8]
     ensures { result.now ≡ cut (position_of position.now) block.now }
@@ -23,7 +23,8 @@ fn bytes_at<'a>(block: &'a [u8], position: &LinkPosition) -> &'a [u8]
     &bytes[..position.length.min(bytes.len())]
 }
 
-// Writes the bytes at the positions to the buffer's beginning, where it holds them, and how many they are in either case.
+// Writes the bytes at the positions to the beginning of the buffer if they fit. Sets `needed` to
+// the number of positions in either case.
 fn fill_links(
     block: &[u8],
     positions: &[LinkPosition],
@@ -44,7 +45,8 @@ fn fill_links(
     OK
 }
 
-/// Lists the CIDs of the block's links, in the order of its bytes, each as often as it stands there.
+/// Lists the CIDs of the block's links, in the order of its bytes. A CID is listed as often as it
+/// appears in the block.
 #[unsafe(no_mangle)]
 pub extern "C" fn kombilad_links(
     alloc: Global,

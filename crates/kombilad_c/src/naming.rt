@@ -9,7 +9,7 @@ use crate::cid_record::CidBytes;
 use ipld_cid::{Cid, Multihash, SHA2_256, Version};
 use sha2::{Digest, Sha256};
 
-/// Makes the CID of a block: version 1, with the codec that the block is of, and with the block's SHA2-256 digest.
+/// Creates the CID of a block: version 1, with the block's codec and its SHA2-256 digest.
 #[unsafe(no_mangle)]
 pub extern "C" fn kombilad_cid_of_block(codec: u64, block: &[u8], cid: &mut CidBytes)
     ensures { cid.new ≡ record_of (link_from_parts Version.V1 codec

@@ -14,7 +14,7 @@ use std::alloc::{AllocError, Global};
 #[derive(Drop)]
 struct NodeTape {
     entries: Vec<TapeEntry>,
-    // Whether each entry could be written.
+    // Whether every entry could be written.
     fits: bool,
 }
 
@@ -28,7 +28,7 @@ impl NodeTape {
         }
     }
 
-    // Content at a span.
+    // Appends content at a span.
     fn push_content(&mut self, kind: u32, span: PbSpan) -> Result<(), AllocError>
         ensures { OnOk result (entries_of self.new ≡ joined (entries_of self.old)
             (content_at kind span)) }
@@ -46,7 +46,7 @@ impl NodeTape {
         Ok(())
     }
 
-    // The same, where there is any.
+    // Appends content at a span, if there is one.
     fn push_content_if_any(&mut self, kind: u32, span: Option<PbSpan>) -> Result<(), AllocError>
         ensures { OnOk result (entries_of self.new ≡ joined (entries_of self.old)
             (content_where kind span)) }
@@ -57,7 +57,7 @@ impl NodeTape {
         }
     }
 
-    // A size, where there is one.
+    // Appends a size, if there is one.
     fn push_tsize(&mut self, tsize: Option<u64>) -> Result<(), AllocError>
         ensures { OnOk result (entries_of self.new ≡ joined (entries_of self.old)
             (Some (tsize_entry tsize))) }
@@ -75,7 +75,7 @@ impl NodeTape {
         }
     }
 
-    // A link.
+    // Appends a link.
     fn push_link(&mut self, spans: &PbLinkSpans) -> Result<(), AllocError>
         ensures { OnOk result (entries_of self.new ≡ joined (entries_of self.old)
             (link_at spans.now)) }
@@ -86,7 +86,7 @@ impl NodeTape {
     }
 }
 
-// The entries of a node.
+// Returns the entries of a node.
 fn node_tape(alloc: Global, spans: &PbNodeSpans) -> Result<NodeTape, AllocError>
     ensures { IfOk result (λ tape. entries_of tape ≡ node_at spans.now) }
 {
@@ -100,7 +100,7 @@ fn node_tape(alloc: Global, spans: &PbNodeSpans) -> Result<NodeTape, AllocError>
     Ok(tape)
 }
 
-/// Lists the links of the node of DAG-PB that the block is, and its data.
+/// Lists the links and the data of the DAG-PB node that the block encodes.
 #[unsafe(no_mangle)]
 pub extern "C" fn kombilad_pb_tape(
     alloc: Global,

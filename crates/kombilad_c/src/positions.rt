@@ -1,4 +1,4 @@
-//! Where the links of a block stand in it, listed.
+//! The places of a block's links, listed.
 
 ghost use Rattle.std.specs.Prelude.{◌≡◌, map};
 ghost use Rattle.dag_cbor_blocks.specs.LinkPositions.{position_of};
@@ -10,13 +10,13 @@ use dag_cbor_blocks::{LinkPosition, ReadOptions, link_positions};
 use ipld_tree::Limits;
 use std::alloc::Global;
 
-/// Where the bytes of a CID stand in a block.
+/// The place of a CID's bytes in a block.
 #[repr(C)]
 #[derive(Clone, Copy)]
 pub struct Span {
     /// The byte of the block at which they begin.
     pub offset: usize,
-    /// How many they are.
+    /// The number of bytes.
     pub len: usize,
 }
 
@@ -32,7 +32,8 @@ impl Span {
     }
 }
 
-// Writes the places to the buffer's beginning, where it holds them, and how many they are in either case.
+// Writes the places to the beginning of the buffer if they fit. Sets `needed` to their number in
+// either case.
 fn fill_positions(positions: &[LinkPosition], buffer: &mut [Span], needed: &mut usize) -> u32
     ensures { Fills (map (λ position. span_of (position_of position)) positions.now) result
         buffer.old buffer.new needed.new }
@@ -47,7 +48,7 @@ fn fill_positions(positions: &[LinkPosition], buffer: &mut [Span], needed: &mut 
     OK
 }
 
-/// Lists where the CIDs of the block's links stand in it, in the order of its bytes.
+/// Lists the places of the CIDs of the block's links, in the order of its bytes.
 #[unsafe(no_mangle)]
 pub extern "C" fn kombilad_link_positions(
     alloc: Global,

@@ -1,4 +1,4 @@
-//! Blocks rewritten as the canonical ones of what they encode.
+//! Blocks rewritten in canonical form.
 
 ghost use Rattle.kombilad_c.specs.Rewrite.{Rewrites};
 
@@ -9,7 +9,7 @@ use dag_cbor_tape::canonicalize;
 use ipld_tree::Limits;
 use std::alloc::Global;
 
-/// Writes the canonical block of what the block encodes, where that is within the limits.
+/// Writes the canonical block of the value that the block encodes, if that is within the limits.
 #[unsafe(no_mangle)]
 pub extern "C" fn kombilad_block_canonicalize(
     alloc: Global,

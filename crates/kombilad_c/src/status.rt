@@ -12,28 +12,28 @@ use ipld_car::CarErrorKind;
 use ipld_cid::CidError;
 use ipld_cid_text::TextError;
 
-/// The call did what it is for.
+/// The call succeeded.
 pub(crate) const OK: u32 = 0;
 /// An allocation failed.
 pub(crate) const MEMORY: u32 = 1;
-/// The buffer is too short for what it is to hold.
+/// The buffer is too short for its content.
 pub(crate) const TOO_SHORT: u32 = 2;
-/// A block is not the canonical one of its tree.
+/// A block is not the canonical encoding of its tree.
 pub(crate) const NOT_CANONICAL: u32 = 3;
-/// The number of a base is none.
+/// A number is not that of a base.
 pub(crate) const UNKNOWN_BASE: u32 = 4;
-/// A version 0 CID has a text in base58btc alone.
+/// The text of a version 0 CID is only in base58btc.
 pub(crate) const V0_BASE: u32 = 5;
 /// A string, a byte string, a list or a map is too long for an entry of a tape.
 pub(crate) const TOO_LONG: u32 = 8;
-// An error of what no export does.
+// The error of an operation that no export performs.
 const OTHER: u32 = 15;
 /// A text is not UTF-8.
 pub(crate) const TEXT_UTF8: u32 = 37;
 /// No section of a CAR is left.
 pub(crate) const CAR_DONE: u32 = 96;
 
-/// The number of why bytes are no CID.
+/// Returns the number of the reason why bytes are not a CID.
 pub(crate) fn cid_status(error: CidError) -> u32
     ensures { result ≡ numbers.cid_status error }
 {
@@ -50,7 +50,7 @@ pub(crate) fn cid_status(error: CidError) -> u32
     }
 }
 
-/// The number of why a text is none of a CID.
+/// Returns the number of the reason why a text is not one of a CID.
 pub(crate) fn text_status(error: TextError) -> u32
     ensures { result ≡ numbers.text_status error }
 {
@@ -64,7 +64,7 @@ pub(crate) fn text_status(error: TextError) -> u32
     }
 }
 
-// The number of why the bytes of a link are no CID.
+// Returns the number of the reason why the bytes of a link are not a CID.
 fn link_status(error: CidError) -> u32
     ensures { result ≡ numbers.link_status error }
 {
@@ -81,7 +81,7 @@ fn link_status(error: CidError) -> u32
     }
 }
 
-/// The number of why bytes are no block.
+/// Returns the number of the reason why bytes are not a block.
 pub(crate) fn block_status(error: CborError) -> u32
     ensures { result ≡ numbers.block_status error }
 {
@@ -101,7 +101,7 @@ pub(crate) fn block_status(error: CborError) -> u32
     }
 }
 
-/// The number of why a block isn't read within limits.
+/// Returns the number of the reason why a block is not read within limits.
 pub(crate) fn limit_status(kind: BlockErrorKind) -> u32
     ensures { result ≡ numbers.limit_status kind }
 {
@@ -112,7 +112,8 @@ pub(crate) fn limit_status(kind: BlockErrorKind) -> u32
     }
 }
 
-/// The number of why reading a block stopped, and the offset at which it did.
+/// Returns the number of the reason why reading a block stopped, and writes the offset of the
+/// error.
 #[inline(always)]
 pub(crate) fn stop_status(error: BlockError, offset: &mut usize) -> u32
     ensures status { result ≡ numbers.limit_status error.kind }
@@ -122,12 +123,12 @@ pub(crate) fn stop_status(error: BlockError, offset: &mut usize) -> u32
     limit_status(error.kind)
 }
 
-/// The number of why a CAR isn't read.
+/// Returns the number of the reason why a CAR is not read.
 pub(crate) fn car_status(kind: CarErrorKind) -> u32
     ensures { result ≡ numbers.car_status kind }
 {
     match kind {
-        // Bytes in memory are no reader that fails.
+        // A reader of bytes in memory does not fail.
         CarErrorKind::Memory | CarErrorKind::Read(_) => MEMORY,
         CarErrorKind::UnexpectedEnd => 97,
         CarErrorKind::LengthNotShortest => 98,
@@ -142,7 +143,7 @@ pub(crate) fn car_status(kind: CarErrorKind) -> u32
     }
 }
 
-/// The number of why a block isn't known to be a CID's.
+/// Returns the number of the reason why a block is not known to match a CID.
 pub(crate) fn verify_status(error: VerifyError) -> u32
     ensures { result ≡ numbers.verify_status error }
 {
@@ -152,7 +153,7 @@ pub(crate) fn verify_status(error: VerifyError) -> u32
     }
 }
 
-/// The number of why no block is written of a tape.
+/// Returns the number of the reason why a tape is not encoded as a block.
 pub(crate) fn encode_status(kind: EncodeErrorKind) -> u32
     ensures { result ≡ numbers.encode_status kind }
 {
@@ -171,7 +172,7 @@ pub(crate) fn encode_status(kind: EncodeErrorKind) -> u32
     }
 }
 
-/// The number of why bytes are no node of DAG-PB.
+/// Returns the number of the reason why bytes are not a node of DAG-PB.
 pub(crate) fn pb_status(kind: PbErrorKind) -> u32
     ensures { result ≡ numbers.pb_status kind }
 {

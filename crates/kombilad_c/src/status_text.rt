@@ -1,4 +1,4 @@
-//! What each status reports, in a sentence.
+//! The sentences of the statuses.
 
 ghost use Rattle.std.specs.Prelude.{◌≡◌, option_map};
 ghost use Rattle.kombilad_c.specs.Fill.{Fills};
@@ -6,10 +6,10 @@ ghost use Rattle.kombilad_c.specs.StatusText.{any_sentence, cid_sentence, text_s
 
 use crate::fill::fill;
 
-// What a number reports that is no status of this version.
+// The sentence of a number that is not a status of this version.
 const OTHER: &str = "the status is not one of this version";
 
-// The sentence of a status of any call.
+// Returns the sentence of a status that any call may return.
 fn any_text(number: u32) -> Option<&'static str>
     ensures { option_map (λ text. text.now) result ≡ any_sentence number }
 {
@@ -28,7 +28,7 @@ fn any_text(number: u32) -> Option<&'static str>
     Some(text)
 }
 
-// Why bytes are not a CID: the sentence of the status less 16.
+// Returns why bytes are not a CID, by the status minus 16.
 fn cid_text(number: u32) -> Option<&'static str>
     ensures { option_map (λ text. text.now) result ≡ cid_sentence number }
 {
@@ -45,7 +45,7 @@ fn cid_text(number: u32) -> Option<&'static str>
     Some(text)
 }
 
-// Why a text is not one of a CID: the sentence of the status less 32.
+// Returns why a text is not one of a CID, by the status minus 32.
 fn text_text(number: u32) -> Option<&'static str>
     ensures { option_map (λ text. text.now) result ≡ text_sentence number }
 {
@@ -61,7 +61,7 @@ fn text_text(number: u32) -> Option<&'static str>
     Some(text)
 }
 
-// Why bytes are not a block: the sentence of the status less 48.
+// Returns why bytes are not a block, by the status minus 48.
 fn block_text(number: u32) -> Option<&'static str>
     ensures { option_map (λ text. text.now) result ≡ block_sentence number }
 {
@@ -80,7 +80,7 @@ fn block_text(number: u32) -> Option<&'static str>
     Some(text)
 }
 
-// Why the bytes of a link are not a CID: the sentence of the status less 80.
+// Returns why the bytes of a link are not a CID, by the status minus 80.
 fn link_text(number: u32) -> Option<&'static str>
     ensures { option_map (λ text. text.now) result ≡ link_sentence number }
 {
@@ -97,7 +97,7 @@ fn link_text(number: u32) -> Option<&'static str>
     Some(text)
 }
 
-// Why a CAR is not read: the sentence of the status less 96.
+// Returns why a CAR is not read, by the status minus 96.
 fn car_text(number: u32) -> Option<&'static str>
     ensures { option_map (λ text. text.now) result ≡ car_sentence number }
 {
@@ -116,7 +116,7 @@ fn car_text(number: u32) -> Option<&'static str>
     Some(text)
 }
 
-// Why a block is not known to be that of a CID: the sentence of the status less 112.
+// Returns why a block is not known to match a CID, by the status minus 112.
 fn digest_text(number: u32) -> Option<&'static str>
     ensures { option_map (λ text. text.now) result ≡ digest_sentence number }
 {
@@ -128,7 +128,7 @@ fn digest_text(number: u32) -> Option<&'static str>
     Some(text)
 }
 
-// Why no block is written of a tape: the sentence of the status less 128.
+// Returns why a tape is not encoded as a block, by the status minus 128.
 fn tape_text(number: u32) -> Option<&'static str>
     ensures { option_map (λ text. text.now) result ≡ tape_sentence number }
 {
@@ -147,7 +147,7 @@ fn tape_text(number: u32) -> Option<&'static str>
     Some(text)
 }
 
-// Why bytes are not a node of DAG-PB: the sentence of the status less 144.
+// Returns why bytes are not a node of DAG-PB, by the status minus 144.
 fn pb_text(number: u32) -> Option<&'static str>
     ensures { option_map (λ text. text.now) result ≡ pb_sentence number }
 {
@@ -163,7 +163,7 @@ fn pb_text(number: u32) -> Option<&'static str>
     Some(text)
 }
 
-// What a status reports, in a sentence without a full stop. It is ASCII.
+// Returns the sentence of a status, without a full stop. It is ASCII.
 fn sentence(status: u32) -> &'static str
     ensures { result.now ≡ status_sentence status }
 {
@@ -183,7 +183,7 @@ fn sentence(status: u32) -> &'static str
     found.unwrap_or(OTHER)
 }
 
-/// Writes what a status reports, in a sentence.
+/// Writes the sentence of a status.
 #[unsafe(no_mangle)]
 pub extern "C" fn kombilad_status_text(status: u32, text: &mut [u8], needed: &mut usize) -> u32
     ensures { Fills (status_sentence status) result text.old text.new needed.new }

@@ -13,7 +13,8 @@ use dag_cbor_blocks::tape::{TapeEntry, TapeError, read_tape};
 use ipld_tree::Limits;
 use std::alloc::Global;
 
-// Writes the entries to the buffer's beginning, where it holds them, and how many they are in either case.
+// Writes the entries to the beginning of the buffer if they fit. Sets `needed` to their number in
+// either case.
 pub(crate) fn fill_entries(
     entries: &[TapeEntry],
     buffer: &mut [TapeEntry],

@@ -2,7 +2,8 @@
 
 ghost use Rattle.std.specs.Prelude.{◌≡◌};
 
-/// The version of the library: 65,536 times the major number, 256 times the minor one, and the patch.
+/// Returns the version of the library: 65,536 times the major number, plus 256 times the minor
+/// number, plus the patch number.
 #[unsafe(no_mangle)]
 pub extern "C" fn kombilad_version() -> u32
     ensures { result ≡ 0x000100 }

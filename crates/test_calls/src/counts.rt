@@ -1,15 +1,16 @@
-//! What walks of worked trees come to, computed from the definitions.
+//! The numbers of steps in walks of worked trees, computed from the definitions.
 
 ghost use Rattle.std.specs.Prelude.{◌+◌, ℕ, pos, [], ◌∷◌};
 ghost use Rattle.ipld_tree.specs.Tree.{null, integer, list, entries, no_items, item, no_members, member};
 ghost use Rattle.test_calls.specs.Counts.{Counts, around};
 
-/// How many values, lists and maps, slots and iterations the walks of worked trees come to. A call does nothing.
+/// States the numbers of values, lists and maps, slots and iterations in the walks of worked trees.
+/// A call does nothing.
 ///
-/// - Null; the empty list.
+/// - Null and the empty list.
 /// - A list of the empty list and the empty map.
 /// - A map of one key to the list of 1 and null.
-/// - A thousand lists, one in another, the innermost empty; and so any number of them.
+/// - A thousand nested lists, the innermost empty, and any other number of them.
 pub fn worked_walks()
     ensures null { Counts null 1 0 1 3 }
     ensures empty_list { Counts (list no_items) 1 1 2 4 }

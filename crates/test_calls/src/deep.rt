@@ -1,5 +1,5 @@
-//! Cursors, fields and builders that are dropped half way over trees of 100,000 levels. No drop recurses, so that each call returns. What types
-//! read from such trees are rows of `test_rows`.
+//! Cursors, fields and builders that are dropped half way over trees of 100,000 levels. No drop
+//! recurses, so every call returns. The readings of such trees by types are rows of `test_rows`.
 
 use ipld_core::ipld;
 use ipld_core::serde::{

@@ -46,8 +46,8 @@ fn is_a(cid: &Cid) -> bool {
     Cid::try_from(b"\x01\x55\0\0".as_slice()) == Ok(*cid)
 }
 
-// A source that failed gave all its calls, so that the tokens after these are left. It fails again, and one that all was taken from fails
-// at the next call.
+// Checks whether the source failed, and that its next two calls fail. A source that failed used up
+// its calls, so tokens are left. One that was read to its end fails at the next call.
 fn assert_still_fails(rt: &impl Abort, source: &mut FaultSource<'_>, has_failed: bool) {
     assert_eq!(rt; source.has_failed(), has_failed);
     assert!(rt; source.next_token() == Err(Stopped) && source.has_failed());
@@ -74,7 +74,7 @@ fn assert_tree_fails<'a>(rt: &impl Abort, alloc: Global, tokens: &'a [Token<'a>]
     assert_still_fails(rt, &mut source, true);
 }
 
-// No item ends before the source fails.
+// Checks that no item ends before the source fails.
 #[test]
 fn a_source_that_fails_after_some_calls(rt: HostRuntime) {
     let links = LINKS;

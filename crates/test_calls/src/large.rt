@@ -1,4 +1,4 @@
-//! More than 2^16 keys, which come from the last to the first, values and rows of an index.
+//! More than 2^16 keys, which are in descending order, values and rows of an index.
 
 use dag_cbor::tape::read_tape;
 use dag_cbor::{CborError, DagCborCodec, ReadOptions, count_links, decode_slice};
@@ -13,10 +13,11 @@ use std::test::Fail;
 
 const KEYS: u32 = 100_000;
 
-// How many values and rows there are.
+// The number of values and rows.
 const MANY: u32 = 70_000;
 
-// A map of so many pairs, of which the keys are the numbers below `KEYS`, from the last to the first, with five digits each.
+// A map whose header has this number of pairs. The keys are the numbers below `KEYS`, in descending
+// order, with five digits each.
 fn many_keys(alloc: Global, pairs: u32) -> Result<Vec<u8>, Fail> {
     let mut block = Vec::new(alloc);
     block.push(0xba)?;
@@ -29,7 +30,7 @@ fn many_keys(alloc: Global, pairs: u32) -> Result<Vec<u8>, Fail> {
     Ok(block)
 }
 
-// They are written from the first to the last.
+// Checks that keys are written in ascending order.
 #[test]
 fn many_keys_that_differ(rt: HostRuntime) -> Result<(), Fail> {
     let block = many_keys(rt.alloc(), KEYS)?;
@@ -51,7 +52,8 @@ fn one_key_of_many_twice(rt: HostRuntime) -> Result<(), Fail> {
     Ok(())
 }
 
-// The numbers below `MANY`. In a block those below 24 take one byte, those below 2^8 two, those below 2^16 three and the others five.
+// The numbers below `MANY`. In a block, those below 24 take one byte, those below 2^8 two, those
+// below 2^16 three and the others five.
 #[test]
 fn many_typed_values(rt: HostRuntime) -> Result<(), Fail> {
     let mut numbers = Vec::new(rt.alloc());
@@ -65,7 +67,7 @@ fn many_typed_values(rt: HostRuntime) -> Result<(), Fail> {
     Ok(())
 }
 
-// As many values in a tape, with one entry for each and one for the list.
+// The same number of values in a tape, with one entry for each and one for the list.
 #[test]
 fn many_values_in_a_tape(rt: HostRuntime) -> Result<(), Fail> {
     let mut block = Vec::new(rt.alloc());
@@ -81,7 +83,8 @@ fn many_values_in_a_tape(rt: HostRuntime) -> Result<(), Fail> {
     Ok(())
 }
 
-// The text of as many numbers has 338,890 digits, a comma before each number but the first, and two brackets.
+// The text of the same numbers has 338,890 digits, a comma before each number except the first, and
+// two brackets.
 #[test]
 fn many_values_as_json(rt: HostRuntime) -> Result<(), Fail> {
     let mut items = Vec::new(rt.alloc());
@@ -95,7 +98,8 @@ fn many_values_as_json(rt: HostRuntime) -> Result<(), Fail> {
     Ok(())
 }
 
-// The index has 30 bytes before its rows (CARv2, "Index format", code 0x0401), and a row has four bytes of a digest and eight of an offset.
+// The index has 30 bytes before its rows (CARv2, "Index format", code 0x0401). A row has four bytes
+// of a digest and eight of an offset.
 #[test]
 fn many_rows_of_an_index(rt: HostRuntime) -> Result<(), Fail> {
     let mut entries = Vec::new(rt.alloc());

@@ -1,6 +1,9 @@
-//! Tests of what no clause says and no row can: failing sources, readers and writers, errors as texts, `ipld!` as a macro, code that is generic
-//! over the codec, cursors and builders after a rejection and dropped over deep trees, walks, blocks of many keys, each item of `ipld_core` under
-//! its path, and the program.
+//! Tests of behaviour that neither a clause nor a row can state.
+//!
+//! They cover failing sources, readers and writers, errors as texts, `ipld!` as a macro, and code
+//! that is generic over the codec. They also cover cursors and builders after a rejection and
+//! dropped over deep trees, walks, blocks of many keys, each item of `ipld_core` under its path,
+//! and the program.
 #![tactic(auto)]
 
 #[cfg(test)]

@@ -1,4 +1,5 @@
-//! What `ipld!` builds, in which order it converts its expressions, and where it stops.
+//! The trees that `ipld!` builds, the order in which it converts its expressions, and the point at
+//! which it stops.
 
 ghost use Rattle.std.specs.Prelude.{⊤, true};
 
@@ -60,7 +61,7 @@ fn number(alloc: Global) -> Result<u8, ConversionError> {
     }
 }
 
-/// The tree has this debug string, as the Rust crate's has it.
+/// Checks that the tree has this debug string, which is the one of the Rust crate.
 pub fn assert_tree_is(
     rt: &impl Abort,
     alloc: Global,
@@ -97,7 +98,7 @@ fn stands_in_any_function(rt: HostRuntime) {
     assert_eq!(rt; number(rt.alloc()), Ok(7));
 }
 
-// Rejected whenever it is turned.
+// A value whose conversion is always rejected.
 #[derive(Drop)]
 struct Rejected;
 

@@ -1,4 +1,5 @@
-//! The two texts of each error: its name, and with `#` a sentence. Those of CIDs' texts and of blocks that aren't a CID's have a sentence alone.
+//! The two texts of each error: its name, and with `#` a sentence. Errors of CIDs' texts and of
+//! blocks that don't match their CIDs have only a sentence.
 
 use dag_cbor::{BlockError, BlockErrorKind, CborError};
 use dag_cbor_serde::{DecodeError, EncodeError};
@@ -270,7 +271,7 @@ const RUNS: [(RunFault, &str); 3] = [
     (RunFault::Write, "Write: the writer failed"),
 ];
 
-// Each error has this text and this sentence.
+// Checks that each error has this name and this sentence.
 fn says<E: Display>(rt: &impl Abort, alloc: Global, rows: &[(E, &str)]) -> Result<(), Fail> {
     for (error, expected) in rows {
         let texts = format!(in alloc; "{error}: {error:#}")?;
@@ -279,7 +280,7 @@ fn says<E: Display>(rt: &impl Abort, alloc: Global, rows: &[(E, &str)]) -> Resul
     Ok(())
 }
 
-// Each error has this text.
+// Checks that each error has this text.
 fn prints<E: Display>(rt: &impl Abort, alloc: Global, rows: &[(E, &str)]) -> Result<(), Fail> {
     for (error, expected) in rows {
         let text = format!(in alloc; "{error}")?;
@@ -327,7 +328,7 @@ fn sentences_and_names(rt: HostRuntime) -> Result<(), Fail> {
     says(&rt, alloc, &RUNS)
 }
 
-// As the Rust crate prints them.
+// Checks that the texts are those of the Rust crate.
 #[test]
 fn rejected_indexes(rt: HostRuntime) -> Result<(), Fail> {
     let alloc = rt.alloc();

@@ -2,12 +2,13 @@
 
 use std::io::{self, BufRead, Error, ErrorKind, Read, Write};
 
-/// Gives its bytes in pieces of a size, each after an interrupt, and then ends, or fails for good.
+/// A reader that yields its bytes in pieces of a size, each after an interrupt, and then ends, or
+/// fails for good.
 #[derive(Drop)]
 pub struct Pieces {
-    /// Those that are left.
+    /// The bytes that are left.
     pub bytes: &'static [u8],
-    /// How many of them a piece has.
+    /// The number of bytes in a piece.
     pub size: usize,
     /// Whether the last call was interrupted.
     pub interrupted: bool,
@@ -15,7 +16,8 @@ pub struct Pieces {
 }
 
 impl Pieces {
-    /// So many bytes in a piece, and what the reader fails with behind them.
+    /// Creates a reader of pieces with `size` bytes, which fails with `error` after the last, if
+    /// there is one.
     pub fn new(bytes: &'static [u8], size: usize, error: Option<ErrorKind>) -> Pieces {
         Pieces {
             bytes,
@@ -49,7 +51,7 @@ impl BufRead for Pieces {
     }
 }
 
-/// Takes no byte of any write, and says that none failed.
+/// A writer that takes no byte of any write, and reports no error.
 #[derive(Drop)]
 pub struct Full;
 

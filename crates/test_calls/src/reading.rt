@@ -1,4 +1,4 @@
-//! What cursors return, and what they have left; and values that are written as null.
+//! The results and the rest of cursors, and values that are written as null.
 
 use ipld_core::ipld;
 use ipld_core::ipld::{Ipld, IpldKind};
@@ -18,7 +18,7 @@ fn elements_after_a_rejected_one(rt: HostRuntime) -> Result<(), Fail> {
     Ok(())
 }
 
-// The next key is this one.
+// Checks that the next key is this one.
 fn has_key(
     rt: &impl Abort,
     alloc: Global,
@@ -51,14 +51,14 @@ fn values_after_one_key(rt: HostRuntime) -> Result<(), Fail> {
     assert!(rt; rejected == Err(SerdeError::WrongKind(IpldKind::String)));
     assert!(rt; members.remaining() == 0);
     assert!(rt; members.next_value::<u8>(alloc) == Ok(1));
-    // A value that wasn't asked for isn't counted.
+    // A value that wasn't requested isn't counted.
     let mut members = ipld!(alloc, {"a": 1u8})?.deserialize_map()?;
     has_key(&rt, alloc, &mut members, "a")?;
     assert!(rt; members.end() == Ok(()));
     Ok(())
 }
 
-// The value has this image, which is read as another value of the same image.
+// Checks that the value has this image, which is read as another value of the same image.
 fn is_read_as<T: Lawful + PartialEq>(
     rt: &impl Abort,
     alloc: Global,

@@ -1,4 +1,4 @@
-//! What the tokens of a block refer to.
+//! The bytes that the tokens of a block refer to.
 
 use dag_cbor::CborTokens;
 use ipld_core::serde::{Token, TokenBytes, TokenSource};
@@ -8,7 +8,7 @@ fn is_lent(token: &Option<Token<'_>>, expected: &[u8]) -> bool {
     matches!(token, Some(Token::Bytes(TokenBytes::Lent(bytes))) if *bytes == expected)
 }
 
-// No allocation is owed for bytes that the block holds.
+// Checks that bytes in the block are not allocated again.
 #[test]
 fn bytes_are_lent(rt: HostRuntime) -> Result<(), Fail> {
     let block = [0x41, 0x07];

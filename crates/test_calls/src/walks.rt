@@ -7,7 +7,7 @@ use std::alloc::Global;
 use std::process::Abort;
 use std::test::Fail;
 
-// The walk yields values of these debug strings, and then nothing for good.
+// Checks that the walk yields values of these debug strings, and then nothing for good.
 fn yields(rt: &impl Abort, alloc: Global, tree: &Ipld, expected: &[&str]) -> Result<(), Fail> {
     let mut walk = tree.iter(alloc)?;
     for text in expected {

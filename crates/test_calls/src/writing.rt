@@ -1,4 +1,4 @@
-//! What `Serializer` and its builders return, and what a builder holds after a rejection.
+//! The results of `Serializer` and its builders, and the content of a builder after a rejection.
 
 use crate::macros::assert_tree_is;
 use ipld_core::cid::CidError;
@@ -47,7 +47,7 @@ fn keys_in_place_of_a_pending_one(rt: HostRuntime) -> Result<(), Fail> {
     assert_tree_is(&rt, rt.alloc(), map.end()?, "{\"a\": 2}")
 }
 
-// A wrong hint allocates little.
+// Checks that a wrong hint allocates little.
 #[test]
 fn elements_around_a_rejected_one(rt: HostRuntime) -> Result<(), Fail> {
     let mut list = Serializer.serialize_seq(rt.alloc(), Some(usize::MAX))?;

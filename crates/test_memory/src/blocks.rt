@@ -20,7 +20,7 @@ use ipld_tree::{Ipld, Limits};
 use std::alloc::{AllocError, Global};
 use std::process::Abort;
 
-// The call returned the map of the two links.
+// Checks that the call returned the map of the two links.
 fn is_two_links<E: Rejection>(
     rt: &impl Abort,
     alloc: Global,
@@ -44,7 +44,7 @@ fn decoded(rt: HostRuntime) -> Result<(), Ended> {
 /// The list of the numbers from 1 to 9.
 const NINE: [u8; 10] = [0x89, 1, 2, 3, 4, 5, 6, 7, 8, 9];
 
-// The items are allocated once, since their number stands before them.
+// Checks that the items are allocated once, because their number comes before them.
 #[test]
 fn list_decoded(rt: HostRuntime) -> Result<(), Ended> {
     let list = reported("decode_slice", decode_slice(rt.alloc(), &NINE))?;
@@ -52,7 +52,7 @@ fn list_decoded(rt: HostRuntime) -> Result<(), Ended> {
     Ok(())
 }
 
-// The links of B and of A.
+// Returns whether these are the links of B and of A.
 fn is_b_and_a(links: &[Cid]) -> Result<bool, Ended> {
     let (a, b) = (cid(&A)?, cid(&B)?);
     Ok(links == [b, a].as_slice())
@@ -75,7 +75,8 @@ pub(crate) const FLOAT: [u8; 21] = [
     0x00, 0x01, 0x55, 0x00, 0x00,
 ];
 
-/// The map of `b` to the same list, and of `a` to 2. Its keys are out of order, so that a loop reads it and allocates.
+/// The map of `b` to the same list, and of `a` to 2. Its keys are out of order, so a loop reads it
+/// and allocates.
 const UNORDERED: [u8; 24] = [
     0xa2, 0x61, 0x62, 0x82, 0xfb, 0x3f, 0xf8, 0x00, 0x00, 0x00, 0x00, 0x00, 0x00, 0xd8, 0x2a, 0x45,
     0x00, 0x01, 0x55, 0x00, 0x00, 0x61, 0x61, 0x02,
@@ -142,7 +143,7 @@ fn values_listed(rt: HostRuntime) -> Result<(), Ended> {
     Ok(())
 }
 
-// The pairs come in another order than a canonical block has them.
+// Checks pairs in another order than that of a canonical block.
 #[test]
 fn pairs_ordered(rt: HostRuntime) -> Result<(), Ended> {
     let ordered = [0xa2, 0x61, b'a', 2, 0x61, b'b', 1];
@@ -167,7 +168,7 @@ fn pairs_ordered(rt: HostRuntime) -> Result<(), Ended> {
 
 fn yields_a_token(rt: &impl Abort, source: &mut CborTokens<'_>) -> Result<(), Ended> {
     let token = source.next_token();
-    // After a rejection it has failed for good.
+    // After a rejection, it has failed for good.
     assert_eq!(rt; source.has_failed(), token.is_err());
     if token.is_err() {
         assert!(rt; source.next_token().is_err());
@@ -186,7 +187,7 @@ fn tokens(rt: HostRuntime) -> Result<(), Ended> {
     Ok(())
 }
 
-/// The block of the list of the numbers 1 and 2, and of `s`, as a pair.
+/// The block of a pair: the list of the numbers 1 and 2, and `s`.
 const PAIR: [u8; 6] = [0x82, 0x82, 0x01, 0x02, 0x61, 0x73];
 
 type Pair = (Vec<u8>, String);
@@ -209,7 +210,7 @@ fn values_written(rt: HostRuntime) -> Result<(), Ended> {
     Ok(())
 }
 
-// The call returned the pair.
+// Checks that the call returned the pair.
 fn is_pair<E: Rejection>(
     rt: &impl Abort,
     alloc: Global,

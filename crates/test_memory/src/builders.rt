@@ -1,4 +1,4 @@
-//! The builders of lists, maps and variants: what they hold after a rejection.
+//! The builders of lists, maps and variants, and their content after a rejection.
 
 use crate::ended::{Ended, reported};
 use crate::samples::{list, map, variant};
@@ -10,7 +10,7 @@ use ipld_tree::Ipld;
 use std::alloc::Global;
 use std::process::Abort;
 
-// The list of 1, with a place for no more.
+// Returns the list of 1, without capacity for more.
 fn one(alloc: Global) -> Result<SerializeVec, Ended> {
     let mut list = reported("serialize_seq", Serializer.serialize_seq(alloc, Some(1)))?;
     reported(
@@ -20,21 +20,21 @@ fn one(alloc: Global) -> Result<SerializeVec, Ended> {
     Ok(list)
 }
 
-// The map of `a`: 1.
+// Returns the map of `a`: 1.
 fn entry(alloc: Global) -> Result<SerializeMap, Ended> {
     let mut map = reported("serialize_map", Serializer.serialize_map(alloc, None))?;
     reported("serialize_entry", map.serialize_entry(&"a", &1u8))?;
     Ok(map)
 }
 
-// The map of `a`: 1, where the key `b` is pending.
+// Returns the map of `a`: 1, with the pending key `b`.
 fn pending(alloc: Global) -> Result<SerializeMap, Ended> {
     let mut map = entry(alloc)?;
     reported("serialize_key", map.serialize_key(&'b'))?;
     Ok(map)
 }
 
-// The variant `V` of the list of 1, with a place for no more.
+// Returns the variant `V` of the list of 1, without capacity for more.
 fn tuple(alloc: Global) -> Result<SerializeTupleVariant, Ended> {
     let built = Serializer.serialize_tuple_variant(alloc, "Enum", 0, "V", 1);
     let mut tuple = reported("serialize_tuple_variant", built)?;
@@ -42,7 +42,7 @@ fn tuple(alloc: Global) -> Result<SerializeTupleVariant, Ended> {
     Ok(tuple)
 }
 
-// The variant `V` of the map of `a`: 1.
+// Returns the variant `V` of the map of `a`: 1.
 fn fields(alloc: Global) -> Result<SerializeStructVariant, Ended> {
     let built = Serializer.serialize_struct_variant(alloc, "Enum", 0, "V", 1);
     let mut fields = reported("serialize_struct_variant", built)?;
@@ -50,7 +50,7 @@ fn fields(alloc: Global) -> Result<SerializeStructVariant, Ended> {
     Ok(fields)
 }
 
-// What a builder ends as is this tree. The call is reported after that.
+// Checks that a builder ends as this tree. The call is reported after that.
 fn holds(
     rt: &impl Abort,
     call: &'static str,
@@ -140,7 +140,8 @@ fn fields_of_structs(rt: HostRuntime) -> Result<(), Ended> {
     holds(&rt, "serialize_field", outcome, built.end(), expected)
 }
 
-// A call put 1 at `a` again while `b` was pending. It allocates the name alone, so `b` is pending still where that failed.
+// Checks a call that put 1 at `a` again while `b` was pending. It allocates only the name, so `b`
+// is still pending if that failed.
 fn ran_out_for_the_name(
     rt: &impl Abort,
     call: &'static str,
@@ -168,7 +169,7 @@ fn names_beside_a_pending_key(rt: HostRuntime) -> Result<(), Ended> {
     ran_out_for_the_name(&rt, "serialize_field", outcome, built, expected)
 }
 
-// An empty key allocates nothing, so memory runs out for the value, and then no key is pending.
+// An empty key allocates nothing, so the allocation of the value fails, and then no key is pending.
 #[test]
 fn values_beside_a_pending_key(rt: HostRuntime) -> Result<(), Ended> {
     let mut built = pending(rt.alloc())?;
@@ -178,7 +179,7 @@ fn values_beside_a_pending_key(rt: HostRuntime) -> Result<(), Ended> {
     holds(&rt, "serialize_entry", outcome, built.end(), expected)
 }
 
-// The same of an empty name.
+// Checks the same for an empty name.
 #[test]
 fn values_of_fields_beside_a_pending_key(rt: HostRuntime) -> Result<(), Ended> {
     let mut built = pending(rt.alloc())?;

@@ -12,8 +12,8 @@ use std::hash::RandomState;
 use std::io::{self, BufRead, Error, ErrorKind, Read, Write};
 use std::process::Abort;
 
-/// A CAR of one root, whose block links to a block in the file, and to a CID that carries a block with a link to one that isn't there. The block
-/// that is there has another digest than its CID.
+/// A CAR with one root. Its block links to a block in the file, and to a CID that contains a block
+/// with a link to a missing block. The block in the file has another digest than its CID.
 const CAR: [u8; 231] = [
     0x3a, 0xa2, 0x65, 0x72, 0x6f, 0x6f, 0x74, 0x73, 0x81, 0xd8, 0x2a, 0x58, 0x25, 0x00, 0x01, 0x71,
     0x12, 0x20, 0x01, 0xbf, 0xf1, 0xc9, 0x14, 0x40, 0xa6, 0xca, 0x62, 0x3d, 0x7d, 0x3a, 0xfb, 0xdf,
@@ -46,17 +46,17 @@ const LEAF: [u8; 36] = [
     0x81, 0x58, 0x44, 0x0b,
 ];
 
-/// The CID of the block that is missing.
+/// The CID of the missing block.
 const LOST: [u8; 36] = [
     0x01, 0x55, 0x12, 0x20, 0x76, 0xf7, 0x5e, 0x61, 0x29, 0xfe, 0x30, 0x13, 0x5b, 0xd4, 0x4d, 0x80,
     0xab, 0x7c, 0xc4, 0x6f, 0xdb, 0xa8, 0x19, 0x07, 0x75, 0x8d, 0xc8, 0x08, 0xf3, 0xe2, 0x51, 0x7b,
     0xee, 0xf2, 0xb1, 0xe9,
 ];
 
-/// Where the sections begin.
+/// The offset of the first section.
 const SECTIONS: usize = 59;
 
-/// Gives its bytes one at a time, and then ends, or fails.
+/// A reader that yields its bytes one at a time, and then ends, or fails.
 #[derive(Drop)]
 struct Slow<'a> {
     bytes: &'a [u8],
@@ -82,7 +82,7 @@ impl<'a> BufRead for Slow<'a> {
     }
 }
 
-/// Takes one byte at a time, so many in all, and then fails.
+/// A writer that takes one byte at a time, `room` bytes in all, and then fails.
 #[derive(Drop)]
 struct Narrow {
     room: usize,
@@ -105,7 +105,7 @@ impl Write for Narrow {
     }
 }
 
-/// Takes no byte of any write, and says that none failed.
+/// A writer that takes no byte of any write, and reports no error.
 #[derive(Drop)]
 struct Full;
 
@@ -121,7 +121,7 @@ impl Write for Full {
 
 type SlowCar<'a> = CarReader<Slow<'a>>;
 
-// The CAR of these bytes, behind which the reader ends, or fails.
+// Opens the CAR of these bytes. After them the reader ends, or fails.
 fn opened<'a>(alloc: Global, bytes: &'a [u8], fails: bool) -> Result<SlowCar<'a>, Ended> {
     let reader = Slow { bytes, fails };
     reported(
@@ -165,7 +165,7 @@ fn fails_to_read(rt: &impl Abort, alloc: Global, count: usize) -> Result<(), End
     Err(Ended::Refused("a reader that fails"))
 }
 
-// The reader fails within a section, and at the end.
+// Checks that the error of a reader is reported within a section, and at the end.
 #[test]
 fn read_of_a_reader_that_fails(rt: HostRuntime) -> Result<(), Ended> {
     for count in [SECTIONS + 40, CAR.len()] {
@@ -196,7 +196,7 @@ fn fails_to_write(rt: &impl Abort, alloc: Global, room: usize) -> Result<(), End
     Ok(())
 }
 
-// A writer that takes a byte at a time gets all of them, or its failure is reported.
+// Checks that a writer that takes a byte at a time gets all of them, or its failure is reported.
 #[test]
 fn written_to_a_writer_that_fails(rt: HostRuntime) -> Result<(), Ended> {
     for room in [SECTIONS, SECTIONS + 41, SECTIONS + 42] {
@@ -205,7 +205,7 @@ fn written_to_a_writer_that_fails(rt: HostRuntime) -> Result<(), Ended> {
     Ok(())
 }
 
-// A writer that takes no byte has failed, and isn't tried again without end.
+// Checks that a writer that takes no byte counts as failed, and isn't retried endlessly.
 #[test]
 fn written_to_a_full_writer(rt: HostRuntime) -> Result<(), Ended> {
     let roots = [cid(&TOP)?];
@@ -309,7 +309,7 @@ fn listed(rt: HostRuntime) -> Result<(), Ended> {
     Ok(())
 }
 
-// What a writer of a byte at a time fails at is reported, wherever it does.
+// Checks that the error of a writer of a byte at a time is reported, wherever it fails.
 #[test]
 fn listed_to_a_writer_that_fails(rt: HostRuntime) -> Result<(), Ended> {
     for room in [0usize, 9, 60] {

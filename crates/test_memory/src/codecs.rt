@@ -1,4 +1,4 @@
-//! The codecs: of plain bytes, and of DAG-CBOR.
+//! The codecs of plain bytes and of DAG-CBOR.
 
 use crate::ended::{Ended, Rejection, reported, reported_by_vector};
 use crate::samples::{A, B, cid, is_same, two_links};
@@ -14,7 +14,7 @@ pub const BLOCK: [u8; 22] = [
     0x45, 0x00, 0x01, 0x55, 0x00, 0x00,
 ];
 
-// The value is written as the block.
+// Checks that the value is written as the block.
 fn writes<C: Codec<Ipld>>(
     rt: &impl Abort,
     alloc: Global,
@@ -32,7 +32,7 @@ where
     Ok(())
 }
 
-// The value is read from the block.
+// Checks that the value is read from the block.
 fn reads<C: Codec<Ipld>>(
     rt: &impl Abort,
     alloc: Global,
@@ -64,7 +64,7 @@ fn dag_cbor(rt: HostRuntime) -> Result<(), Ended> {
     reads::<DagCborCodec>(&rt, rt.alloc(), &value, &BLOCK)
 }
 
-/// The block of the same map whose keys come in another order.
+/// The block of the same map with its keys in another order.
 const UNSORTED: [u8; 22] = [
     0xa2, 0x61, 0x62, 0xd8, 0x2a, 0x45, 0x00, 0x01, 0x55, 0x00, 0x00, 0x61, 0x61, 0xd8, 0x2a, 0x46,
     0x00, 0x01, 0x55, 0x00, 0x01, 0x07,
@@ -93,7 +93,7 @@ fn decoded_within_limits(rt: HostRuntime) -> Result<(), Ended> {
     Ok(())
 }
 
-// Nothing here allocates but the vector.
+// Only the vector is allocated here.
 #[test]
 fn links_in_order(rt: HostRuntime) -> Result<(), Ended> {
     let (a, b) = (cid(&A)?, cid(&B)?);

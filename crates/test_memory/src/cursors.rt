@@ -1,4 +1,4 @@
-//! The cursors by which a tree is read: what they have left after a rejection.
+//! The cursors that read a tree, and the rest of them after a rejection.
 
 use crate::ended::{Ended, reported};
 use crate::samples::{KINDS, entry, list_of, map, of_kind, reads_kind, rejects, returns, variant};
@@ -29,7 +29,7 @@ fn values(rt: HostRuntime) -> Result<(), Ended> {
     assert!(rt; members.remaining() == 1 && members.size_hint() == Some(1));
     assert!(rt; members.next_key::<char>(alloc) == Ok(Some('a')));
     let outcome = members.next_value::<Vec<u8>>(alloc);
-    // No value waits.
+    // No value is pending.
     assert!(rt; members.next_value::<u8>(alloc) == Err(SerdeError::MissingValue));
     assert!(rt; members.remaining() == 0 && members.end() == Ok(()));
     assert!(rt; reported("next_value", outcome)?.len() == 1);
@@ -45,7 +45,7 @@ fn variants(rt: HostRuntime) -> Result<(), Ended> {
     Ok(())
 }
 
-// Below nothing allocates but what makes the trees.
+// Below this line, only the trees are allocated.
 
 #[test]
 fn left_over(rt: HostRuntime) -> Result<(), Ended> {
@@ -66,7 +66,7 @@ fn left_over(rt: HostRuntime) -> Result<(), Ended> {
     Ok(())
 }
 
-// The content of a variant, of this kind.
+// Returns the content of a variant, of this kind.
 fn content(alloc: Global, kind: IpldKind) -> Result<VariantDeserializer, Ended> {
     let tree = variant(alloc, of_kind(alloc, kind)?)?;
     let read = reported("deserialize_enum", tree.deserialize_enum("E", &["V"]))?;

@@ -1,4 +1,4 @@
-//! How a test reports a failed allocation.
+//! The report of a failed allocation in a test.
 
 use car_files::CarFileError;
 use dag_cbor::tape::TapeError;
@@ -16,14 +16,15 @@ use ipld_ser::SerdeError;
 use std::alloc::{AllocError, AllocFailed};
 use std::io::{self, ErrorKind};
 
-/// Why a test ended before its last line.
+/// The reason why a test ended before its last line.
 #[derive(Clone, Copy, Debug, PartialEq, Eq)]
 pub enum Ended {
-    /// An allocation failed for the input of a call, or for what its result is compared with.
+    /// An allocation failed for the input of a call, or for the value that its result is compared
+    /// with.
     Around,
     /// The call of this name returned a failed allocation.
     NoMemory(&'static str),
-    /// The call of this name was rejected for another cause.
+    /// The call of this name was rejected for another reason.
     Refused(&'static str),
 }
 
@@ -39,7 +40,7 @@ impl<T: Drop> From<AllocFailed<T>> for Ended {
     }
 }
 
-/// Of the calls that make and read CIDs, which do not allocate.
+/// The errors of the calls that create and read CIDs, which do not allocate.
 impl From<CidError> for Ended {
     fn from(_error: CidError) -> Ended {
         Ended::Refused("a CID")
@@ -48,10 +49,10 @@ impl From<CidError> for Ended {
 
 /// An error of a call, which may be a failed allocation.
 pub trait Rejection: Drop {
-    /// Whether the error is a failed allocation.
+    /// Returns whether the error is a failed allocation.
     fn is_out_of_memory(&self) -> bool;
 
-    /// Whether the error is that of a vector that was written to and didn't grow.
+    /// Returns whether the error is that of a vector that was written to and didn't grow.
     fn is_failed_write(&self) -> bool {
         false
     }
@@ -183,7 +184,7 @@ impl Rejection for io::Error {
     }
 }
 
-/// A vector that is written to reports a failed allocation as a writer that failed.
+/// A vector reports a failed allocation during a write as a writer that failed.
 impl Rejection for CarFileError {
     fn is_out_of_memory(&self) -> bool {
         matches!(
@@ -193,7 +194,7 @@ impl Rejection for CarFileError {
     }
 }
 
-/// The error that ends a test in which the call of this name was rejected.
+/// Returns the error that ends a test in which the call of this name was rejected.
 pub fn ended_by<E: Rejection>(call: &'static str, error: E) -> Ended {
     if error.is_out_of_memory() {
         Ended::NoMemory(call)
@@ -202,7 +203,7 @@ pub fn ended_by<E: Rejection>(call: &'static str, error: E) -> Ended {
     }
 }
 
-/// What the call of this name returned, an error as the one that ends the test.
+/// Returns the result of the call of this name, with an error as the one that ends the test.
 pub fn reported<T, E: Rejection>(call: &'static str, outcome: Result<T, E>) -> Result<T, Ended> {
     match outcome {
         Ok(value) => Ok(value),
@@ -210,7 +211,8 @@ pub fn reported<T, E: Rejection>(call: &'static str, outcome: Result<T, E>) -> R
     }
 }
 
-/// The same of a call that writes to a vector, which may report a failed allocation as a writer that failed.
+/// Does the same for a call that writes to a vector, which may report a failed allocation as a
+/// writer that failed.
 pub fn reported_by_vector<T, E: Rejection>(
     call: &'static str,
     outcome: Result<T, E>,

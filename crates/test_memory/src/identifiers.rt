@@ -24,11 +24,11 @@ const V0: [u8; 34] = [
 
 const V0_TEXT: &str = "12200000000000000000000000000000000000000000000000000000000000000000";
 
-/// The text of a version 1 CID of 124 bytes, whose digest is 120 bytes that are 7.
+/// The text of a version 1 CID of 124 bytes, with a digest of 120 bytes that are 7.
 const LONG_TEXT: &str =
     "bafkqa6aha4dqobyha4dqobyha4dqobyha4dqobyha4dqobyha4dqobyha4dqobyha4dqobyha4dqobyha4dqobyha4dqobyha4dqobyha4dqobyha4dqobyha4dqobyha4dqobyha4dqobyha4dqobyha4dqobyha4dqobyha4dqobyha4dqobyha4dqobyha4dqoby";
 
-// The CID of the bytes is written as the bytes and as the text.
+// Checks that the CID of the bytes is written as the bytes and as the text.
 fn writes(rt: &impl Abort, alloc: Global, bytes: &[u8], text: &str) -> Result<(), Ended> {
     let cid = cid(bytes)?;
     let written = reported("to_bytes", cid.to_bytes(alloc))?;
@@ -58,7 +58,7 @@ const BASES: [Base; 6] = [
     Base::Base64Url,
 ];
 
-// What the texts are is said by rows.
+// The texts themselves are checked by rows.
 #[test]
 fn written_in_bases(rt: HostRuntime) -> Result<(), Ended> {
     let cid = cid(&V1)?;
@@ -73,7 +73,7 @@ fn written_in_bases(rt: HostRuntime) -> Result<(), Ended> {
     Ok(())
 }
 
-// What the texts are is said by rows.
+// The texts themselves are checked by rows.
 #[test]
 fn written_as_usual(rt: HostRuntime) -> Result<(), Ended> {
     let old = cid(&V0)?;

@@ -1,8 +1,11 @@
-//! Failed allocations: each test makes one call, or a few that belong together, and looks at what stands where an allocation failed.
+//! Failed allocations: each test makes one call, or a few related ones, and checks the state after
+//! a failed allocation.
 //!
-//! Run as they are the tests show that the calls succeed. `.ci/failed-allocations` runs each of them with its Nth allocation failing, for N from 1
-//! on until none fails any more: a test then ends with the error `NoMemory` and the name of the call that reported the failed allocation,
-//! or with `Around` where the allocation was not the call's but for its input or for what it is compared with.
+//! Without a failed allocation, the tests show that the calls succeed. `.ci/failed-allocations`
+//! runs each test with its Nth allocation failing, for N from 1 on, until no allocation fails. A
+//! test then ends with the error `NoMemory` and the name of the call that reported the failed
+//! allocation. It ends with `Around` if the allocation was for the input of the call, or for the
+//! value that its result is compared with.
 //!
 //! The tests of the module `without_memory` do not allocate.
 #![tactic(auto)]

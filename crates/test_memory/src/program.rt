@@ -9,7 +9,7 @@ fn writes(rt: &impl Abort, alloc: Global, word: &'static str, input: &str) -> Re
     let mut reader = input.as_bytes();
     let mut written = Vec::new(alloc);
     let outcome = run(alloc, word, &mut reader, &mut written);
-    // What was written is the output, or a beginning of it.
+    // The output is complete, or a beginning of the expected one.
     assert!(rt; b"bafkqaaa\nok 1\n".starts_with(written.as_slice()));
     assert!(rt; reported_by_vector(word, outcome)? == Status::Done);
     assert_eq!(rt; written.len(), 14);

@@ -1,4 +1,4 @@
-//! What the tests' inputs are made of.
+//! The parts of the tests' inputs.
 
 use crate::ended::Ended;
 use ipld_cid::{Cid, CidError};
@@ -11,10 +11,10 @@ use std::process::Abort;
 /// The bytes of a CID, whose text is `bafkqaaa`.
 pub const A: [u8; 4] = [0x01, 0x55, 0x00, 0x00];
 
-/// The bytes of another, whose text is `bafkqaaih`.
+/// The bytes of another CID, whose text is `bafkqaaih`.
 pub const B: [u8; 5] = [0x01, 0x55, 0x00, 0x01, 0x07];
 
-/// The CID of these bytes. Does not allocate.
+/// Returns the CID of these bytes. Does not allocate.
 pub fn cid(bytes: &[u8]) -> Result<Cid, CidError> {
     Cid::try_from(bytes)
 }
@@ -31,7 +31,8 @@ pub const KINDS: [IpldKind; 8] = [
     IpldKind::Link,
 ];
 
-/// A tree of the kind: `true`, 7, the link of A, and texts, bytes, lists and maps of nothing. Does not allocate.
+/// Returns a tree of the kind: `true`, 7, the link of A, or an empty string, byte string, list or
+/// map. Does not allocate.
 pub fn of_kind(alloc: Global, kind: IpldKind) -> Result<Ipld, CidError> {
     Ok(match kind {
         IpldKind::Null => Ipld::Null,
@@ -45,12 +46,12 @@ pub fn of_kind(alloc: Global, kind: IpldKind) -> Result<Ipld, CidError> {
     })
 }
 
-/// Three links, two of them in a list and one in a map, and a bool, in a map.
+/// Returns a map with three links, two of them in a list and one in a map, and a bool.
 pub fn nested(alloc: Global, cid: Cid) -> Result<Ipld, AllocError> {
     ipld!(alloc, {"some": {"nested": cid}, "or": [cid, cid], "more": true})
 }
 
-/// The list of 1, and where there is more of `x`.
+/// Returns the list of 1 and, if `more` is true, of `x`.
 pub fn list(alloc: Global, more: bool) -> Result<Ipld, AllocError> {
     let mut items = Vec::new(alloc);
     items.push(Ipld::Integer(1))?;
@@ -60,7 +61,7 @@ pub fn list(alloc: Global, more: bool) -> Result<Ipld, AllocError> {
     Ok(Ipld::List(items))
 }
 
-/// The list of this number.
+/// Returns the list of this number.
 pub fn list_of(alloc: Global, number: i128) -> Result<Ipld, AllocError> {
     let mut items = Vec::new(alloc);
     items.push(Ipld::Integer(number))?;
@@ -78,7 +79,7 @@ fn put(
     Ok(())
 }
 
-/// The map of `a`: 1, and where there is more of this key: `x`.
+/// Returns the map of `a`: 1 and, if `more` is true, of this key: `x`.
 pub fn map(alloc: Global, key: &str, more: bool) -> Result<Ipld, AllocError> {
     let mut members = BTreeMap::new(alloc);
     put(alloc, &mut members, "a", Ipld::Integer(1))?;
@@ -89,19 +90,19 @@ pub fn map(alloc: Global, key: &str, more: bool) -> Result<Ipld, AllocError> {
     Ok(Ipld::Map(members))
 }
 
-/// The map of this key to the value.
+/// Returns the map of this key to the value.
 pub fn entry(alloc: Global, key: &str, value: Ipld) -> Result<Ipld, AllocError> {
     let mut members = BTreeMap::new(alloc);
     put(alloc, &mut members, key, value)?;
     Ok(Ipld::Map(members))
 }
 
-/// The map of `V` to this content, as a variant of the name is written.
+/// Returns the map of `V` to this content, which is the image of a variant of that name.
 pub fn variant(alloc: Global, content: Ipld) -> Result<Ipld, AllocError> {
     entry(alloc, "V", content)
 }
 
-/// The map of `a` to the link of B and `b` to the link of A.
+/// Returns the map of `a` to the link of B and `b` to the link of A.
 pub fn two_links(alloc: Global) -> Result<Ipld, Ended> {
     let mut members = BTreeMap::new(alloc);
     put(alloc, &mut members, "a", Ipld::Link(cid(&B)?))?;
@@ -109,27 +110,27 @@ pub fn two_links(alloc: Global) -> Result<Ipld, Ended> {
     Ok(Ipld::Map(members))
 }
 
-/// Whether the trees are equal.
+/// Returns whether the trees are equal.
 pub fn is_same(tree: &Ipld, expected: &Ipld) -> bool {
     *tree == *expected
 }
 
-/// Whether the tree is this string.
+/// Returns whether the tree is this string.
 pub fn is_text(tree: &Ipld, text: &str) -> bool {
     matches!(tree, Ipld::String(found) if found.as_str() == text)
 }
 
-/// Whether the tree is these bytes.
+/// Returns whether the tree is these bytes.
 pub fn is_bytes(tree: &Ipld, bytes: &[u8]) -> bool {
     matches!(tree, Ipld::Bytes(found) if found.as_slice() == bytes)
 }
 
-/// The call returned this value.
+/// Checks that the call returned this value.
 pub fn returns<T: PartialEq + Drop>(rt: &impl Abort, outcome: Result<T, SerdeError>, expected: T) {
     assert!(rt; outcome == Ok(expected));
 }
 
-/// The call was rejected with this error.
+/// Checks that the call was rejected with this error.
 pub fn rejects<T: PartialEq + Drop>(
     rt: &impl Abort,
     outcome: Result<T, SerdeError>,
@@ -138,7 +139,8 @@ pub fn rejects<T: PartialEq + Drop>(
     assert!(rt; outcome == Err(expected));
 }
 
-/// The call read this tree, since it is of the kind that it reads, or rejected it by its kind.
+/// Checks that the call read this tree if it is of the kind that it reads, and otherwise rejected
+/// it by its kind.
 pub fn reads_kind<T: Drop>(
     rt: &impl Abort,
     found: IpldKind,

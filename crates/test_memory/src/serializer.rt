@@ -1,4 +1,4 @@
-//! The calls by which a value is written in one step.
+//! The calls that write a value in one step.
 
 use crate::ended::{Ended, reported};
 use crate::samples::{A, cid, is_bytes, is_same, is_text};

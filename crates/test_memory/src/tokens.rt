@@ -47,7 +47,7 @@ fn tokens_of<'a>(alloc: Global, tree: &'a Ipld) -> Result<IpldTokens<'a>, Ended>
 
 fn yields_a_token(rt: &impl Abort, source: &mut IpldTokens<'_>) -> Result<(), Ended> {
     let token = source.next_token();
-    // After a rejection it has failed for good.
+    // After a rejection, it has failed for good.
     assert_eq!(rt; source.has_failed(), token.is_err());
     if token.is_err() {
         assert!(rt; source.next_token().is_err());
@@ -67,7 +67,7 @@ fn tokens_of_a_tree(rt: HostRuntime) -> Result<(), Ended> {
     Ok(())
 }
 
-// What is reported is a failed allocation of the call, or that of the source.
+// The error is a failed allocation of the call, or that of the source.
 
 #[test]
 fn tree_read(rt: HostRuntime) -> Result<(), Ended> {
@@ -99,7 +99,8 @@ fn links_found(rt: HostRuntime) -> Result<(), Ended> {
     Ok(())
 }
 
-// Takes what a source of so many tokens still holds. If they were read, that is nothing. A contract says that otherwise it is an ending of them.
+// Takes the rest of a source of `tokens` tokens. If they were read, nothing is left. Otherwise, a
+// contract states that an ending of them is left.
 fn holds_an_ending(rt: &impl Abort, source: &mut SliceSource<'_>, tokens: usize, is_read: bool) {
     let mut left = 0usize;
     for _ in 0..tokens {

@@ -1,4 +1,4 @@
-//! Trees: made, walked, copied, and the links in them.
+//! Trees: built, walked, copied, and the links in them.
 
 use crate::ended::{Ended, reported};
 use crate::samples::{A, B, cid, is_bytes, is_same, is_text, nested};
@@ -18,7 +18,7 @@ fn tree(alloc: Global) -> Result<Ipld, Ended> {
     Ok(nested(alloc, cid(&A)?)?)
 }
 
-// A walk takes no more memory than that for which it was made.
+// Checks the length of a walk. It allocates nothing after its creation.
 fn has_length(rt: &impl Abort, mut walk: IpldIter<'_>, expected: usize) {
     let mut length = 0usize;
     for _ in 0..9u8 {
@@ -98,14 +98,14 @@ fn read_with_floats(rt: HostRuntime) -> Result<(), Ended> {
     Ok(())
 }
 
-// The link of B, with a place for no more.
+// Returns the link of B, without capacity for more.
 fn one_link(alloc: Global) -> Result<Vec<Cid>, Ended> {
     let mut links = Vec::with_capacity(alloc, 1)?;
     links.push(cid(&B)?)?;
     Ok(links)
 }
 
-// The link of B and a beginning of the links of the tree.
+// Returns whether these are the link of B and a beginning of the links of the tree.
 fn is_beginning(links: &[Cid]) -> Result<bool, Ended> {
     let (a, b) = (cid(&A)?, cid(&B)?);
     Ok(!links.is_empty() && [b, a, a, a].starts_with(links))
@@ -142,7 +142,7 @@ fn copied(rt: HostRuntime) -> Result<(), Ended> {
     Ok(())
 }
 
-// Lists in one another, so deep that they are measured by a loop.
+// Returns nested lists, so deep that they are measured by a loop.
 fn deep(alloc: Global) -> Result<Ipld, AllocError> {
     let mut tree = Ipld::Null;
     for _ in 0..1_025u16 {
@@ -217,13 +217,13 @@ fn keys_and_indexes(rt: HostRuntime) -> Result<(), Ended> {
     Ok(())
 }
 
-// The index comes back as it was.
+// Checks that the error returns the index unchanged.
 fn is_no_number(rt: &impl Abort, list: &Ipld, text: &str) {
     let expected = IndexError::ParseInteger(IpldIndex::MapRef(text));
     assert!(rt; list.get(text) == Err(expected), "{text}");
 }
 
-// Nothing here allocates but what makes the trees.
+// Only the trees are allocated here.
 #[test]
 fn lists_looked_into(rt: HostRuntime) -> Result<(), Ended> {
     let alloc = rt.alloc();

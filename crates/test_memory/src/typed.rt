@@ -12,7 +12,7 @@ use std::alloc::{AllocError, Global};
 use std::collections::BTreeMap;
 use std::process::Abort;
 
-// The value is written and read back as the same.
+// Checks that the value is written, and read back as the same value.
 fn round_trip<T: Lawful + PartialEq>(
     rt: &impl Abort,
     alloc: Global,

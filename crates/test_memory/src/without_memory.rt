@@ -1,4 +1,5 @@
-//! Calls that do not allocate, on inputs that do not either: no test allocates, so all pass whichever allocation fails.
+//! Calls that do not allocate, on inputs that do not either. No test allocates, so all pass
+//! whichever allocation fails.
 
 mod blocks;
 mod conversions;

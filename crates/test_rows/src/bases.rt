@@ -14,7 +14,8 @@ const BASES: [Base; 6] = [
     Base::Base64Url,
 ];
 
-/// The text of a CID in each base, or the error. Each text is read as the CID, behind `/ipfs/` too.
+/// Returns the text of a CID in each base, or the error. Each text is also read as the CID, with
+/// and without `/ipfs/` before it.
 pub fn texts(alloc: Global, digits: &str) -> Result<String, AllocError> {
     let Some(cid) = identifiers::cid(alloc, digits) else {
         return String::from_str(alloc, "no CID");
@@ -39,7 +40,7 @@ fn text(alloc: Global, cid: &Cid, base: Base) -> Result<String, AllocError> {
     Ok(text)
 }
 
-/// The bytes of the CID that a text in any base is, or the error.
+/// Returns the bytes of the CID that a text in any base encodes, or the error.
 pub fn read(alloc: Global, text: &str) -> Result<String, AllocError> {
     match parse_any(text) {
         Ok(cid) => hex::encode(alloc, cid.to_bytes(alloc)?.as_slice()),
@@ -47,7 +48,7 @@ pub fn read(alloc: Global, text: &str) -> Result<String, AllocError> {
     }
 }
 
-/// The base of a prefix, and its prefix.
+/// Returns the base of a prefix, and its prefix.
 pub fn base(alloc: Global, prefix: &str) -> Result<String, AllocError> {
     match prefix.chars().next().and_then(Base::from_code) {
         Some(base) => format!(in alloc; "{base:?} {}", base.code()),

@@ -9,7 +9,8 @@ use ipld_cid::Cid;
 use ipld_codec::{Codec, Links};
 use std::alloc::{AllocError, Global};
 
-/// What the block is decoded as, its links, and the bytes that the tree is encoded as; or the errors.
+/// Returns the tree that the block decodes to, its links, and the bytes that the tree is encoded
+/// as, or the errors.
 pub fn block(alloc: Global, digits: &str) -> Result<String, AllocError> {
     let Ok(bytes) = hex::decode(alloc, digits) else {
         return String::from_str(alloc, "no bytes");
@@ -27,7 +28,7 @@ pub fn block(alloc: Global, digits: &str) -> Result<String, AllocError> {
     format!(in alloc; "{tree}; {links}")
 }
 
-// The links by the block's tokens, which finding links has to return too.
+// Returns the links by the block's tokens. The search for links has to return the same.
 fn links_of_tokens(alloc: Global, block: &[u8]) -> Result<Vec<Cid>, CborError> {
     let mut links = Vec::new(alloc);
     for link in TokenCodec::links(alloc, block)? {
@@ -50,7 +51,7 @@ fn decoded(alloc: Global, block: &[u8]) -> Result<String, AllocError> {
     }
 }
 
-// The links without floats, or the error without its place.
+// Returns the links without floats, or the error without its place.
 fn links_found(alloc: Global, block: &[u8]) -> Result<Vec<Cid>, CborError> {
     let options = ReadOptions {
         limits: ALL,
@@ -72,8 +73,8 @@ fn links_of_row(alloc: Global, block: &[u8]) -> Result<String, AllocError> {
     }
 }
 
-/// How many links a block has, and whether the tree that it is decoded as is encoded as the same block; or the errors. The tree isn't looked
-/// at, so that it may nest as deep as it likes.
+/// Returns the number of a block's links, and whether its tree is encoded as the same block, or the
+/// errors. The tree is not printed, so it may nest to any depth.
 pub fn encode_again(alloc: Global, groups: &str) -> Result<String, AllocError> {
     let Some(bytes) = bytes(alloc, groups)? else {
         return String::from_str(alloc, "no bytes");

@@ -1,8 +1,9 @@
-//! Bytes written as digits.
+//! Bytes written as hexadecimal digits.
 
 use std::alloc::{AllocError, Global};
 
-/// The bytes of groups of hexadecimal digits between blanks. Behind a group `*9` says how often it stands. None for anything else.
+/// Returns the bytes of groups of hexadecimal digits between blanks. `*9` after a group repeats it
+/// 9 times. Returns `None` for anything else.
 pub fn bytes(alloc: Global, groups: &str) -> Result<Option<Vec<u8>>, AllocError> {
     let mut bytes = Vec::new(alloc);
     for group in groups.split_ascii_whitespace() {

@@ -1,4 +1,4 @@
-//! The calls by which a type reads a tree, through their bound.
+//! The calls with which a type reads a tree, through their bound.
 
 use crate::tree_words;
 use ipld_cid::CID_SERDE_PRIVATE_IDENTIFIER;
@@ -8,7 +8,8 @@ use ipld_tree::Ipld;
 use std::alloc::{AllocError, Global};
 use std::fmt::Debug;
 
-/// What a call returns: `CALL|TREE`. Those for numbers are called by the types' own `deserialize`.
+/// Returns the result of a call: `CALL|TREE`. The calls for numbers are made by the types' own
+/// `deserialize`.
 pub fn call(alloc: Global, row: &str) -> Result<String, AllocError> {
     let (call, words) = row.split_once('|').unwrap_or((row, ""));
     match tree_words::tree(alloc, words)? {
@@ -77,7 +78,7 @@ fn cursor<D: Deserializer + Drop>(
     }
 }
 
-// How many items are left, or why there are none.
+// Returns how many items are left, or the error.
 fn items(
     alloc: Global,
     outcome: Result<SeqDeserializer, SerdeError>,

@@ -3,9 +3,12 @@
 use ipld_car::{CarError, CarErrorKind, CarReader, CarVersion, CarWriter, Section};
 use std::alloc::{AllocError, Global};
 
-/// What is in a CAR: a limit, a blank, and its bytes. What is returned is the version, the number of roots and, for each section, its CID, a
-/// colon and the number of bytes of its block; then `end` with its offset, or the error with the offsets of its section and of what is wrong.
-/// Where all was read, the roots and the blocks are written again, and it says whether that gives the same bytes.
+/// Returns the content of a CAR: a limit, a blank, and its bytes.
+///
+/// The result is the version, the number of roots and, for each section, its CID, a colon and the
+/// number of bytes of its block. Then comes `end` with its offset, or the error with the offsets of
+/// its section and of the error itself. If all was read, the roots and the blocks are written
+/// again, and the result ends with whether that gives the same bytes.
 pub fn car(alloc: Global, row: &str) -> Result<String, AllocError> {
     let (limit, digits) = row.split_once(' ').unwrap_or((row, ""));
     let (Ok(limit), Ok(bytes)) = (limit.parse::<u64>(), hex::decode(alloc, digits)) else {
@@ -17,7 +20,7 @@ pub fn car(alloc: Global, row: &str) -> Result<String, AllocError> {
     }
 }
 
-/// The name of an error.
+/// Returns the name of an error.
 fn name(kind: &CarErrorKind) -> &'static str {
     match kind {
         CarErrorKind::Memory => "Memory",

@@ -5,7 +5,8 @@ use ipld_block::{BlockCodec, check, links_of};
 use ipld_codec::{Links, RawCodec};
 use std::alloc::{AllocError, Global};
 
-/// The links of a block, each behind a blank, or what is wrong with it: the name of its codec, a blank and the block.
+/// Returns the links of a block, each after a blank, or its error: the name of its codec, a blank
+/// and the block.
 pub fn links(alloc: Global, row: &str) -> Result<String, AllocError> {
     let (name, digits) = row.split_once(' ').unwrap_or((row, ""));
     let (Some(codec), Ok(block)) = (BlockCodec::from_name(name), hex::decode(alloc, digits)) else {
@@ -35,7 +36,7 @@ pub fn links(alloc: Global, row: &str) -> Result<String, AllocError> {
     Ok(text)
 }
 
-// Whether the type of the codec finds so many links.
+// Returns whether the type of the codec finds `count` links.
 fn is_count(alloc: Global, codec: BlockCodec, block: &[u8], count: usize) -> bool {
     match codec {
         BlockCodec::DagPb => count_links::<DagPbCodec>(alloc, block) == Some(count),
@@ -45,7 +46,7 @@ fn is_count(alloc: Global, codec: BlockCodec, block: &[u8], count: usize) -> boo
     }
 }
 
-// How many links a block has.
+// Returns the number of links in a block.
 fn count_links<C: Links>(alloc: Global, block: &[u8]) -> Option<usize> {
     match C::links(alloc, block) {
         Ok(links) => Some(links.count()),

@@ -8,7 +8,7 @@ use std::alloc::{AllocError, Global};
 use std::collections::BTreeMap;
 use std::fmt::Debug;
 
-/// The tree as a type, and as an `Option` of it: `TYPE|TREE`.
+/// Returns the tree as a type, and as an `Option` of it: `TYPE|TREE`.
 pub fn tree(alloc: Global, line: &str) -> Result<String, AllocError> {
     let (name, words) = line.split_once('|').unwrap_or((line, ""));
     let (Some(tree), Some(same)) = (

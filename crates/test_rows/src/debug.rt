@@ -3,7 +3,8 @@
 use crate::tree_words;
 use std::alloc::{AllocError, Global};
 
-/// The two debug strings of a tree, the second as a debug string itself. Width, precision and other flags change neither.
+/// Returns the two debug strings of a tree, the second as a debug string itself. Width, precision
+/// and other flags change neither.
 pub fn tree(alloc: Global, words: &str) -> Result<String, AllocError> {
     let Some(tree) = tree_words::tree(alloc, words)? else {
         return String::from_str(alloc, "no tree");

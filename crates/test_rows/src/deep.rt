@@ -1,11 +1,11 @@
-//! Trees that may nest as deep as they like, by the calls that do without recursion.
+//! Trees of any depth, by the calls that do not recurse.
 
 use crate::tree_words;
 use ipld_tokens::IpldTokens;
 use ipld_tree::Ipld;
 use std::alloc::{AllocError, Global};
 
-/// How many values a tree has, how deep it nests and how many links are in it.
+/// Returns the number of values of a tree, its depth and the number of its links.
 pub fn walk_row(alloc: Global, words: &str) -> Result<String, AllocError> {
     match tree_words::tree(alloc, words)? {
         Some(tree) => describe_by_loop(alloc, tree),
@@ -13,8 +13,9 @@ pub fn walk_row(alloc: Global, words: &str) -> Result<String, AllocError> {
     }
 }
 
-/// The number of values of a tree, after so many walks to its end, each with a source of its tokens. The number of allocations of one walk
-/// and one source is the difference between two rows.
+/// Returns the number of values of a tree, after a given number of walks to its end, each with a
+/// source of its tokens. The allocations of one walk and one source are the difference between two
+/// rows.
 pub fn walks(alloc: Global, words: &str) -> Result<String, AllocError> {
     let Some((times, words)) = words.split_once(' ') else {
         return String::from_str(alloc, "no number");
@@ -47,7 +48,7 @@ fn describe_by_loop(alloc: Global, tree: Ipld) -> Result<String, AllocError> {
     tree.references(alloc, &mut links)?;
     let copy = tree.try_clone(alloc)?;
     let is_same = copy.same_tree(alloc, &tree)?;
-    // It recurses.
+    // This call recurses.
     let recursed = levels > 1_000 || tree.nesting() == Some(levels);
     copy.discard();
     tree.discard();

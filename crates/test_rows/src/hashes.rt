@@ -7,7 +7,7 @@ use ipld_cid::{
 };
 use std::alloc::{AllocError, Global};
 
-/// The multihash that bytes are, how many bytes it has, and its bytes; or the error.
+/// Returns the multihash that bytes encode, its number of bytes, and its bytes, or the error.
 pub fn multihash(alloc: Global, digits: &str) -> Result<String, AllocError> {
     let Ok(bytes) = hex::decode(alloc, digits) else {
         return String::from_str(alloc, "no bytes");
@@ -21,7 +21,7 @@ pub fn multihash(alloc: Global, digits: &str) -> Result<String, AllocError> {
     }
 }
 
-/// The CID of a block: a codec, a blank and the block. The block is that of the CID.
+/// Returns the CID of a block, and the result of verifying it: a codec, a blank and the block.
 pub fn of_block(alloc: Global, row: &str) -> Result<String, AllocError> {
     let (codec, digits) = row.split_once(' ').unwrap_or((row, ""));
     let (Ok(codec), Ok(block)) = (codec.parse::<u64>(), hex::decode(alloc, digits)) else {
@@ -32,7 +32,7 @@ pub fn of_block(alloc: Global, row: &str) -> Result<String, AllocError> {
     format!(in alloc; "{cid} {outcome:?}")
 }
 
-/// Whether a block is that of a CID: the CID, a blank and the block.
+/// Returns whether a block matches a CID: the CID, a blank and the block.
 pub fn verified(alloc: Global, row: &str) -> Result<String, AllocError> {
     let (cid, digits) = row.split_once(' ').unwrap_or((row, ""));
     let (Some(cid), Ok(block)) = (identifiers::cid(alloc, cid), hex::decode(alloc, digits)) else {
@@ -42,7 +42,7 @@ pub fn verified(alloc: Global, row: &str) -> Result<String, AllocError> {
     format!(in alloc; "{outcome:?}")
 }
 
-/// The codes of the table of multicodecs, and the name of the newtype of CIDs.
+/// Returns the codes of the table of multicodecs, and the name of the newtype of CIDs.
 pub fn codes(alloc: Global) -> Result<String, AllocError> {
     let (codecs, hashes) = ((RAW, DAG_PB, DAG_CBOR), (IDENTITY, SHA2_256));
     format!(in alloc; "{codecs:?} {hashes:?} {MAX_CID_LEN} {CID_SERDE_PRIVATE_IDENTIFIER}")

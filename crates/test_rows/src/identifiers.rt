@@ -1,4 +1,4 @@
-//! Bytes and texts of CIDs, and their order.
+//! The bytes and texts of CIDs, and their order.
 
 ghost use Rattle.std.specs.Prelude.{◌≤◌};
 
@@ -6,7 +6,7 @@ use ipld_cid::{Cid, CidError, CidGeneric};
 use std::alloc::{AllocError, Global};
 use std::hash::{DefaultHasher, Hash, Hasher};
 
-/// The CID of the bytes in the digits behind the capacity for its digest.
+/// Reads the CID of the bytes in the digits. The capacity for its digest comes before them.
 pub fn from_bytes(alloc: Global, line: &str) -> Result<String, AllocError> {
     let (capacity, digits) = line.split_once(' ').unwrap_or((line, ""));
     let Ok(bytes) = hex::decode(alloc, digits) else {
@@ -22,7 +22,7 @@ pub fn from_bytes(alloc: Global, line: &str) -> Result<String, AllocError> {
     }
 }
 
-/// The CID that a text is, which parsing returns too.
+/// Reads the CID of a text. Parsing has to return the same.
 pub fn from_text(alloc: Global, text: &str) -> Result<String, AllocError> {
     let read = Cid::from_text(alloc, text);
     if text.parse::<Cid>() != read || Cid::try_from(text) != read {
@@ -53,7 +53,7 @@ fn parts<const S: usize>(alloc: Global, cid: &CidGeneric<S>) -> Result<String, A
     format!(in alloc; "{version:?} {codec} {code} [{digest}] {bytes} {cid}")
 }
 
-/// The CID whose bytes the digits are.
+/// Returns the CID whose bytes are written as the digits.
 pub fn cid(alloc: Global, digits: &str) -> Option<Cid> {
     let bytes = hex::decode(alloc, digits).ok()?;
     Cid::try_from(bytes.as_slice()).ok()
@@ -65,7 +65,7 @@ fn hash_of<T: Hash>(value: &T) -> u64 {
     state.finish()
 }
 
-/// How the CIDs of two groups of digits compare.
+/// Returns the order of the CIDs of two groups of digits.
 pub fn order(alloc: Global, line: &str) -> Result<String, AllocError> {
     let (one, other) = line.split_once(' ').unwrap_or((line, ""));
     let (Some(one), Some(other)) = (cid(alloc, one), cid(alloc, other)) else {

@@ -4,13 +4,13 @@ use crate::tree_words::tree;
 use ipld_tree::{IndexError, IntoIndex, Ipld};
 use std::alloc::{AllocError, Global};
 
-/// What stands in a tree at an index, a text: `INDEX|TREE`.
+/// Returns the value in a tree at an index, a text: `INDEX|TREE`.
 pub fn by_text(alloc: Global, line: &str) -> Result<String, AllocError> {
     let (index, words) = line.split_once('|').unwrap_or((line, ""));
     look_up(alloc, words, index)
 }
 
-/// What stands in a tree at an index, a number: `INDEX|TREE`.
+/// Returns the value in a tree at an index, a number: `INDEX|TREE`.
 pub fn by_number(alloc: Global, line: &str) -> Result<String, AllocError> {
     let (index, words) = line.split_once('|').unwrap_or((line, ""));
     match index.parse::<usize>() {
@@ -19,7 +19,7 @@ pub fn by_number(alloc: Global, line: &str) -> Result<String, AllocError> {
     }
 }
 
-// What is lent at the index, and what is taken.
+// Returns the value that is borrowed at the index, and the one that is taken.
 fn look_up<'a, T: IntoIndex<'a> + Copy>(
     alloc: Global,
     words: &str,
@@ -53,7 +53,7 @@ fn text_of_taken(
     }
 }
 
-/// What stands in a tree at a path: `PATH|TREE`.
+/// Returns the value in a tree at a path: `PATH|TREE`.
 pub fn by_path(alloc: Global, line: &str) -> Result<String, AllocError> {
     let (path, words) = line.split_once('|').unwrap_or((line, ""));
     match tree(alloc, words)? {

@@ -7,7 +7,7 @@ use ipld_tree::{Ipld, Limits};
 use std::alloc::{AllocError, Global};
 use std::str;
 
-/// The text of a tree, or why it has none.
+/// Returns the text of a tree, or the error.
 pub fn tree(alloc: Global, words: &str) -> Result<String, AllocError> {
     let Some(tree) = tree_words::tree(alloc, words)? else {
         return String::from_str(alloc, "no tree");
@@ -38,7 +38,7 @@ fn another(alloc: Global) -> Result<String, AllocError> {
     String::from_str(alloc, "another text as bytes")
 }
 
-/// What a text is read as within limits: levels, values and the text.
+/// Reads a text within limits: levels, values and the text.
 pub fn read(alloc: Global, row: &str) -> Result<String, AllocError> {
     match limited(alloc, row)? {
         Some((limits, text)) => read_within(alloc, text.as_slice(), &limits),
@@ -46,7 +46,7 @@ pub fn read(alloc: Global, row: &str) -> Result<String, AllocError> {
     }
 }
 
-// The canonical text, behind `=` where it is this one, or why the text has no tree.
+// Returns the canonical text, after `=` if it is this one, or the reason why the text has no tree.
 fn read_within(alloc: Global, text: &[u8], limits: &Limits) -> Result<String, AllocError> {
     let of_str = match str::from_utf8(text) {
         Ok(text) => is_read(from_str(alloc, text, limits)),
@@ -67,7 +67,8 @@ fn read_within(alloc: Global, text: &[u8], limits: &Limits) -> Result<String, Al
     }
 }
 
-/// Whether a text that may have floats is read within limits, as a tree and as a tape: `ok`, or why not.
+/// Returns whether a text that may have floats is read within limits, both into a tree and into a
+/// tape: `ok`, or the error.
 pub fn read_floats(alloc: Global, row: &str) -> Result<String, AllocError> {
     let Some((limits, text)) = limited(alloc, row)? else {
         return String::from_str(alloc, "no limits and bytes");
@@ -92,7 +93,7 @@ pub fn read_floats(alloc: Global, row: &str) -> Result<String, AllocError> {
     }
 }
 
-// Whether a tree was read.
+// Returns whether a tree was read.
 fn is_read<E: Drop>(read: Result<Ipld, E>) -> bool {
     match read {
         Ok(tree) => {
@@ -103,7 +104,7 @@ fn is_read<E: Drop>(read: Result<Ipld, E>) -> bool {
     }
 }
 
-// The text that is written of a tree, and what is said of the text that was read.
+// Returns the text that is written for a tree, and the verdict on the text that was read.
 fn compared(
     alloc: Global,
     text: &[u8],

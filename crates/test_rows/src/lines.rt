@@ -3,13 +3,13 @@
 use ipld_links_run::{Status, run};
 use std::alloc::{AllocError, Global};
 
-/// What stands at a place instead: what lines are made of, and what none has.
+/// The bytes that are put into a line: those of valid lines, and some that no valid line has.
 const BYTES: [u8; 28] = [
     b' ', b'-', b'+', b'0', b'1', b'7', b'8', b'9', b'a', b'b', b'c', b'd', b'e', b'f', b'g', b's',
     b'A', b'F', b'N', b'_', b'.', b'\t', b'\r', 0, 0x7f, 0x80, 0xc3, 0xff,
 ];
 
-// A one where the word understands the line, a zero where it doesn't, and `e` where the run failed.
+// Returns a one if the word understands the line, a zero if it doesn't, and `e` if the run failed.
 fn flag(alloc: Global, word: &str, line: &[u8]) -> Result<char, AllocError> {
     let mut input = line.to_vec(alloc)?;
     input.push(b'\n')?;
@@ -22,7 +22,8 @@ fn flag(alloc: Global, word: &str, line: &[u8]) -> Result<char, AllocError> {
     }
 }
 
-/// Whether a word understands a line cut behind each place, and from each place on: `WORD|LINE`.
+/// Returns whether a word understands the part of a line before each place, and the part after it:
+/// `WORD|LINE`.
 pub fn cut(alloc: Global, row: &str) -> Result<String, AllocError> {
     let (word, line) = row.split_once('|').unwrap_or((row, ""));
     let mut flags = String::new(alloc);
@@ -34,7 +35,8 @@ pub fn cut(alloc: Global, row: &str) -> Result<String, AllocError> {
     Ok(flags)
 }
 
-/// Whether a word understands a line with each of 28 bytes before each place and at its end, and in place of each byte: `WORD|LINE`.
+/// Returns whether a word understands a line with one of 28 bytes inserted at each place or at its
+/// end, or instead of each byte: `WORD|LINE`.
 pub fn changed(alloc: Global, row: &str) -> Result<String, AllocError> {
     let (word, line) = row.split_once('|').unwrap_or((row, ""));
     let mut flags = String::new(alloc);
@@ -46,7 +48,7 @@ pub fn changed(alloc: Global, row: &str) -> Result<String, AllocError> {
     Ok(flags)
 }
 
-// With each byte between the two parts.
+// Pushes the flags of the lines with each byte between the two parts.
 fn push_flags(
     alloc: Global,
     word: &str,

@@ -1,4 +1,4 @@
-//! Types of one's own: how each is written, how it is read, and that it round-trips.
+//! Custom types: how each is written, how it is read, and that it round-trips.
 
 pub mod described;
 pub mod described_forms;

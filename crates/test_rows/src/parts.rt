@@ -1,4 +1,5 @@
-//! The parts of blocks of DAG-CBOR with floats and without: links, where they stand, the order of keys, and where a block stops being one.
+//! The parts of blocks of DAG-CBOR with and without floats: the links, their places, the order of
+//! keys, and the place at which a block becomes invalid.
 
 use crate::bytes::bytes;
 use dag_cbor::{
@@ -14,7 +15,7 @@ pub const ALL: Limits = Limits {
     values: usize::MAX,
 };
 
-/// What a block comes to with floats, and without where that is something else.
+/// Returns the parts of a block read with floats and, if that differs, without.
 pub fn parts(alloc: Global, digits: &str) -> Result<String, AllocError> {
     let Ok(bytes) = hex::decode(alloc, digits) else {
         return String::from_str(alloc, "no bytes");
@@ -22,7 +23,7 @@ pub fn parts(alloc: Global, digits: &str) -> Result<String, AllocError> {
     check_both(alloc, bytes.as_slice())
 }
 
-/// What each beginning of a block comes to that is shorter.
+/// Returns the parts of each shorter beginning of a block.
 pub fn cuts(alloc: Global, digits: &str) -> Result<String, AllocError> {
     let Ok(bytes) = hex::decode(alloc, digits) else {
         return String::from_str(alloc, "no bytes");
@@ -41,7 +42,8 @@ pub fn cuts(alloc: Global, digits: &str) -> Result<String, AllocError> {
     Ok(outcomes)
 }
 
-/// What a block comes to in which one byte is changed, each in turn: a mask, a blank and the block.
+/// Returns the parts of a block with one byte changed, for each byte in turn: a mask, a blank and
+/// the block.
 pub fn changes(alloc: Global, row: &str) -> Result<String, AllocError> {
     let (mask, digits) = row.split_once(' ').unwrap_or(("", row));
     let (Ok(mask), Ok(mut bytes)) = (mask.parse::<u8>(), hex::decode(alloc, digits)) else {
@@ -60,7 +62,7 @@ pub fn changes(alloc: Global, row: &str) -> Result<String, AllocError> {
     Ok(outcomes)
 }
 
-/// What a block with floats comes to within limits: levels, values and the block.
+/// Returns the parts of a block with floats within limits: levels, values and the block.
 pub fn within(alloc: Global, row: &str) -> Result<String, AllocError> {
     match limited(alloc, row)? {
         Some((limits, bytes)) => of_floats(alloc, bytes.as_slice(), limits),
@@ -68,7 +70,8 @@ pub fn within(alloc: Global, row: &str) -> Result<String, AllocError> {
     }
 }
 
-/// What a block without floats is decoded as within limits: the tree that it is without them, or the error.
+/// Returns whether a block without floats decodes within limits to the same tree as without limits,
+/// or the error.
 pub fn decoded_within(alloc: Global, row: &str) -> Result<String, AllocError> {
     let Some((limits, bytes)) = limited(alloc, row)? else {
         return String::from_str(alloc, "no limits and bytes");
@@ -82,7 +85,7 @@ pub fn decoded_within(alloc: Global, row: &str) -> Result<String, AllocError> {
     }
 }
 
-/// How deep a block nests, and how many values and links it has.
+/// Returns the depth of a block, and the numbers of its values and links.
 pub fn size(alloc: Global, digits: &str) -> Result<String, AllocError> {
     let Some(bytes) = bytes(alloc, digits)? else {
         return String::from_str(alloc, "no bytes");
@@ -97,7 +100,7 @@ pub fn size(alloc: Global, digits: &str) -> Result<String, AllocError> {
     }
 }
 
-// The levels, the values and the block of a row.
+// Returns the levels, the values and the block of a row.
 pub fn limited(alloc: Global, row: &str) -> Result<Option<(Limits, Vec<u8>)>, AllocError> {
     let Some((limits, digits)) = limits(row) else {
         return Ok(None);
@@ -130,7 +133,7 @@ fn check_both(alloc: Global, block: &[u8]) -> Result<String, AllocError> {
     format!(in alloc; "{with} / {without}")
 }
 
-// The positions of links, and whether the keys are sorted.
+// Returns the positions of links, and whether the keys are sorted.
 fn described(
     alloc: Global,
     count: usize,
@@ -158,7 +161,7 @@ fn of_floats(alloc: Global, block: &[u8], limits: Limits) -> Result<String, Allo
     read(alloc, block, &options)
 }
 
-// By each of the calls, which have to agree.
+// Reads the parts with each of the calls, which have to agree.
 fn read(alloc: Global, block: &[u8], options: &ReadOptions) -> Result<String, AllocError> {
     let checked = check_block(alloc, block, options);
     let links = links_of_block(alloc, block, options);
@@ -182,7 +185,7 @@ fn read(alloc: Global, block: &[u8], options: &ReadOptions) -> Result<String, Al
     }
 }
 
-// Without floats, where decoding has to return the same error.
+// Reads the parts without floats. Decoding has to return the same error.
 fn of_plain(alloc: Global, block: &[u8]) -> Result<String, AllocError> {
     let decoded = match decode_slice_within(alloc, block, &ALL) {
         Ok(_) => Ok(()),

@@ -1,4 +1,4 @@
-//! Tokens written as words, as `seq link A seqend`.
+//! Tokens written as words, such as `seq link A seqend`.
 
 use ipld_tokens::{Token, TokenBytes};
 use std::alloc::{AllocError, Global};
@@ -9,9 +9,16 @@ const A: [u8; 4] = [0x01, 0x55, 0x00, 0x00];
 /// The bytes of a CID whose content is the byte 7.
 const B: [u8; 5] = [0x01, 0x55, 0x00, 0x01, 0x07];
 
-/// The tokens of the words between blanks: the tokens' names, some of them with what they hold behind a colon, as `str:a`, `int:1` and
-/// `seq:0`; `bytes:` before hexadecimal digits, `A` and `B` for the bytes of the two CIDs, `cut` for the first two of A, and `nothing` for no
-/// bytes. Behind a word, or some that are joined by `&`, `*9` says how often they stand. None for any other words.
+/// Returns the tokens of the words between blanks. The words are:
+///
+/// - the tokens' names, some of them with their content after a colon, such as `str:a`, `int:1` and
+///   `seq:0`
+/// - `bytes:` before hexadecimal digits
+/// - `A` and `B` for the bytes of the two CIDs, `cut` for the first two of A, and `nothing` for no
+///   bytes
+///
+/// `*9` after a word, or after words that are joined by `&`, repeats them 9 times. Returns `None`
+/// for any other words.
 pub fn tokens<'a>(alloc: Global, words: &'a str) -> Result<Option<Vec<Token<'a>>>, AllocError> {
     let mut tokens = Vec::new(alloc);
     for word in words.split_ascii_whitespace() {
@@ -32,7 +39,7 @@ fn repeated(word: &str) -> (&str, u32) {
     }
 }
 
-// Whether each word is a token's.
+// Adds the tokens of the words. Returns whether each word is a token's.
 fn push_each<'a>(
     alloc: Global,
     tokens: &mut Vec<Token<'a>>,

@@ -1,4 +1,4 @@
-//! What is read from tokens, and the tokens of trees.
+//! Values read from tokens, and the tokens of trees.
 
 use crate::token_words::tokens;
 use crate::tree_words;
@@ -10,7 +10,7 @@ use ipld_tree::{Ipld, Limits};
 use std::alloc::{AllocError, Global};
 use std::fmt::Debug;
 
-// How many tokens a source still has, counted up to `most`.
+// Returns how many tokens a source still has, counted up to `most`.
 fn left<'a, T: TokenSource<'a>>(source: &mut T, most: usize) -> usize {
     for count in 0..most {
         match source.next_token() {
@@ -31,7 +31,7 @@ fn extracted<'a, const S: usize>(
     format!(in alloc; "{found:?}, {left} left")
 }
 
-/// The links of the tokens behind the capacity for their digest.
+/// Returns the links of the tokens. The capacity for their digest comes before them.
 pub fn links(alloc: Global, line: &str) -> Result<String, AllocError> {
     let (capacity, words) = line.split_once(' ').unwrap_or((line, ""));
     let Some(tokens) = tokens(alloc, words)? else {
@@ -47,7 +47,7 @@ pub fn links(alloc: Global, line: &str) -> Result<String, AllocError> {
     }
 }
 
-/// The tree of the tokens.
+/// Returns the tree of the tokens.
 pub fn tree(alloc: Global, words: &str) -> Result<String, AllocError> {
     let Some(tokens) = tokens(alloc, words)? else {
         return String::from_str(alloc, "no tokens");
@@ -61,7 +61,7 @@ pub fn tree(alloc: Global, words: &str) -> Result<String, AllocError> {
     }
 }
 
-/// The tree of the tokens within limits: levels, values and the tokens.
+/// Returns the tree of the tokens within limits: levels, values and the tokens.
 pub fn tree_within(alloc: Global, row: &str) -> Result<String, AllocError> {
     let (levels, rest) = row.split_once(' ').unwrap_or(("", row));
     let (values, words) = rest.split_once(' ').unwrap_or(("", rest));
@@ -77,7 +77,7 @@ pub fn tree_within(alloc: Global, row: &str) -> Result<String, AllocError> {
     format!(in alloc; "{tree:?}, {left} left")
 }
 
-/// The tokens of the tree.
+/// Returns the tokens of the tree.
 pub fn of_tree(alloc: Global, words: &str) -> Result<String, AllocError> {
     let Some(tree) = tree_words::tree(alloc, words)? else {
         return String::from_str(alloc, "no tree");
@@ -88,7 +88,7 @@ pub fn of_tree(alloc: Global, words: &str) -> Result<String, AllocError> {
     }
 }
 
-/// The tokens of the block.
+/// Returns the tokens of the block.
 pub fn of_block(alloc: Global, digits: &str) -> Result<String, AllocError> {
     match hex::decode(alloc, digits) {
         Ok(block) => listed(alloc, &mut CborTokens::new(alloc, block.as_slice())),
@@ -96,7 +96,8 @@ pub fn of_block(alloc: Global, digits: &str) -> Result<String, AllocError> {
     }
 }
 
-// The tokens of the source, each with a blank behind it, and the error, which is returned again.
+// Returns the tokens of the source, each with a blank after it. An error follows them, with whether
+// the source has failed.
 fn listed<'a, T: TokenSource<'a>>(alloc: Global, source: &mut T) -> Result<String, AllocError>
 where
     T::Fault: Debug,
@@ -112,7 +113,7 @@ where
     Ok(text)
 }
 
-// The token, with a blank behind it.
+// Returns the token, with a blank after it.
 fn text_of_token(alloc: Global, token: &Token<'_>) -> Result<String, AllocError> {
     match token {
         Token::Bytes(bytes) => format!(in alloc; "Bytes({:?}) ", bytes.as_slice()),
@@ -120,7 +121,8 @@ fn text_of_token(alloc: Global, token: &Token<'_>) -> Result<String, AllocError>
     }
 }
 
-/// How deep the tree of the tokens nests, or why there is none; and what is read within the default limits.
+/// Returns the depth of the tokens' tree, or the error. Also returns whether they are read within
+/// the default limits, or the error.
 pub fn measured(alloc: Global, words: &str) -> Result<String, AllocError> {
     let Some(tokens) = tokens(alloc, words)? else {
         return String::from_str(alloc, "no tokens");

@@ -1,4 +1,4 @@
-//! Trees written as words, as `{ place: text:Brno degrees: -4 }`.
+//! Trees written as words, such as `{ place: text:Brno degrees: -4 }`.
 
 use ipld_cid::Cid;
 use ipld_cid_text::parse_any;
@@ -11,11 +11,19 @@ use std::mem;
 /// The bytes of a CID of version 1, codec raw, identity hash, with an empty digest.
 pub const A: [u8; 4] = [0x01, 0x55, 0x00, 0x00];
 
-/// The tree that the words between blanks describe: `null`, `true`, `false` and numbers; `text:x` for a text, and `empty` for the one
-/// without characters; `bytes:x` for the bytes of a string, `A` for those of a CID, and `link` for that CID as a link; `link:x` for the
-/// CID of a text, and `cid:x` in any base; `[` and `]` round the items of a list; `{` and `}` round the members of a map, with keys as `x:`; `utf8:` before the digits of a text. None for any other
-/// words. Behind a tree `lists*9` puts it into as many lists, one in another, `between*9` into lists between null and true, `maps*9` into maps
-/// under the key `k`, and `mixed*9` into as many pairs of such a map in such a list.
+/// Returns the tree that the words between blanks describe. The words are:
+///
+/// - `null`, `true`, `false` and numbers
+/// - `text:x` for a string, `empty` for the empty string, and `utf8:` before the hexadecimal digits
+///   of a string
+/// - `bytes:x` for the bytes of a string, `A` for those of a CID, and `link` for that CID as a link
+/// - `link:x` for the CID of a text, and `cid:x` for one in any base
+/// - `[` and `]` around the items of a list
+/// - `{` and `}` around the members of a map, with keys such as `x:`
+///
+/// After a tree, `lists*9` puts it into 9 nested lists, `between*9` into lists between null and
+/// true, and `maps*9` into maps under the key `k`. `mixed*9` puts it into 9 pairs of such a map in
+/// such a list. Returns `None` for any other words.
 pub fn tree(alloc: Global, words: &str) -> Result<Option<Ipld>, AllocError> {
     let mut outer = Vec::new(alloc);
     let mut items = Vec::new(alloc);
@@ -48,7 +56,7 @@ pub fn tree(alloc: Global, words: &str) -> Result<Option<Ipld>, AllocError> {
     Ok(items.pop())
 }
 
-// The list or the map of the items, by the word that closes it.
+// Returns the list or the map of the items, by the word that closes it.
 fn closed(alloc: Global, word: &str, items: Vec<Ipld>) -> Result<Option<Ipld>, AllocError> {
     match word {
         "]" => Ok(Some(Ipld::List(items))),
@@ -57,7 +65,7 @@ fn closed(alloc: Global, word: &str, items: Vec<Ipld>) -> Result<Option<Ipld>, A
     }
 }
 
-// The map of keys, each before its value.
+// Returns the map of keys, each before its value.
 fn members(alloc: Global, items: Vec<Ipld>) -> Result<Option<Ipld>, AllocError> {
     let mut members = BTreeMap::new(alloc);
     let mut waiting = None;
@@ -71,7 +79,7 @@ fn members(alloc: Global, items: Vec<Ipld>) -> Result<Option<Ipld>, AllocError> 
     Ok(Some(Ipld::Map(members)))
 }
 
-// A tree of one word.
+// Returns a tree of one word.
 fn single(alloc: Global, word: &str) -> Result<Option<Ipld>, AllocError> {
     match word.split_once(':') {
         Some(("text", content)) => Ok(Some(text(alloc, content)?)),
@@ -90,7 +98,7 @@ fn single(alloc: Global, word: &str) -> Result<Option<Ipld>, AllocError> {
     }
 }
 
-// The text whose bytes in UTF-8 the digits are.
+// Returns the string whose bytes in UTF-8 are written as the digits.
 fn of_digits(alloc: Global, digits: &str) -> Result<Option<Ipld>, AllocError> {
     let Ok(bytes) = hex::decode(alloc, digits) else {
         return Ok(None);
@@ -101,7 +109,7 @@ fn of_digits(alloc: Global, digits: &str) -> Result<Option<Ipld>, AllocError> {
     }
 }
 
-// How a level holds the next.
+// The kind of a level that contains the next.
 #[derive(Clone, Copy)]
 enum Level {
     List,

@@ -19,7 +19,8 @@ use std::alloc::{AllocError, Global};
 use std::collections::BTreeMap;
 use std::fmt::Debug;
 
-/// What a type reads from a tree, and the tree that the value is written as: `TYPE|TREE`.
+/// Returns the value that a type reads from a tree, and the tree that it is written as:
+/// `TYPE|TREE`.
 pub fn value(alloc: Global, row: &str) -> Result<String, AllocError> {
     let (name, words) = row.split_once('|').unwrap_or((row, ""));
     let Some(tree) = tree_words::tree(alloc, words)? else {
@@ -38,7 +39,7 @@ pub fn value(alloc: Global, row: &str) -> Result<String, AllocError> {
     }
 }
 
-// What a row with a misspelt type comes to.
+// Returns the outcome of a row with a misspelt type.
 fn no_such_type(alloc: Global) -> Result<String, AllocError> {
     String::from_str(alloc, "no such type")
 }
@@ -113,7 +114,7 @@ fn list(alloc: Global, name: &str, tree: Ipld) -> Result<String, AllocError> {
     }
 }
 
-// By the type of the keys.
+// Reads a map, by the type of its keys.
 fn map(alloc: Global, name: &str, tree: Ipld) -> Result<String, AllocError> {
     match name {
         "String" => read::<BTreeMap<String, u8>>(alloc, tree),
@@ -126,7 +127,7 @@ fn map(alloc: Global, name: &str, tree: Ipld) -> Result<String, AllocError> {
 
 type Ten = (u8, u8, u8, u8, u8, u8, u8, u8, u8, bool);
 
-// By the number of parts.
+// Reads a tuple, by the number of its parts.
 fn tuple(alloc: Global, name: &str, tree: Ipld) -> Result<String, AllocError> {
     match name {
         "1" => read::<(i64,)>(alloc, tree),
@@ -173,7 +174,7 @@ fn own(alloc: Global, name: &str, tree: Ipld) -> Result<String, AllocError> {
     }
 }
 
-// A type whose values may hold deep trees, which aren't printed.
+// Reads a type whose values may contain deep trees, which aren't printed.
 fn part(alloc: Global, name: &str, tree: Ipld) -> Result<String, AllocError> {
     match name {
         "ignored" => read_any::<IgnoredAny>(alloc, tree),
@@ -188,7 +189,7 @@ fn part(alloc: Global, name: &str, tree: Ipld) -> Result<String, AllocError> {
     }
 }
 
-// The first of a pair with a bool.
+// Reads the first of a pair with a bool.
 fn before_bool(alloc: Global, name: &str, tree: Ipld) -> Result<String, AllocError> {
     match name {
         "tree" => read_any::<(Ipld, bool)>(alloc, tree),
@@ -217,7 +218,8 @@ fn read_any<T: Deserialize>(alloc: Global, tree: Ipld) -> Result<String, AllocEr
     }
 }
 
-/// What a type reads from a block of DAG-CBOR, and the block that the value is written as: `TYPE|BLOCK`.
+/// Returns the value that a type reads from a block of DAG-CBOR, and the block that it is written
+/// as: `TYPE|BLOCK`.
 pub fn in_block(alloc: Global, row: &str) -> Result<String, AllocError> {
     let (name, groups) = row.split_once('|').unwrap_or((row, ""));
     let Some(block) = bytes(alloc, groups)? else {

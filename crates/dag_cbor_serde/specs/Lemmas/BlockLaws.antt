@@ -1,4 +1,4 @@
--- How DAG-CBOR writes lists and structs: the laws of a writer of images.
+-- The laws of a writer of images: the DAG-CBOR encodings of lists and structs.
 use Rattle.std.proofs.Common.{◌≡◌, ℕ, zero, suc, ◌+◌, ◌^◌, ◌<◌, Bool, true, false, cond, List, [], ◌∷◌, ◌++◌, map, length, Option, Some, None, option_and_then, Less, Equal, Greater, is_lt, bytes_eq, inl, inr, refl, sym, ap, subst, ◌∙◌, arith}
 use Rattle.std.specs.Prelude.{option_map, nat_lt, ◌⊎◌}
 use Rattle.std.specs.Ordering.{match_ordering, ordering_reverse}
@@ -50,7 +50,7 @@ canonical_lists os b below is =
 shorter_first : (j k : List ℕ) → length j < length k → goes_first j k ≡ true
 shorter_first j k lt = let test = lt-ltb (length j) (length k) lt in rw test refl
 
--- of two keys one goes first
+-- one of two keys goes first, if one is before the other by bytes
 one_first : (j k : List ℕ) → is_before j k ≡ true → (goes_first j k ≡ true) ⊎ (goes_first k j ≡ true)
 one_first j k before =
     elim (cases_Bool (nat_lt (length k) (length j))) [
@@ -64,7 +64,7 @@ placed_on k b e ps h = ap (λ c. cond c (e ∷ placed k b ps) ((k, b) ∷ (e ∷
 placed_here : (k b : List ℕ) (e : List ℕ × List ℕ) (ps : Written) → goes_first e.0 k ≡ false → placed k b (e ∷ ps) ≡ (k, b) ∷ (e ∷ ps)
 placed_here k b e ps h = ap (λ c. cond c (e ∷ placed k b ps) ((k, b) ∷ (e ∷ ps))) h
 
--- two keys stand at the same places whichever is placed before the other
+-- two keys that are placed one after the other have the same places in either order
 placed_swap : (j c k b : List ℕ) (ps : Written) → goes_first j k ≡ true → placed j c (placed k b ps) ≡ placed k b (placed j c ps)
 placed_swap j c k b [] h = placed_here j c (k, b) [] (first_once j k h) ∙ sym (placed_on k b (j, c) [] h)
 placed_swap j c k b (e ∷ ps) h =
@@ -122,7 +122,7 @@ placed_either : (j c k b : List ℕ) (ps : Written) → (goes_first j k ≡ true
 placed_either j c k b ps (inl first) = placed_swap j c k b ps first
 placed_either j c k b ps (inr second) = sym (placed_swap k b j c ps second)
 
--- a key that the map hasn't is placed among the others
+-- a key that is not in the map is placed among the others
 put_placed : (k : List ℕ) (t : Tree) (b : List ℕ) (ms : Members) (ps : Written) → canonical t ≡ Some b → canonical_members ms ≡ Some ps → has_key k ms ≡ false
     → canonical_members (put k t ms) ≡ Some (placed k b ps)
 put_placed k t b no_members ps e f absent = added k t no_members b [] refl e refl ∙ ap (λ qs. Some (placed k b qs)) (same_Some [] ps f)
@@ -221,7 +221,7 @@ new_put k t (n ∷ ns) ms other new =
     let p = other_first (bytes_eq n k) (among k ns) other in
     (has_key-put n k t ms ∙ ap (λ c. or c (has_key n ms)) p.0 ∙ new.0, new_put k t ns ms p.1 new.1)
 
--- fields put into a map, and what is written of all
+-- True if the fields, put into the map, are `members`, and `b` is the encoding of all their pairs.
 record Filed (fs : List (List ℕ × Option Tree)) (ms : Members) (ps : Written) (b : List ℕ) : Type 0 where
   members : Members
   written : Written

@@ -1,4 +1,5 @@
--- The laws of a block that is read part by part: lists and maps are their heads and what follows these.
+-- The laws of a block that is read part by part: a list or a map is its head and the items or
+-- entries after it.
 use Rattle.std.proofs.Common.{◌≡◌, ◌≤◌, ℕ, suc, Bool, true, false, cond, List, [], ◌∷◌, ◌++◌, length, Option, Some, None, option_map, Ordering, Less, Equal, Greater, nat_cmp, refl, sym, ap, ap₂, subst, ◌∙◌, append_assoc, arith, bytes_eq}
 use Rattle.std.proofs.lemmas.Map.Text.{is_eq-slice_cmp}
 use Rattle.std.proofs.lemmas.Slice.Eq.{bytes_eq-Decides}
@@ -27,7 +28,7 @@ use Rattle.dag_cbor_serde.specs.Parts.{BeginsWithHead}
 
 -- ---- lists
 
--- items stand at the front of the bytes, which are these trees
+-- True if the bytes begin with items whose trees are these, and `rest` follows.
 abbrev ItemsBegin : ℕ → List Tree → List ℕ → List ℕ → Type 0
 ItemsBegin levels ts bytes rest =
     (is : Parts 64) × HaveEncodings is × (items_of_parts is ≡ Some (as_items ts)) × (part_count is ≡ length ts) × (bytes ≡ parts_encoding is ++ rest) × (items_nest (as_items ts) ≤ levels)
@@ -92,7 +93,7 @@ put_passes : (test : List ℕ → Tree → Bool) (k : List ℕ) (t : Tree) (ms :
 put_passes test k t no_members one pass = (one, tt)
 put_passes test k t (member l u ms) one pass = put_passes_at test (slice_cmp nat_cmp k l) k l t u ms (put k t ms) refl one pass (put_passes test k t ms one pass.1)
 
--- pairs stand at the front of the bytes, which are these entries
+-- True if the bytes begin with pairs whose entries are these, and `rest` follows.
 record EntriesBegin (levels : ℕ) (es : List (List ℕ × Tree)) (bytes rest : List ℕ) : Type 0 where
   pairs : Pairs 64
   members : Members

@@ -1,4 +1,4 @@
--- The tokens of JSON that encodes a tree bring the machine to that tree.
+-- The tokens of JSON that encodes a tree lead the machine to that tree.
 use Rattle.std.proofs.Common.{◌≡◌, ◌≤◌, ◌<◌, ◌+◌, ◌-◌, ℕ, suc, Bool, true, false, List, [], ◌∷◌, ◌++◌, nat_lt, Ok, refl, sym, ap, ◌∙◌, append_assoc, arith}
 use Rattle.std.specs.Prelude.{if◌then◌else◌, max}
 use Rattle.std.proofs.lemmas.Bool.{lt-ltb}
@@ -17,7 +17,7 @@ use Rattle.dag_json.specs.Objects.{object_tree}
 use Rattle.dag_json.specs.ReadMachine.{Level, in_list, in_key, in_value, going, done, failed, completed, completed_if, takes_value, scalar_step, value_step, begin_step, as_integer, run, start}
 use Rattle.dag_json.specs.declared.read_error.ReadErrorKind.TheVariants.{Syntax, DuplicateKey, TooDeep, TooMany}
 
--- one list behind another
+-- the items of one list, then those of another
 abbrev pub join : Items → Items → Items
 join no_items us = us
 join (item t ts) us = item t (join ts us)
@@ -103,7 +103,7 @@ module _ (floats : Bool) (limits : Limits) where
         ∙ read_members os (put k e.0 ms) all ls d (n + count j) rest e.3 (omega arith) (omega arith)
         ∙ ap (λ k. run floats limits (completed_if (object_tree all) (d - 1) k ls) rest) whole
 
-  -- the whole of them
+  -- The tokens of JSON within the limits lead from the start to the tree that it encodes.
   pub reads_whole : (j : json.Json) (t : Tree) → EncodesIn floats j t → JsonWithin limits j → run floats limits start (json_tokens j) ≡ done t
   reads_whole j t e within =
       let levels = within.levels in

@@ -1,4 +1,4 @@
--- What reading a text returns, by what the text encodes.
+-- The result of reading a text, by the tree that the text encodes.
 use Rattle.std.proofs.Common.{◌≡◌, ◌+◌, ◌⊎◌, ℕ, Bool, false, List, [], ◌∷◌, Result, Ok, Err, IfOk, inl, inr, refl, sym, ap, ◌∙◌, arith}
 use Rattle.std.specs.Str.{IsUtf8}
 use Rattle.ipld_tree.specs.Tree.{Tree}
@@ -22,7 +22,7 @@ ok_done (going ls d n) t e = absurd cc
 ok_done (done v) t e = ap done cc
 ok_done (failed k) t e = absurd cc
 
--- what is read is encoded by the text
+-- If reading a text returns a tree, the text encodes it within the limits.
 pub encodes_read : (floats : Bool) (limits : Limits) (s : List ℕ) (r : Result Ipld ReadError) → IsUtf8 s → Reads floats limits (tokens s) r → IfOk r (λ v. EncodesWithinIn floats limits (tree_of v) s)
 encodes_read floats limits s (Ok v) utf8 h =
     let f = found floats limits (tokens s) (tree_of v) (ok_done (run floats limits start (tokens s)) (tree_of v) h) in
@@ -32,13 +32,14 @@ encodes_read floats limits s (Err e) utf8 h = tt
 pub whole_read : (floats : Bool) (limits : Limits) (t : Tree) (s : List ℕ) → EncodesWithinIn floats limits t s → read_tokens floats limits (tokens s) ≡ Ok t
 whole_read floats limits t s e = ap (λ ts. outcome (run floats limits start ts)) e.tree.is_json ∙ ap outcome (reads_whole floats limits e.tree.json t e.tree.encodes e.within)
 
--- what the text encodes is read
+-- If a text encodes a tree within the limits, reading it returns the tree, unless an allocation
+-- failed.
 pub only_read : (floats : Bool) (limits : Limits) (s : List ℕ) (r : Result Ipld ReadError) → Reads floats limits (tokens s) r → (t : Tree) → EncodesWithinIn floats limits t s → UnlessMemory r (λ v. tree_of v ≡ t)
 only_read floats limits s (Ok v) h t e = let same : ◌≡◌ {A = Result Tree ReadErrorKind} (Ok (tree_of v)) (Ok t) = sym h ∙ whole_read floats limits t s e in cc
 only_read floats limits s (Err x) (inl memory) t e = memory
 only_read floats limits s (Err x) (inr other) t e = absurd (let clash : ◌≡◌ {A = Result Tree ReadErrorKind} (Err x.kind) (Ok t) = sym other ∙ whole_read floats limits t s e in cc)
 
--- a text encodes one tree
+-- A text encodes at most one tree.
 pub encoded_once : (t u : Tree) (s : List ℕ) → EncodesTree t s → EncodesTree u s → t ≡ u
 encoded_once t u s e f =
     let limits : Limits = record { levels = depth e.json + depth f.json; values = count e.json + count f.json } in
@@ -47,13 +48,13 @@ encoded_once t u s e f =
     ∙ whole_read false limits u s (record { tree = f; within = record { levels = omega arith; values = omega arith } }) in
     cc
 
--- ---- where reading stops
+-- ---- the place at which reading stops
 
 pub run_failed : (floats : Bool) (limits : Limits) (e : ReadErrorKind) (ts : List Token) → run floats limits (failed e) ts ≡ failed e
 run_failed floats limits e [] = refl
 run_failed floats limits e (t ∷ ts) = run_failed floats limits e ts
 
--- a token is none that may come
+-- If the machine rejects the next token, reading all tokens results in the same error.
 pub stopped : (floats : Bool) (limits : Limits) (s : State) (t : Token) (rest old first : List Token) (e : ReadErrorKind) → old ≡ t ∷ rest → run floats limits s old ≡ run floats limits start first
     → (e ≡ Memory) ⊎ (step floats limits s t ≡ failed e) → (e ≡ Memory) ⊎ (read_tokens floats limits first ≡ Err e)
 stopped floats limits s t rest old first e is same (inl memory) = inl memory

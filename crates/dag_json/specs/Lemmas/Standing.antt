@@ -1,4 +1,4 @@
--- What the machine comes to is the tree of JSON whose tokens it took.
+-- The result of the machine is the tree of the JSON whose tokens it took.
 use Rattle.std.proofs.Common.{◌≡◌, ◌≤◌, ◌<◌, ◌+◌, ◌-◌, ℕ, ℤ, suc, Bool, true, false, List, [], ◌∷◌, ◌++◌, nat_lt, Result, Ok, Err, inl, inr, refl, sym, ap, subst, ◌∙◌, append_assoc, arith}
 use Rattle.std.specs.Prelude.{if◌then◌else◌, max}
 use Rattle.std.proofs.lemmas.Bool.{ltb-true, cases_Bool}
@@ -20,7 +20,7 @@ use Rattle.dag_json.specs.ReadMachine.{Level, in_list, in_key, in_value, State, 
 use Rattle.dag_json.specs.declared.read_error.ReadErrorKind.{ReadErrorKind}
 use Rattle.dag_json.specs.declared.read_error.ReadErrorKind.TheVariants.{Syntax, DuplicateKey, TooDeep, TooMany}
 
--- ---- items and members, of which the last came last
+-- ---- items and members with one more at the end
 
 abbrev pub and_last : json.Items → json.Json → json.Items
 and_last json.no_items j = json.item j json.no_items
@@ -30,7 +30,7 @@ abbrev pub and_member : json.Members → List ℕ → json.Json → json.Members
 and_member json.no_members k j = json.member k j json.no_members
 and_member (json.member l i os) k j = json.member l i (and_member os k j)
 
--- their tokens, less the end
+-- the tokens of items, and of members (`open_members`), without the end of the list or map
 abbrev pub open_items : json.Items → List Token
 open_items json.no_items = []
 open_items (json.item j js) = json_tokens j ++ open_items js
@@ -82,10 +82,10 @@ encodes-member : (floats : Bool) (os : json.Members) (k : List ℕ) (j : json.Js
 encodes-member floats json.no_members k j first ms t e fresh f = (t, subst (λ us. has_key k us ≡ false) e fresh, f, ap (put k t) e)
 encodes-member floats (json.member l i os) k j first ms t e fresh f = (e.0, e.1, e.2, encodes-member floats os k j (put l e.0 first) ms t e.3 fresh f)
 
--- ---- what stands
+-- ---- the tokens that lead to a state
 
 module _ (floats : Bool) (limits : Limits) where
-  -- these tokens begin what is open, so deep, with so many values
+  -- True if the tokens begin the open lists and maps, at the depth `d` and with `n` values.
   abbrev pub Stands : List Level → ℕ → ℕ → List Token → Type 0
   Stands [] d n p = (d ≡ 0) × (n ≡ 0) × (p ≡ [])
   Stands (in_list ts ∷ ls) d n p =
@@ -103,7 +103,7 @@ module _ (floats : Bool) (limits : Limits) where
   StandsFor (done t) p = (j : json.Json) × (p ≡ json_tokens j) × EncodesIn floats j t × JsonWithin limits j
   StandsFor (failed e) p = Unit {0}
 
-  -- a value is complete
+  -- `StandsFor` is true after a complete value.
   value_stands : (ls : List Level) (d n m : ℕ) (q : List Token) (j : json.Json) (t : Tree) → Stands ls d n q → takes_value ls ≡ true → EncodesIn floats j t → d + depth j ≤ limits.levels
       → m ≡ n + count j → m ≤ limits.values → StandsFor (completed t d m ls) (q ++ json_tokens j)
   value_stands [] d n m q j t s takes e flat all few =
@@ -163,7 +163,7 @@ module _ (floats : Bool) (limits : Limits) where
   depth_within (in_key ms ∷ ls) d n p s = let deep = s.10 in omega arith
   depth_within (in_value ms k ∷ ls) d n p s = let deep = s.10 in omega arith
 
-  -- a value that is one token
+  -- `StandsFor` is true after a value that is one token.
   scalar_at : (r : Result Tree ReadErrorKind) (ls : List Level) (d n : ℕ) (p : List Token) (k : Token) (j : json.Json) → Stands ls d n p → takes_value ls ≡ true
       → ((t : Tree) → r ≡ Ok t → EncodesIn floats j t) → json_tokens j ≡ k ∷ [] → depth j ≡ 0 → count j ≡ 1 → StandsFor (scalar_step limits r ls d n) (p ++ k ∷ [])
   scalar_at (Err x) ls d n p k j s takes e one flat single = tt
@@ -184,7 +184,7 @@ module _ (floats : Bool) (limits : Limits) where
     | inr other ↦ subst (λ b. StandsFor (if b then scalar_step limits r ls d n else failed Syntax) (p ++ k ∷ [])) (sym other) tt
   ]
 
-  -- a list or a map begins
+  -- `StandsFor` is true after the beginning of a list or a map.
   begin_stands : (l : Level) (ls : List Level) (d n : ℕ) (p : List Token) (k : Token) → (d < limits.levels → takes_value ls ≡ true → Stands (l ∷ ls) (d + 1) (n + 1) (p ++ k ∷ []))
       → StandsFor (begin_step limits l ls d n) (p ++ k ∷ [])
   begin_stands l ls d n p k h = elim (cases_Bool (takes_value ls)) [
@@ -214,7 +214,7 @@ module _ (floats : Bool) (limits : Limits) where
   map_begins ls d n p s =
       begin_stands (in_key no_members) ls d n p token.begin_object (λ flat takes. (d, n, p, json.no_members, s, takes, refl, omega arith, omega arith, refl, omega arith))
 
-  -- they end
+  -- `StandsFor` is true after the end of a list or a map.
   list_ends : (ls : List Level) (d n : ℕ) (p : List Token) → Stands ls d n p → n ≤ limits.values → StandsFor (end_list_step ls d n) (p ++ token.end_array ∷ [])
   list_ends [] d n p s few = tt
   list_ends (in_key ms ∷ ls) d n p s few = tt
@@ -252,7 +252,7 @@ module _ (floats : Bool) (limits : Limits) where
       (subst (λ e. StandsFor (completed_if (object_tree ms) e n ls) (s.2 ++ json_tokens (json.object os))) (sym outer)
       (object_stands (object_tree ms) ls s.0 s.1 n s.2 os ms refl s.4 s.5 s.6 (omega arith) (omega arith) few))
 
-  -- a key comes
+  -- `StandsFor` is true after a key.
   key_comes : (k : List ℕ) (ls : List Level) (d n : ℕ) (p : List Token) → Stands ls d n p → n ≤ limits.values → StandsFor (key_step k ls d n) (p ++ token.key k ∷ [])
   key_comes k [] d n p s few = tt
   key_comes k (in_list ts ∷ ls) d n p s few = tt

@@ -6,7 +6,7 @@ ghost use Rattle.dag_json.specs.TapeOpen.{left_of, kind_of};
 use ipld_tree::Ipld;
 use std::collections::BTreeMap;
 
-// What is left of a list or a map.
+// The rest of a list or a map.
 #[derive(Drop)]
 pub(crate) enum Rest {
     Items(Vec<Ipld>),
@@ -14,7 +14,7 @@ pub(crate) enum Rest {
 }
 
 impl Rest {
-    // Takes the last value out, and its key.
+    // Removes the last value, and returns it with its key.
     pub(crate) fn take_last(&mut self) -> Option<(Option<String>, Ipld)>
         ensures same { kind_of self.new ≡ kind_of self.old }
         ensures taken { MatchOption result ((left_of self.old ≡ []) × (left_of self.new ≡ [])) (λ p.
@@ -32,7 +32,7 @@ impl Rest {
         }
     }
 
-    // Drops what is left by a loop, however deep it nests.
+    // Drops the rest with a loop, however deep it nests.
     pub(crate) fn discard(self) {
         match self {
             Rest::Items(items) => Ipld::List(items).discard(),
@@ -41,14 +41,14 @@ impl Rest {
     }
 }
 
-// A list or a map, of which the last values are written.
+// A list or a map whose last values are written.
 #[derive(Drop)]
 pub(crate) struct OpenContainer {
-    // The key before it, where it is the value of one.
+    // Its key, if it is a value of a map.
     pub(crate) key: Option<String>,
     pub(crate) rest: Rest,
-    // How many items or pairs it has.
+    // The number of its items or pairs.
     pub(crate) count: usize,
-    // How many entries come behind it.
+    // The number of entries after it.
     pub(crate) behind: usize,
 }

@@ -1,4 +1,4 @@
-//! Tapes from their texts.
+//! The decoding of texts to tapes.
 
 ghost use Rattle.std.specs.Prelude.{◌≡◌, true, IfOk, IfErr};
 ghost use Rattle.ipld_tree.specs.Tree.{Tree};
@@ -13,17 +13,22 @@ use crate::{ReadError, ReadErrorKind};
 use ipld_tree::Limits;
 use std::alloc::{AllocError, Global};
 
-/// The tape of a text in DAG-JSON, which may have floats. For untrusted input.
+/// Decodes a text in DAG-JSON, which may have floats, to a tape. It is for untrusted input.
 ///
-/// The text is read as by [`dag_json::floats::from_slice`], within the same limits. It has an entry for each value and each key, links and bytes as one
-/// entry each, and a float as one of eight bytes. The pairs of a map come in the order of the bytes of their keys.
+/// The text is read as in [`dag_json::floats::from_slice`], within the same limits. The tape has an
+/// entry for every value and every key. A link is one entry, and so are bytes. A float is one
+/// entry, with eight bytes of content. The pairs of a map are in the order of the bytes of their
+/// keys.
 ///
-/// It doesn't recurse, and neither does the drop of what was read where an error is returned. Beside the tape it allocates the tree of the text, of
-/// which each part is dropped as soon as it is written.
+/// It reads in a loop, and drops a part of the tree as [`Ipld::discard`](ipld_tree::Ipld::discard)
+/// does, for example if an error is returned.
+/// Besides the tape, it allocates the tree of the text. Every part of the tree is dropped as soon
+/// as it is written.
 ///
 /// # Errors
 ///
-/// Those of [`dag_json::floats::from_slice`]. `Memory` also where a string or bytes have 2^32 bytes or more, or a list or a map spans as many entries.
+/// Those of [`dag_json::floats::from_slice`]. It also returns `Memory` if a string or bytes have
+/// 2^32 bytes or more, or if a list or a map spans 2^32 entries or more.
 pub fn tape_from_slice(alloc: Global, bytes: &[u8], limits: &Limits) -> Result<Tape, ReadError>
     ensures found { IfOk result (λ tape. (t : Tree) × EncodesWithinIn true limits.now t bytes.now
         × IsTapeOf t tape) }

@@ -1,4 +1,5 @@
-//! Trees written as tapes, from their ends: the entry of a list or a map comes before what it holds, and says how much that is.
+//! The writing of trees as tapes, from their ends. The entry of a list or a map comes before its
+//! content, and has the number of entries that it spans.
 
 ghost use Rattle.std.specs.Prelude.{◌≡◌, ◌<◌, ◌+◌, ◌*◌, ◌++◌, [], ◌∷◌, true, false, OnOk, IfOk, MatchResult, string_bytes, option_map};
 ghost use Rattle.ipld_tree.specs.Size.{size};
@@ -16,7 +17,7 @@ use dag_cbor_blocks::tape::{self, TapeEntry};
 use ipld_tree::Ipld;
 use std::alloc::{AllocError, AllocFailed, Global};
 
-// The tape of a tree, as far as it is written: its entries, the last first.
+// The part of a tape that is written, with its entries in reverse order.
 #[derive(Drop)]
 struct TapeWriter {
     alloc: Global,
@@ -35,7 +36,7 @@ impl TapeWriter {
         }
     }
 
-    // The tape.
+    // Returns the tape.
     fn finish(mut self) -> Tape
         ensures { tape_view result ≡ view self }
     {
@@ -46,7 +47,7 @@ impl TapeWriter {
         }
     }
 
-    // Puts an entry before the others, if its length has 32 bits.
+    // Puts an entry before the others, if its length fits in 32 bits.
     fn push(&mut self, kind: u32, len: usize, value: u64) -> Result<(), AllocError>
         ensures { OnOk result (view self.new ≡ front (entry kind len value) (view self.old)) }
     {
@@ -77,7 +78,7 @@ impl TapeWriter {
         }
     }
 
-    // Puts the number that an integer stands for before the others.
+    // Puts the number that an integer represents before the others.
     fn push_number(&mut self, number: i128) -> Result<(), AllocError>
         ensures { OnOk result (view self.new ≡ number_written (number_as number) (view self.old)) }
     {
@@ -89,7 +90,7 @@ impl TapeWriter {
         }
     }
 
-    // Goes on in a list or a map, at its end.
+    // Continues in a list or a map, at its end.
     fn enter(
         &mut self,
         key: Option<String>,
@@ -115,7 +116,7 @@ impl TapeWriter {
         }
     }
 
-    // Puts a value before the others, with its key, or goes on in it.
+    // Puts a value before the others, with its key, or continues in it.
     fn write(
         &mut self,
         key: Option<String>,
@@ -151,7 +152,7 @@ impl TapeWriter {
         self.push_key(key)
     }
 
-    // Puts the entry of a list or a map before what it holds, with its key.
+    // Puts the entry of a list or a map before its content, with its key.
     fn close(&mut self, container: OpenContainer) -> Result<(), AllocError>
         requires { left_of container.rest ≡ [] }
         ensures { OnOk result (view self.new ≡ closed_container container (view self.old)) }
@@ -165,7 +166,8 @@ impl TapeWriter {
         self.push_key(container.key)
     }
 
-    // Writes the last value that is left of what is innermost, or closes that; false where nothing is open.
+    // Writes the last value that is left in the innermost list or map, or closes it. Returns false
+    // if nothing is open.
     fn step(&mut self, containers: &mut Vec<OpenContainer>) -> Result<bool, AllocError>
         ensures { IfOk result (λ more. Steps more containers.old.items
             (view self.old) containers.new.items (view self.new)) }
@@ -198,7 +200,7 @@ impl TapeWriter {
     }
 }
 
-// The tape of a tree in which integers stand for floats.
+// Returns the tape of a tree in which integers represent floats.
 pub(crate) fn tape_of(alloc: Global, tree: Ipld) -> Result<Tape, AllocError>
     ensures { IfOk result (IsTapeOf (tree_of tree)) }
 {

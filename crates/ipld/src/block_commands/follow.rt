@@ -11,30 +11,30 @@ use ipld_cli::{
 use ipld_show::{LinkOnPath, ShowError, link_on_path, show};
 use std::io::Write;
 
-// The block that a path leads to, and what is left of the path there.
+// The block that a path leads to, and the rest of the path there.
 #[derive(Clone, Copy)]
 struct Place<'a> {
     cid: Cid,
     rest: &'a str,
-    // How many segments lead to the block, behind the CID that the path begins with, if it does.
+    // The number of segments that lead to the block, without the CID that the path may begin with.
     segments: usize,
 }
 
-// Where a path goes on.
+// The result of a step on a path.
 enum Step {
-    // It ended in this block.
+    // The path ended in this block.
     Ended(Outcome),
-    // In the block of a link.
+    // The path continues in the block of a link.
     Link(LinkOnPath),
 }
 
-// The first segment of a path, and what stands behind it.
+// Splits a path after its first segment.
 fn split_segment(path: &str) -> (&str, &str) {
     let path = path.trim_start_matches('/');
     path.split_once("/").unwrap_or((path, ""))
 }
 
-// What stands behind so many segments of a path.
+// Returns the rest of a path after `segments` segments.
 fn rest_of_path(path: &str, segments: usize) -> &str {
     let mut rest = path;
     for _ in 0..segments {
@@ -43,7 +43,7 @@ fn rest_of_path(path: &str, segments: usize) -> &str {
     rest
 }
 
-// The CID that a path begins with, behind `/ipfs/` or not, and what stands behind it.
+// Splits a path after the CID that it begins with, with or without `/ipfs/` before it.
 fn split_cid(path: &str) -> Option<(Cid, &str)> {
     let (first, rest) = split_segment(path);
     let (first, rest) = if first == "ipfs" {
@@ -57,7 +57,7 @@ fn split_cid(path: &str) -> Option<(Cid, &str)> {
     }
 }
 
-// Where a path begins: at the CID that it begins with, else at the first root.
+// Returns the beginning of a path: the CID that it begins with, or otherwise the first root.
 fn first_place<'a>(blocks: &Blocks<'_>, path: &'a str) -> Option<Place<'a>> {
     if let Some((cid, rest)) = split_cid(path) {
         return Some(Place {
@@ -74,7 +74,7 @@ fn first_place<'a>(blocks: &Blocks<'_>, path: &'a str) -> Option<Place<'a>> {
     })
 }
 
-// Says that a path leads to nothing in a block.
+// Reports that a path leads to nothing in a block.
 fn report_step_error(
     rt: &HostRuntime,
     file: &str,
@@ -105,7 +105,7 @@ fn report_step_error(
     Outcome::of(error)
 }
 
-// Says that blocks of this codec aren't read.
+// Reports that blocks of this codec are not read.
 fn report_unknown_codec(rt: &HostRuntime, file: &str, cid: &Cid) -> Outcome {
     let (named, code) = (NamedCid::new(rt.alloc(), cid), cid.codec());
     let _ = match codec_name(code) {
@@ -117,7 +117,8 @@ fn report_unknown_codec(rt: &HostRuntime, file: &str, cid: &Cid) -> Outcome {
     Outcome::NotSo
 }
 
-// Shows what stands at the end of the path, or finds the link that it leads through in this block.
+// Shows the value at the end of the path, or finds the link in this block that the path leads
+// through.
 fn take_step<W: Write>(
     rt: &HostRuntime,
     file: &str,
@@ -150,7 +151,7 @@ fn take_step<W: Write>(
     }
 }
 
-// Says that a block isn't there.
+// Reports that a block is missing.
 fn report_lacking_block(rt: &HostRuntime, file: &str, place: &Place<'_>) -> Outcome {
     let (cid, segments) = (NamedCid::new(rt.alloc(), &place.cid), place.segments);
     let _ = if segments > 0 {
@@ -163,14 +164,15 @@ fn report_lacking_block(rt: &HostRuntime, file: &str, place: &Place<'_>) -> Outc
     Outcome::NotSo
 }
 
-// Says that blocks which are links lead back to one of them. Where digests are computed they don't.
+// Reports that blocks which are links lead back to one of them. This can't happen if digests are
+// verified.
 fn report_circle(rt: &HostRuntime, file: &str, cid: &Cid) -> Outcome {
     let cid = NamedCid::new(rt.alloc(), cid);
     let _ = eprintln!(rt; "ipld: {file}: {cid}: the links lead back to this block");
     Outcome::NotSo
 }
 
-// Takes a step in the block of a place, which stands in the file or is carried by its CID.
+// Takes a step in the block of a place, which is in the file or in its CID.
 fn step_in<W: Write>(
     rt: &HostRuntime,
     blocks: &mut Blocks<'_>,
@@ -190,7 +192,7 @@ fn step_in<W: Write>(
     }
 }
 
-/// Shows what stands at a path in a CAR, which leads through links by the blocks of the file.
+/// Shows the value at a path in a CAR. The path leads through links by the blocks of the file.
 pub fn show_in_car<W: Write>(
     rt: &HostRuntime,
     blocks: Blocks<'_>,
@@ -207,7 +209,7 @@ pub fn show_in_car<W: Write>(
         Ok(hasher) => hasher,
         Err(outcome) => return Ok(outcome),
     };
-    // The blocks that are links themselves, since the last segment.
+    // The blocks that are links themselves, after the last segment.
     let mut links = IndexSet::with_hasher(rt.alloc(), hasher);
     for _ in 0..u64::MAX {
         match step_in(rt, &mut blocks, request, &place, writer)? {

@@ -11,24 +11,24 @@ use ipld_cli::{
 use ipld_show::{ShowError, link_on_path, show};
 use std::io::Write;
 
-/// What is to be shown of each file.
+/// The request for the output of each file.
 #[derive(Clone, Copy)]
 pub struct ShowRequest<'a> {
     /// The codec of the block.
     pub codec: BlockCodec,
-    /// Whether the codec was named, so that a file is a block of it, also where it begins as a CAR does.
+    /// Whether the codec was named. A file is then a block of it, even if it begins as a CAR does.
     pub names_codec: bool,
-    /// The path, which is empty where all is to be shown.
+    /// The path, which is empty if everything is shown.
     pub path: &'a str,
     /// Whether DAG-JSON is written.
     pub json: bool,
-    /// The longest section of a CAR.
+    /// The size of the longest section of a CAR that is read.
     pub limit: u64,
-    /// Whether a block of a CAR is shown that isn't known to be its CID's.
+    /// Whether a block of a CAR is shown even if it is not known to match its CID.
     pub is_unchecked: bool,
 }
 
-// Says that a path leads to nothing, and why.
+// Reports that a path leads to nothing, and why.
 fn report_path_error(
     rt: &HostRuntime,
     file: &str,
@@ -51,7 +51,7 @@ fn report_path_error(
     Outcome::NotSo
 }
 
-// Shows what is asked for of a block.
+// Shows the requested part of a block.
 fn show_block<W: Write>(
     rt: &HostRuntime,
     file: &str,
@@ -94,7 +94,7 @@ impl<'a> PerWord for ShowRequest<'a> {
     }
 }
 
-// Says that there is an argument too many.
+// Reports that there is one argument too many.
 fn report_second_path(rt: &HostRuntime, word: &str) -> Outcome {
     match format!(in rt.alloc();
         "unexpected argument '{word}' found: several files are shown with --path"
@@ -109,7 +109,7 @@ pub fn run_show(rt: &HostRuntime, matches: &ArgMatches<'_>) -> Outcome {
     let Some(words) = matches.get_strs("words") else {
         return Outcome::Failed;
     };
-    // Without --path the second word is the path.
+    // Without --path, the second word is the path.
     let (files, path) = match (matches.get_str("path"), words) {
         (Some(path), files) => (files, path),
         (None, [_, path]) => (words.get(..1).unwrap_or(words), *path),

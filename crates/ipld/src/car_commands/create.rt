@@ -1,4 +1,4 @@
-//! The command that makes a CAR file.
+//! The command that creates a CAR file.
 
 use crate::arguments::{codec_of, limit_of, size_of};
 use crate::car_commands::split::{outputs_of, parts_of};
@@ -12,7 +12,7 @@ use ipld_cli::{
 };
 use std::alloc::{AllocError, Global};
 
-// What memory ran out for, in a message.
+// The name of the blocks in a message about a failed allocation.
 const BLOCKS: &str = "the blocks";
 
 /// Runs `ipld car create`.
@@ -27,7 +27,7 @@ pub fn run_create(rt: &HostRuntime, matches: &ArgMatches<'_>) -> Outcome {
     }
 }
 
-// The inputs, and the names of their files.
+// Returns the inputs, and the names of their files.
 fn sources_of<'a>(
     alloc: Global,
     names: &[&'a str],
@@ -43,7 +43,7 @@ fn sources_of<'a>(
     Ok((sources, files))
 }
 
-// Makes the CAR of these inputs, or the CARs.
+// Creates the CAR or CARs of these inputs.
 fn create(
     rt: &HostRuntime,
     matches: &ArgMatches<'_>,
@@ -60,7 +60,7 @@ fn create(
     }
 }
 
-// Makes the CAR that is wanted of these inputs, or the CARs.
+// Creates the CAR or CARs of these inputs by the options.
 fn create_by_options(
     rt: &HostRuntime,
     name: &str,
@@ -74,7 +74,7 @@ fn create_by_options(
             let why = "several CARs are written to files: --output <CAR> names them";
             report_wrong_arguments(rt, &why)
         }
-        // Their names are known once their blocks are.
+        // Their names are known only after their blocks.
         Some(most) => match select_blocks(rt, name, sources, options) {
             Ok(content) => write_cars(rt, name, files, &content, most),
             Err(outcome) => outcome,
@@ -82,7 +82,7 @@ fn create_by_options(
     }
 }
 
-// Makes one CAR. What can't be written isn't made.
+// Creates one CAR. If its output can't be written, nothing is created.
 fn create_car(
     rt: &HostRuntime,
     name: &str,
@@ -100,7 +100,7 @@ fn create_car(
     }
 }
 
-// The blocks of the inputs that are wanted, and the roots.
+// Returns the selected blocks of the inputs, and the roots.
 fn select_blocks(
     rt: &HostRuntime,
     name: &str,
@@ -124,7 +124,8 @@ fn write_car(rt: &HostRuntime, name: &str, output: Output, content: &CarContent)
     }
 }
 
-// Writes several CARs of at most so many bytes: none where one of them has no name that can be written to.
+// Writes several CARs of at most `most` bytes, or no CAR if the name of one of them can't be
+// written to.
 fn write_cars(
     rt: &HostRuntime,
     name: &str,
@@ -145,7 +146,7 @@ fn write_cars(
     }
 }
 
-// Where the CARs of at most so many bytes end among these blocks.
+// Returns the ends of the CARs of at most `most` bytes among these blocks.
 fn ends_of(
     rt: &HostRuntime,
     name: &str,
@@ -170,7 +171,7 @@ fn ends_of(
     }
 }
 
-// Writes the CARs that end so among these blocks, each to its output.
+// Writes the CARs with these ends among the blocks, each to its output.
 fn write_each(
     rt: &HostRuntime,
     content: &CarContent,
@@ -189,7 +190,7 @@ fn write_each(
     Outcome::Done
 }
 
-// The blocks of the inputs, in their order.
+// Collects the blocks of the inputs, in their order.
 fn collect_blocks(
     rt: &HostRuntime,
     sources: &[Source<'_>],
@@ -207,7 +208,7 @@ fn collect_blocks(
     Ok(collected)
 }
 
-// The CIDs that an option names.
+// Returns the CIDs that an option names.
 fn cids_of(rt: &HostRuntime, matches: &ArgMatches<'_>, option: &str) -> Result<Vec<Cid>, Outcome> {
     let mut cids = Vec::new(rt.alloc());
     let Some(texts) = matches.get_strs(option) else {
@@ -224,20 +225,20 @@ fn cids_of(rt: &HostRuntime, matches: &ArgMatches<'_>, option: &str) -> Result<V
     Ok(cids)
 }
 
-// What of the inputs is wanted.
+// The options for a new CAR.
 #[derive(Drop)]
 struct CreateOptions {
-    // The roots, or none.
+    // The roots, if they are given.
     roots: Vec<Cid>,
-    // From where the blocks are reached that are taken, or none where all are.
+    // The blocks that lead to all blocks that are taken. If it is empty, all blocks are taken.
     only: Vec<Cid>,
-    // The longest section that is read.
+    // The size of the longest section that is read.
     limit: u64,
-    // How many bytes a CAR has at most, where there are to be several.
+    // The largest size of a CAR in bytes, if there may be several.
     most: Option<u64>,
     // Whether the CAR is of version 2, with an index.
     has_index: bool,
-    // Whether files that are there are replaced.
+    // Whether existing files are replaced.
     force: bool,
     // Whether blocks of CARs are taken as they are.
     is_unchecked: bool,
@@ -257,7 +258,7 @@ impl CreateOptions {
     }
 }
 
-// The blocks that were gathered, the roots, and how the CAR of them is written.
+// The blocks that were collected, the roots, and the form of the CAR.
 #[derive(Drop)]
 struct CarContent {
     roots: Vec<Cid>,
@@ -267,7 +268,7 @@ struct CarContent {
 }
 
 impl CarContent {
-    // Those of these blocks that are wanted, for the CAR of this name. It says what the roots lack.
+    // Selects blocks for the CAR of this name. Reports the roots whose block is missing.
     fn new(
         rt: &HostRuntime,
         name: &str,
@@ -291,7 +292,7 @@ impl CarContent {
         Ok(content)
     }
 
-    // Says which roots have no block.
+    // Reports the roots whose block is missing.
     fn report_lacking(&self, rt: &HostRuntime) {
         for root in self.roots.iter() {
             if !self.collected.has(root) || !self.collected.keeps(root) {
@@ -301,7 +302,7 @@ impl CarContent {
         }
     }
 
-    // The CAR of these blocks.
+    // Returns the CAR of these blocks.
     fn car_of<'a>(&'a self, alloc: Global, blocks: &'a [NewBlock<'a>]) -> NewCar<'a> {
         NewCar {
             alloc,
@@ -311,7 +312,7 @@ impl CarContent {
         }
     }
 
-    // The blocks that aren't left out.
+    // Returns the blocks that are not left out.
     fn blocks(&self, alloc: Global) -> Result<Vec<NewBlock<'_>>, AllocError> {
         let mut blocks = Vec::new(alloc);
         for (cid, bytes) in self.collected.blocks().iter() {
@@ -326,7 +327,8 @@ impl CarContent {
     }
 }
 
-// The roots that are asked for; else the blocks from where the others are reached that are taken; else those that no other links to.
+// Returns the roots: those that are given, or the blocks given by `--only`, or the blocks that no
+// other block links to.
 fn roots_of(
     alloc: Global,
     collected: &CollectedBlocks,
@@ -341,7 +343,7 @@ fn roots_of(
     collected.unlinked(alloc)
 }
 
-// Says that the header of these roots would be longer than those that are read, if it would.
+// Checks that the header of these roots is not longer than the limit. Reports an error if it is.
 fn check_header(rt: &HostRuntime, name: &str, roots: &[Cid], limit: u64) -> Result<(), Outcome> {
     match header_len(rt.alloc(), roots) {
         Ok(len) if len <= framed_len(limit) => Ok(()),
@@ -358,7 +360,8 @@ fn report_long_header(rt: &HostRuntime, name: &str, count: usize) -> Outcome {
     Outcome::Failed
 }
 
-// Leaves out the blocks that are not reached from these, if there are any; each of these has to be there.
+// Leaves out the blocks that can't be reached from these, if any are given. Each of these must be
+// present.
 fn keep_only(
     rt: &HostRuntime,
     collected: &mut CollectedBlocks,

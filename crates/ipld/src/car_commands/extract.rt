@@ -1,4 +1,4 @@
-//! The command that takes blocks out of a CAR file.
+//! The command that extracts blocks from a CAR file.
 
 use crate::arguments::limit_of;
 use car_files::CarFileError;
@@ -16,7 +16,7 @@ use std::hash::RandomState;
 use std::io::{self, Write};
 use std::path::{Path, PathBuf};
 
-// A block that is asked for.
+// A block that is requested.
 #[derive(Clone, Copy)]
 struct RequestedBlock<'a> {
     // The CID, and the text that it was given as.
@@ -25,19 +25,19 @@ struct RequestedBlock<'a> {
     is_found: bool,
 }
 
-// Where the blocks of CIDs stand among those that are asked for.
+// The places of CIDs among the requested blocks.
 type Places = IndexMap<Cid, usize, RandomState>;
 
-// Where the blocks go, and which are written.
+// The destination of the blocks, and the choice of those that are written.
 #[derive(Clone, Copy)]
 struct Target<'a> {
     // The CAR.
     file: &'a str,
-    // The folder, or none for standard output.
+    // The folder. Without one, blocks go to standard output.
     folder: Option<&'a str>,
-    // Whether files that are there are replaced.
+    // Whether existing files are replaced.
     force: bool,
-    // Whether a block of another digest is written too.
+    // Whether a block with another digest is written too.
     is_unchecked: bool,
 }
 
@@ -66,7 +66,7 @@ pub fn run_extract(rt: &HostRuntime, matches: &ArgMatches<'_>) -> Outcome {
     }
 }
 
-// The blocks of these CIDs, each once, and their places.
+// Returns the blocks of these CIDs, each once, and their places.
 fn requested_blocks<'a>(
     rt: &HostRuntime,
     texts: &[&'a str],
@@ -96,7 +96,8 @@ fn requested_blocks<'a>(
     Ok((requested, places))
 }
 
-// Writes the blocks of a CAR, reads no further than it must, and says which aren't there.
+// Writes the requested blocks of a CAR, reads no further than necessary, and reports the missing
+// ones.
 fn extract(
     rt: &HostRuntime,
     target: Target<'_>,
@@ -115,8 +116,8 @@ fn extract(
     }
 }
 
-// Writes those blocks to which the index of the CAR leads, if it has one. That a block is to be written unchecked is said of the first of its
-// CID, which the index needn't lead to.
+// Writes the blocks that the index of the CAR leads to, if it has one. Unchecked, the first block
+// of each CID is the one to write, and the index may lead to another. So it is not used then.
 fn extract_indexed(
     rt: &HostRuntime,
     target: Target<'_>,
@@ -139,7 +140,7 @@ fn extract_indexed(
     outcome
 }
 
-// Writes those blocks that are there, the first of each CID. An error is one of the CAR.
+// Writes the blocks that are in the file, the first of each CID. An error is one of the CAR.
 fn extract_found(
     rt: &HostRuntime,
     target: Target<'_>,
@@ -157,7 +158,7 @@ fn extract_found(
     }
 }
 
-// Writes so many blocks that are asked for and weren't found yet.
+// Writes the `count` requested blocks that were not found yet.
 fn extract_from(
     rt: &HostRuntime,
     target: Target<'_>,
@@ -192,7 +193,7 @@ fn extract_from(
     Ok(outcome)
 }
 
-// The text of a CID that is asked for and wasn't found yet, which is found then.
+// Returns the text of a requested CID that was not found yet, and marks it as found.
 fn take_requested<'a>(
     requested: &mut Vec<RequestedBlock<'a>>,
     places: &Places,
@@ -210,7 +211,7 @@ fn take_requested<'a>(
     }
 }
 
-// Says which blocks aren't there.
+// Reports the missing blocks.
 fn report_lacking_blocks(
     rt: &HostRuntime,
     file: &str,
@@ -227,7 +228,7 @@ fn report_lacking_blocks(
     outcome
 }
 
-// Writes a block, if it is the one that the CID names or that isn't to be looked at.
+// Writes a block, if it matches its CID or is not to be checked.
 fn write_extracted(rt: &HostRuntime, target: Target<'_>, text: &str, section: &Section) -> Outcome {
     let block = match CheckedBlock::new(section.cid(), section.data(), target.is_unchecked) {
         Ok(block) => block,
@@ -246,7 +247,7 @@ fn write_extracted(rt: &HostRuntime, target: Target<'_>, text: &str, section: &S
     }
 }
 
-// The path of the file in this folder whose name is this CID.
+// Returns the path of the file in this folder that has the CID as its name.
 fn path_in(rt: &HostRuntime, folder: &str, cid: &Cid) -> Result<PathBuf, Outcome> {
     let cid = NamedCid::new(rt.alloc(), cid);
     let Ok(name) = format!(in rt.alloc(); "{cid}") else {
@@ -258,7 +259,7 @@ fn path_in(rt: &HostRuntime, folder: &str, cid: &Cid) -> Result<PathBuf, Outcome
     }
 }
 
-// Writes a block as a file of this folder whose name is its CID.
+// Writes a block as a file in this folder, with its CID as the name.
 fn write_in(
     rt: &HostRuntime,
     target: Target<'_>,

@@ -1,4 +1,4 @@
-//! What is said of a CAR file.
+//! The listing of a CAR file.
 
 use crate::arguments::limit_of;
 use crate::car_commands::create::run_create;
@@ -25,7 +25,8 @@ pub fn run_car(rt: &HostRuntime, matches: &ArgMatches<'_>) -> Outcome {
     }
 }
 
-// Writes which blocks aren't known to be those that their CIDs name; with `only_known`, those of other hash functions don't count.
+// Writes the blocks that are not known to match their CIDs. With `only_known`, blocks with other
+// hash functions don't count.
 fn write_unverified<R: BufRead + Drop, W: Write>(
     alloc: Global,
     only_known: bool,
@@ -42,7 +43,7 @@ fn write_unverified<R: BufRead + Drop, W: Write>(
     })
 }
 
-// The form of the list that is asked for.
+// Returns the form of the list that is asked for.
 fn form_of(matches: &ArgMatches<'_>) -> Form {
     if matches.get_flag("links") {
         Form::Links
@@ -55,7 +56,7 @@ fn form_of(matches: &ArgMatches<'_>) -> Form {
     }
 }
 
-// The form of what is wrong with blocks.
+// Returns the form of the errors of blocks.
 fn verdict_form_of(matches: &ArgMatches<'_>) -> VerdictForm {
     if matches.get_flag("json") {
         VerdictForm::Object
@@ -64,7 +65,7 @@ fn verdict_form_of(matches: &ArgMatches<'_>) -> VerdictForm {
     }
 }
 
-// Says that a CAR has no roots, of which its specification wants one or more.
+// Warns that a CAR has no roots. Its specification requires one or more.
 fn warn_of_roots(rt: &HostRuntime, file: &str, roots: &[Cid]) {
     if roots.is_empty() {
         report(
@@ -76,7 +77,8 @@ fn warn_of_roots(rt: &HostRuntime, file: &str, roots: &[Cid]) {
     }
 }
 
-// Writes the blocks in the form that is asked for, and on standard error what is wrong with those that are none of their codec.
+// Writes the blocks in the form that is asked for, and the errors of invalid blocks on standard
+// error.
 fn write_blocks<R: BufRead + Drop, W: Write>(
     rt: &HostRuntime,
     form: Form,
@@ -89,13 +91,13 @@ fn write_blocks<R: BufRead + Drop, W: Write>(
     match write_list(rt.alloc(), car, form, &label, writer, &mut complaints) {
         Ok(listed) if listed.invalid == 0 => Ok(Outcome::Done),
         Ok(_) => Ok(Outcome::NotSo),
-        // Nobody reads the rest, and what is wrong stays so.
+        // Nobody reads the rest, but an error was found all the same.
         Err(CarFileError::Write(ErrorKind::BrokenPipe)) if complaints.any() => Ok(Outcome::NotSo),
         Err(error) => Err(error),
     }
 }
 
-// What is asked of the CAR.
+// Writes the requested result of the CAR.
 fn write_asked<R: BufRead + Drop, W: Write>(
     rt: &HostRuntime,
     matches: &ArgMatches<'_>,
@@ -117,7 +119,7 @@ fn write_asked<R: BufRead + Drop, W: Write>(
     }
 }
 
-// How it ends where this was written, and the rest of it was handed on so.
+// Returns the outcome of these results of writing and of flushing.
 fn finish_list(
     rt: &HostRuntime,
     file: &str,
@@ -134,7 +136,7 @@ fn finish_list(
     }
 }
 
-// Reads a CAR that is open, and writes what is asked of it.
+// Reads an open CAR, and writes the requested result.
 fn list_opened(
     rt: &HostRuntime,
     matches: &ArgMatches<'_>,
@@ -152,7 +154,7 @@ fn list_opened(
     finish_list(rt, file, written, flushed)
 }
 
-// Reads a CAR and writes what is asked of it.
+// Reads a CAR, and writes the requested result.
 fn list_car(rt: &HostRuntime, matches: &ArgMatches<'_>, file: &str) -> Outcome {
     let limit = match limit_of(rt, matches) {
         Ok(limit) => limit,
@@ -164,7 +166,7 @@ fn list_car(rt: &HostRuntime, matches: &ArgMatches<'_>, file: &str) -> Outcome {
     }
 }
 
-// What is meant, maybe, by several words of which the last is this.
+// Returns a guess at the meaning of several words, the last of which is `word`.
 fn hint_of(rt: &HostRuntime, car: &str, word: &str) -> Option<String> {
     if parse_any(word).is_ok() {
         format!(in rt.alloc(); " (ipld car extract {car} {word} writes the block of this CID)").ok()
@@ -175,10 +177,10 @@ fn hint_of(rt: &HostRuntime, car: &str, word: &str) -> Option<String> {
     }
 }
 
-// Says that there is one CAR too many.
+// Reports that there is one CAR too many.
 fn report_second_car(rt: &HostRuntime, files: &[&str]) -> Outcome {
     let hint = match files {
-        // A name with a blank is no word of a command line.
+        // A name with a blank is not a single word of a command line.
         [car, .., word] if !car.contains(' ') && !word.contains(' ') => hint_of(rt, car, word),
         _ => None,
     };
@@ -194,7 +196,7 @@ fn report_second_car(rt: &HostRuntime, files: &[&str]) -> Outcome {
     }
 }
 
-// Lists a CAR, or says what several lack.
+// Lists a CAR, or the blocks that several CARs lack.
 fn run_list(rt: &HostRuntime, matches: &ArgMatches<'_>) -> Outcome {
     let Some(files) = matches.get_strs("files") else {
         return Outcome::Failed;

@@ -1,4 +1,4 @@
-//! The blocks of a CAR in several CARs.
+//! The distribution of a CAR's blocks over several CARs.
 
 use indexmap::IndexSet;
 use ipld_car::HEADER_END;
@@ -10,21 +10,23 @@ use ipld_cli::{
 use std::alloc::{AllocError, Global};
 use std::hash::RandomState;
 
-// What an index has before its rows: the code of its format, and how many hash functions there are.
+// The number of bytes of an index before its rows: the code of its format, and the number of hash
+// functions.
 const INDEX_FRONT: u64 = 6;
 
-// What it has for a hash function and a length of its digests, beside their rows, at most.
+// The most bytes that a hash function and a length of its digests take in an index, without their
+// rows.
 const INDEX_BUCKET: u64 = 24;
 
-// The bytes of an offset in an index.
+// The number of bytes of an offset in an index.
 const OFFSET_LEN: u64 = 8;
 
-/// Where the CARs end among the blocks that have at most `most` bytes each: how many blocks stand before that. A block that has more bytes alone
-/// has a CAR of its own. There is one CAR at least.
+/// Returns the ends of CARs that have at most `most` bytes each, as numbers of blocks before the
+/// end. A block that needs more bytes has a CAR to itself. There is at least one CAR.
 ///
 /// # Errors
 ///
-/// `Memory` where an allocation failed.
+/// `Memory` if an allocation fails.
 pub fn parts_of(
     alloc: Global,
     hasher: RandomState,
@@ -57,12 +59,12 @@ pub fn parts_of(
     Ok(ends)
 }
 
-// The hash function of a block's CID, and the length of its digest.
+// Returns the hash function of a block's CID, and the length of its digest.
 fn kind_of(block: &NewBlock<'_>) -> (u64, usize) {
     (block.cid.hash().code(), block.cid.hash().size())
 }
 
-// How many bytes a CAR has more with this block, at most.
+// Returns the most bytes that this block adds to a CAR.
 fn added_by(
     block: &NewBlock<'_>,
     has_index: bool,
@@ -82,13 +84,13 @@ fn added_by(
     section.saturating_add(row).saturating_add(bucket)
 }
 
-// The name of the CAR of this number: of `NAME.car` it is `NAME-0.car`.
+// Returns the name of the CAR of this number. For `NAME.car`, it is `NAME-0.car` and so on.
 fn name_of(alloc: Global, name: &str, number: usize) -> Result<String, AllocError> {
     let stem = name.strip_suffix(".car").unwrap_or(name);
     format!(in alloc; "{stem}-{number}.car")
 }
 
-// The name of the CAR of this number, and where it goes.
+// Returns the name of the CAR of this number, and its destination.
 fn output_numbered(
     rt: &HostRuntime,
     name: &str,
@@ -105,7 +107,8 @@ fn output_numbered(
     }
 }
 
-// Says that there is a file of the name of the CAR of this number, which isn't made, if there is one.
+// Reports a file that has the name of the CAR of this number, if there is one. That CAR is not
+// created.
 fn report_if_there(rt: &HostRuntime, name: &str, number: usize) -> Result<(), Outcome> {
     let Ok(next) = name_of(rt.alloc(), name, number) else {
         return Err(report_out_of_memory(rt, name));
@@ -118,7 +121,8 @@ fn report_if_there(rt: &HostRuntime, name: &str, number: usize) -> Result<(), Ou
     Ok(())
 }
 
-/// The names of so many CARs, and where they go. It says why one can't be written, and which stands behind them and isn't of them.
+/// Returns the names of `count` CARs, and their destinations. Reports why one can't be written, and
+/// a file with the next number, which is not one of these CARs.
 pub fn outputs_of(
     rt: &HostRuntime,
     name: &str,

@@ -1,4 +1,4 @@
-//! The commands of `ipld`, their arguments, and what help says of them.
+//! The commands of `ipld`, their arguments and their help.
 
 use crate::block_commands::BASES;
 use crate::command_line::{Argument, Description, Kind};
@@ -18,7 +18,7 @@ Exit status:
      or isn't known to be the one that its CID names
   2  it couldn't be done: wrong arguments, a file that can't be read, a failed write, no memory";
 
-// An option without a value or anything else.
+// An option without a value or other properties.
 const FLAG: Argument = Argument {
     name: "",
     short: None,
@@ -171,10 +171,10 @@ SHA2-256 alone, in base58btc.";
 /// The commands on blocks and CIDs.
 pub(super) const BLOCK_COMMANDS: &[Description] = &[SHOW, LINKS, CHECK, CID];
 
-/// The forms of what is asked of a CAR, one at a time.
+/// The group of the forms in which a CAR is listed, one at a time.
 pub(super) const FORM: &str = "form";
 
-/// What is asked of a CAR.
+/// The command that lists a CAR.
 pub(super) const LIST: Description = Description {
     name: "car",
     about: "Lists the blocks of a CAR file (a file of blocks, each behind its CID), or says what is missing or wrong in it",

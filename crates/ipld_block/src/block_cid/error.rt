@@ -1,14 +1,16 @@
-//! Why a block isn't known to be the one that a content identifier names.
+//! The error of a block that is not known to be the one that a content identifier names.
 
 use itoa::Buffer;
 use std::{error, fmt};
 
-/// Why a block isn't known to be the one that a content identifier names. Its `Display` is a sentence.
+/// The reason why a block is not known to be the one that a content identifier names. Its `Display`
+/// is a sentence.
 #[derive(Clone, Copy, Debug, PartialEq, Eq)]
 pub enum VerifyError {
-    /// The hash function has this code of the multicodec table, and is neither SHA2-256, SHA2-512 nor identity.
+    /// The hash function has this code in the multicodec table. It is not SHA2-256, SHA2-512 or
+    /// identity.
     UnknownHash(u64),
-    /// The digest of the block is another than the identifier's.
+    /// The digest of the block differs from that of the identifier.
     WrongDigest,
 }
 

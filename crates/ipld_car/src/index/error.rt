@@ -1,11 +1,11 @@
-//! Why an index isn't read.
+//! The errors of reading an index.
 
 use crate::error::write_number;
 use std::alloc::{AllocError, AllocFailed};
 use std::{error, fmt, io};
 
-/// Why the index of a CAR isn't read. Of bytes that are no index whose entries are sorted it is what is wrong first, in the order of the bytes.
-/// Its `Display` is a sentence.
+/// An error of reading the index of a CAR. If the bytes are not an index with sorted entries, it is
+/// the first error in the order of the bytes. Its `Display` is a sentence.
 #[derive(Debug, Drop)]
 pub enum IndexError {
     /// An allocation failed.
@@ -18,13 +18,15 @@ pub enum IndexError {
     FormatNotShortest,
     /// The varint of its format encodes a number of 2^64 or more.
     FormatTooLarge,
-    /// It has another format than MultihashIndexSorted, which is 0x401: the one of this code.
+    /// The index has this format instead of MultihashIndexSorted, which is 0x401.
     Format(u64),
-    /// Its rows have so many bytes: fewer than an offset has, or more than one and a digest of 64 bytes.
+    /// Its rows have this number of bytes. That is fewer than an offset has (8), or more than an
+    /// offset and a digest of 64 bytes have (72).
     Width(u32),
-    /// The rows of a digest's length have so many bytes in all, which is no number of rows.
+    /// The rows of the digests of one length have this number of bytes in all, which is not a
+    /// multiple of the length of a row.
     Length(u64),
-    /// Its entries aren't sorted: one comes before the one in front of it.
+    /// Its entries are not sorted: an entry is less than the one before it.
     NotSorted,
 }
 

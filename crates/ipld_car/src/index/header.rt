@@ -9,10 +9,11 @@ use crate::index::numbers::write_u64;
 use crate::version2::number_at;
 use std::io::{self, Write};
 
-/// Where the header of version 2 ends: the pragma has 11 bytes, and the header 40.
+/// The number of bytes up to the end of the header of version 2: the pragma has 11 bytes, and the
+/// header 40.
 pub const HEADER_END: usize = 51;
 
-// The pragma: the block `{"version": 2}` in DAG-CBOR, behind its length.
+// The pragma: the block `{"version": 2}` in DAG-CBOR, after its length.
 const PRAGMA: [u8; 11] = [
     0x0a, 0xa1, 0x67, 0x76, 0x65, 0x72, 0x73, 0x69, 0x6f, 0x6e, 0x02,
 ];
@@ -20,13 +21,14 @@ const PRAGMA: [u8; 11] = [
 /// The header of a CAR of version 2 (CARv2, "Header").
 #[derive(Clone, Copy, Debug, PartialEq, Eq)]
 pub struct CarHeader {
-    /// Whether each section of the payload has its entry in the index, that of a CID with the identity hash too.
+    /// Whether every section of the payload has its entry in the index, including those of CIDs
+    /// with the identity hash.
     pub is_fully_indexed: bool,
-    /// The byte of the file at which the payload begins.
+    /// The offset in the file at which the payload begins.
     pub payload: u64,
-    /// How many bytes the payload has.
+    /// The number of bytes that the payload has.
     pub size: u64,
-    /// The byte of the file at which the index begins, or 0 where there is none.
+    /// The offset in the file at which the index begins, or 0 if there is none.
     pub index: u64,
 }
 
@@ -34,8 +36,9 @@ impl CarHeader {
     ghost use Rattle.std.specs.Prelude.{◌≢◌, take, MatchOption};
     ghost use Rattle.ipld_car.specs.CarHeader.{HasHeader};
 
-    /// The header in the first bytes of a file, or `None` where they are no pragma of version 2. Whether there is a payload where it says
-    /// isn't looked at.
+    /// Reads the header from the first bytes of a file. Returns `None` if they do not begin with
+    /// the pragma of version 2. It does not check that there is a payload at the offset in the
+    /// header.
     #[tactic(auto, unfolding(crate::specs::CarHeader::pragma_bytes))]
     pub fn from_bytes(bytes: &[u8; HEADER_END]) -> Option<CarHeader>
         ensures { MatchOption result (take 11 bytes.now ≢ pragma_bytes) (HasHeader bytes.now) }
@@ -75,7 +78,7 @@ fn write_characteristics<W: Write>(is_fully_indexed: bool, writer: &mut W) -> io
     Ok(())
 }
 
-// Writes where the payload and the index stand.
+// Writes the positions of the payload and the index.
 fn write_places<W: Write>(header: &CarHeader, writer: &mut W) -> io::Result<()>
     ensures { OnOk result
         (Appends (W.contents writer.old) (W.contents writer.new) (places header.now)) }
@@ -90,7 +93,7 @@ fn write_places<W: Write>(header: &CarHeader, writer: &mut W) -> io::Result<()>
 ///
 /// # Errors
 ///
-/// That of the writer. Some of the bytes, from the first on, may then have been written.
+/// The error of the writer. A prefix of the bytes may then have been written.
 pub fn write_header<W: Write>(header: &CarHeader, writer: &mut W) -> io::Result<()>
     ensures { OnOk result
         (Appends (W.contents writer.old) (W.contents writer.new) (header_bytes header.now)) }

@@ -6,8 +6,9 @@ ghost use Rattle.ipld_car.specs.IndexOrder.{AreSorted};
 use crate::index::entry::IndexEntry;
 use ipld_cid::Multihash;
 
-/// The entries of this hash, of entries that are sorted, by their offsets; of others any of them. It takes a number of steps that grows with the
-/// logarithm of their number, and doesn't allocate.
+/// Returns the entries of this hash, by their offsets, if `entries` is sorted. If it is not, the
+/// result is any part of it. The number of steps grows with the logarithm of the number of entries.
+/// It does not allocate.
 pub fn entries_of<'a>(entries: &'a [IndexEntry], hash: &Multihash<64>) -> &'a [IndexEntry]
     ensures { AreSorted entries.entry.now → FindsAll hash.now entries.entry.now result.now }
 {

@@ -1,4 +1,4 @@
-//! An index, read.
+//! The reading of an index.
 
 ghost use Rattle.std.specs.Prelude.{◌≡◌, ◌≤◌, ◌∷◌, ◌++◌, [], ℕ, List, Some, length, IfErr, IfOk, MatchResult, OnOk};
 ghost use Rattle.std.specs.Io.KnownBytes.{Consumes};
@@ -83,7 +83,7 @@ fn read_u64<R: Read>(reader: &mut R) -> Result<u64, IndexError>
     Ok(u64_from_le(bytes))
 }
 
-// The next byte.
+// Reads the next byte.
 #[tactic(auto, using(crate::proofs::index::Formats::one_byte))]
 fn read_u8<R: Read>(reader: &mut R) -> Result<u8, IndexError>
     ensures takes { IfOk result (λ byte.
@@ -96,7 +96,7 @@ fn read_u8<R: Read>(reader: &mut R) -> Result<u8, IndexError>
     Ok(byte)
 }
 
-// The code of a format, a varint.
+// Reads the code of a format, a varint.
 #[tactic(auto, using(crate::proofs::index::Formats::code_begins))]
 fn read_code<R: Read>(reader: &mut R) -> Result<u64, IndexError>
     ensures takes { IfOk result (TakesCode (R.remaining reader.old) (R.remaining reader.new)) }
@@ -119,7 +119,7 @@ fn read_code<R: Read>(reader: &mut R) -> Result<u64, IndexError>
     unreachable!()
 }
 
-// The code of the format, which has to be that of MultihashIndexSorted.
+// Reads the code of the format, which has to be that of MultihashIndexSorted.
 #[tactic(auto, using(crate::proofs::index::Formats::format_taken, crate::proofs::index::Formats::format_other, crate::proofs::index::Formats::format_only))]
 fn read_format<R: Read>(reader: &mut R) -> Result<(), IndexError>
     ensures takes { OnOk result
@@ -134,7 +134,7 @@ fn read_format<R: Read>(reader: &mut R) -> Result<(), IndexError>
     Ok(())
 }
 
-// Puts an entry behind the others, where it comes in order.
+// Appends an entry if it comes in order.
 fn add_entry(entries: &mut Vec<IndexEntry>, entry: IndexEntry) -> Result<(), IndexError>
     ensures behind { OnOk result (entries.new.items ≡ entries.old.items ++ entry ∷ []) }
     ensures sorted { OnOk result (AreSorted entries.old.items → AreSorted entries.new.items) }
@@ -149,7 +149,7 @@ fn add_entry(entries: &mut Vec<IndexEntry>, entry: IndexEntry) -> Result<(), Ind
     Ok(())
 }
 
-// Reads a row of this hash function, and puts it behind the others.
+// Reads a row of this hash function, and appends its entry.
 #[tactic(auto, unfolding(crate::specs::Index::row), using(crate::proofs::index::Only::row_no_digest, crate::proofs::index::Only::row_no_offset, crate::proofs::index::Blaming::row_cut, crate::proofs::index::Blaming::offset_cut))]
 fn read_row<R: Read>(
     reader: &mut R,
@@ -175,7 +175,7 @@ fn read_row<R: Read>(
     add_entry(entries, IndexEntry { hash, offset })
 }
 
-// Reads so many rows of digests of one length.
+// Reads `count` rows of digests of one length.
 #[tactic(auto, using(crate::proofs::index::Taking::rows_none, crate::proofs::index::Taking::rows_more, crate::proofs::index::Taking::rows_all, crate::proofs::index::Only::ahead_of_rows, crate::proofs::index::Only::goes_begin, crate::proofs::index::Only::goes_end, crate::proofs::index::Only::rows_wrong, crate::proofs::index::Blaming::rows_blame))]
 fn read_rows<R: Read>(
     reader: &mut R,
@@ -206,7 +206,7 @@ fn read_rows<R: Read>(
     Ok(())
 }
 
-// Reads the rows of digests of one length, behind that length and how many bytes they have.
+// Reads the rows of digests of one length, after the length of a row and the number of their bytes.
 #[tactic(auto, using(crate::proofs::index::Taking::bucket_taken, crate::proofs::index::Only::bucket_read, crate::proofs::index::Only::bucket_not_narrow, crate::proofs::index::Only::bucket_not_wide, crate::proofs::index::Only::bucket_not_uneven, crate::proofs::index::Only::bucket_no_width, crate::proofs::index::Only::bucket_no_length, crate::proofs::index::Blaming::width_cut, crate::proofs::index::Blaming::width_narrow, crate::proofs::index::Blaming::width_wide, crate::proofs::index::Blaming::length_cut, crate::proofs::index::Blaming::length_uneven, crate::proofs::index::Blaming::bucket_blames))]
 fn read_bucket<R: Read>(
     reader: &mut R,
@@ -237,7 +237,7 @@ fn read_bucket<R: Read>(
     read_rows(reader, code, digest_len as usize, length / width, entries)
 }
 
-// Reads the rows of so many lengths of digests.
+// Reads the rows of `count` lengths of digests.
 #[tactic(auto, using(crate::proofs::index::Taking::parts_none, crate::proofs::index::Taking::parts_more, crate::proofs::index::Taking::parts_all, crate::proofs::index::Only::ahead_of_parts, crate::proofs::index::Only::goes_begin, crate::proofs::index::Only::goes_more, crate::proofs::index::Only::goes_wrong, crate::proofs::index::Only::goes_end, crate::proofs::index::Blaming::parts_blame))]
 fn read_buckets<R: Read>(
     reader: &mut R,
@@ -264,7 +264,7 @@ fn read_buckets<R: Read>(
     Ok(())
 }
 
-// Reads the rows of a hash function, behind its code and how many lengths of digests there are.
+// Reads the rows of a hash function, after its code and the number of its lengths of digests.
 #[tactic(auto, using(crate::proofs::index::Taking::hash_taken, crate::proofs::index::Only::hash_read, crate::proofs::index::Only::hash_no_code, crate::proofs::index::Only::hash_no_count, crate::proofs::index::Blaming::code_cut, crate::proofs::index::Blaming::count_cut, crate::proofs::index::Blaming::hash_blames))]
 fn read_hash<R: Read>(reader: &mut R, entries: &mut Vec<IndexEntry>) -> Result<(), IndexError>
     ensures takes { OnOk result (TakesPart IsHash
@@ -281,7 +281,7 @@ fn read_hash<R: Read>(reader: &mut R, entries: &mut Vec<IndexEntry>) -> Result<(
     read_buckets(reader, code, count, entries)
 }
 
-// Reads the rows of so many hash functions.
+// Reads the rows of `count` hash functions.
 #[tactic(auto, using(crate::proofs::index::Taking::parts_none, crate::proofs::index::Taking::parts_more, crate::proofs::index::Taking::parts_all, crate::proofs::index::Only::ahead_of_parts, crate::proofs::index::Only::goes_begin, crate::proofs::index::Only::goes_more, crate::proofs::index::Only::goes_wrong, crate::proofs::index::Only::goes_end, crate::proofs::index::Blaming::parts_blame))]
 fn read_hashes<R: Read>(
     reader: &mut R,
@@ -307,15 +307,21 @@ fn read_hashes<R: Read>(
     Ok(())
 }
 
-/// Reads an index in the format MultihashIndexSorted (CARv2, "Index format", code 0x0401), and returns its entries in their order. It reads the
-/// index and nothing behind it, in time and memory that grow with the bytes that there are.
+/// Reads an index in the format MultihashIndexSorted (CARv2, "Index format", code 0x0401), and
+/// returns its entries in their order. It reads the index and nothing after it. Its time and memory
+/// grow with the number of bytes that there are.
 ///
 /// # Errors
 ///
-/// [`IndexError`] says what is wrong first, in the order of the bytes. Entries that aren't sorted are an error, since none could be looked for. An
-/// index whose entries are sorted is an error only where an allocation or the reader fails: `Memory` where the reader's error is
-/// [`ErrorKind::OutOfMemory`], and `Read` with any other, but a read that was interrupted is tried again. How much of the reader was read is then
-/// not said.
+/// If the bytes are not an index with sorted entries, the error is the first [`IndexError`] in the
+/// order of the bytes. Entries that are not sorted are an error, since they cannot be searched.
+///
+/// If the entries are sorted, only an allocation or the reader can fail:
+///
+/// - `Memory` if an allocation fails, or if the reader fails with [`ErrorKind::OutOfMemory`].
+/// - `Read` if the reader fails in another way. A read that was interrupted is tried again.
+///
+/// It is not specified how much of the reader was read after an error.
 #[tactic(auto, using(crate::proofs::index::Taking::index_taken, crate::proofs::index::Only::index_no_format, crate::proofs::index::Only::index_no_count, crate::proofs::index::Blaming::index_format, crate::proofs::index::Blaming::hashes_cut, crate::proofs::index::Blaming::index_blames))]
 pub fn read_index<R: Read>(alloc: Global, reader: &mut R) -> Result<Vec<IndexEntry>, IndexError>
     ensures takes { IfOk result (λ entries.

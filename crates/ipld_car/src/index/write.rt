@@ -1,4 +1,4 @@
-//! An index, written.
+//! The writing of an index.
 
 ghost use Rattle.std.specs.Prelude.{◌≡◌, OnOk};
 ghost use Rattle.std.specs.Io.KnownBytes.{Appends};
@@ -21,7 +21,7 @@ fn write_format<W: Write>(writer: &mut W) -> io::Result<()>
     Ok(())
 }
 
-// A digest and an offset.
+// Writes a digest and an offset.
 #[tactic(auto, unfolding(crate::specs::Index::row))]
 fn write_row<W: Write>(entry: &IndexEntry, writer: &mut W) -> io::Result<()>
     ensures { OnOk result
@@ -42,7 +42,8 @@ fn write_rows<W: Write>(entries: &[IndexEntry], writer: &mut W) -> io::Result<()
     Ok(())
 }
 
-// A number of things, in 32 bits. No index that memory holds has as many hash functions or lengths of digests as those don't count.
+// Writes a count, in 32 bits. An index in memory never has 2^32 hash functions or lengths of
+// digests.
 fn write_count<W: Write>(count: usize, writer: &mut W) -> io::Result<()>
     ensures { OnOk result (Appends (W.contents writer.old) (W.contents writer.new) (le32 count)) }
 {
@@ -52,14 +53,14 @@ fn write_count<W: Write>(count: usize, writer: &mut W) -> io::Result<()>
     }
 }
 
-// The rows of one length, behind that length and how many bytes they have.
+// Writes the rows of one length, after that length and the number of their bytes.
 #[tactic(auto, unfolding(crate::specs::Index::bucket_bytes))]
 fn write_bucket<W: Write>(bucket: &Bucket, writer: &mut W) -> io::Result<()>
     ensures { OnOk result
         (Appends (W.contents writer.old) (W.contents writer.new) (bucket_bytes bucket.now)) }
 {
     let width = u32::from(bucket.digest_len) + 8;
-    // No memory holds so many rows that this isn't a number of 64 bits.
+    // The rows in memory have fewer than 2^64 bytes.
     let Some(length) = u64::from(width).checked_mul(bucket.entries.len() as u64) else {
         return Err(Error::from(ErrorKind::InvalidInput));
     };
@@ -79,7 +80,7 @@ fn write_buckets<W: Write>(buckets: &[Bucket], writer: &mut W) -> io::Result<()>
     Ok(())
 }
 
-// The buckets of a hash function, behind its code and how many they are.
+// Writes the buckets of a hash function, after its code and the number of the buckets.
 #[tactic(auto, unfolding(crate::specs::Index::hash_bytes))]
 fn write_hash<W: Write>(hash: &HashBuckets, writer: &mut W) -> io::Result<()>
     ensures { OnOk result
@@ -102,12 +103,13 @@ fn write_hashes<W: Write>(hashes: &[HashBuckets], writer: &mut W) -> io::Result<
 }
 
 impl CarIndex {
-    /// Writes the index in the format MultihashIndexSorted (CARv2, "Index format", code 0x0401): for each hash function its code, for each
-    /// length of its digests the rows of that length, each a digest and an offset.
+    /// Writes the index in the format MultihashIndexSorted (CARv2, "Index format", code 0x0401).
+    /// For every hash function it writes the code, and then the rows for every length of its
+    /// digests. A row is a digest and an offset.
     ///
     /// # Errors
     ///
-    /// That of the writer. Some of the bytes, from the first on, may then have been written.
+    /// The error of the writer. A prefix of the bytes may then have been written.
     pub fn write_to<W: Write>(&self, writer: &mut W) -> io::Result<()>
         ensures { OnOk result
             (Appends (W.contents writer.old) (W.contents writer.new) (index_bytes self.now)) }

@@ -1,4 +1,5 @@
--- Equality is equality of the parts, the order is total, and the two agree.
+-- Laws of multihashes and CIDs: equality is equality of the parts, the order is total, and the two
+-- agree.
 use Rattle.std.specs.Prelude.{◌≡◌, ℕ, Bool, ◌==◌, nat_eq, ◌&&◌, List, length}
 use Rattle.std.proofs.Common.{refl, sym, ap, ◌∙◌}
 use Rattle.std.specs.Bool.{Decides}
@@ -16,7 +17,7 @@ use Rattle.ipld_cid.specs.Multihash.{HashParts}
 use Rattle.ipld_cid.specs.Cid.{Link, hash_of}
 use Rattle.ipld_cid.specs.Order.{hash_eq, hash_cmp, digest_cmp, version_number, link_eq, link_cmp}
 
--- a test that decides whether two values are one is an equivalence
+-- A test that decides whether two values are equal is an equivalence.
 equiv_from_decides : {K : Type 0} (E : K → K → Bool) → ((x y : K) → Decides (E x y) (x ≡ y)) → IsEquivalence E
 equiv_from_decides {K} E decides = record {
   refl = λ x. (decides x x).1 refl;
@@ -24,12 +25,12 @@ equiv_from_decides {K} E decides = record {
   congr = λ x y z h. ap (λ (w : K). E w z) ((decides x y).0 h);
 }
 
--- an order that ties only one value with itself decides the same
+-- A total order that ties only equal values decides whether two values are equal.
 ties_from_exact : {K : Type 0} (R : K → K → Ordering) → IsTotalOrder R → ((x y : K) → R x y ≡ Equal → x ≡ y) → (x y : K) → Decides (eq_by_cmp R x y) (x ≡ y)
 ties_from_exact {K} R total exact x y =
     Decides-like (is_eq (R x y)) (exact x y) (λ e. ap (λ (w : K). R x w) (sym e) ∙ tied_itself total x) (Equal-is (R x y))
 
--- two orders, one after the other, tie where both do
+-- Two orders, one after the other, tie only if both tie.
 then_ties : (o p : Ordering) → ordering_then o p ≡ Equal → (o ≡ Equal) × (p ≡ Equal)
 then_ties Less p h = absurd cc
 then_ties Equal p h = (refl, h)
@@ -40,7 +41,7 @@ then_ties Greater p h = absurd cc
 same_hash : (a b : HashParts) → a.code ≡ b.code → a.digest ≡ b.digest → a ≡ b
 same_hash a b code digest = λ i. record { code = code i; digest = digest i }
 
--- equality is equality of code and digest
+-- `hash_eq` decides whether two multihashes are equal.
 pub hash_decides : (a b : HashParts) → Decides (hash_eq a b) (a ≡ b)
 hash_decides a b =
     Decides-like (hash_eq a b) (λ p. same_hash a b p.0 p.1) (λ e. (ap (λ (h : HashParts). h.code) e, ap (λ (h : HashParts). h.digest) e))
@@ -61,7 +62,7 @@ hash_exact a b h =
     let digests = then_ties (nat_cmp (length a.digest) (length b.digest)) (slice_cmp nat_cmp a.digest b.digest) codes.1 in
     same_hash a b (exact_unsigned a.code b.code codes.0) (exact_bytes a.digest b.digest digests.1)
 
--- the order ties what is equal
+-- Two multihashes are equal if and only if the order ties them.
 pub hash_ties : (a b : HashParts) → hash_eq a b ≡ eq_by_cmp hash_cmp a b
 hash_ties a b = same_from_decides (hash_eq a b) (eq_by_cmp hash_cmp a b) (hash_decides a b) (ties_from_exact hash_cmp hash_total hash_exact a b)
 
@@ -79,7 +80,7 @@ version_decides V1 V1 = (λ _. refl, λ _. refl)
 same_link : (a b : Link) → a.version ≡ b.version → a.codec ≡ b.codec → hash_of a ≡ hash_of b → a ≡ b
 same_link a b version codec hash = λ i. record { version = version i; codec = codec i; code = (hash i).code; digest = (hash i).digest }
 
--- equality is equality of version, codec, hash code and digest
+-- `link_eq` decides whether two CIDs are equal.
 pub link_decides : (a b : Link) → Decides (link_eq a b) (a ≡ b)
 link_decides a b =
     let versions = version_number a.version == version_number b.version in
@@ -103,6 +104,6 @@ link_exact a b h =
     let numbers = exact_unsigned (version_number a.version) (version_number b.version) versions.0 in
     same_link a b ((version_decides a.version b.version).0 ((unsigned_Decides (version_number a.version) (version_number b.version)).1 numbers)) (exact_unsigned a.codec b.codec codecs.0) (hash_exact (hash_of a) (hash_of b) codecs.1)
 
--- the order ties what is equal
+-- Two CIDs are equal if and only if the order ties them.
 pub link_ties : (a b : Link) → link_eq a b ≡ eq_by_cmp link_cmp a b
 link_ties a b = same_from_decides (link_eq a b) (eq_by_cmp link_cmp a b) (link_decides a b) (ties_from_exact link_cmp link_total link_exact a b)

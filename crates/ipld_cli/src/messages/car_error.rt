@@ -1,4 +1,5 @@
-//! What is wrong with a CAR: where the section began that is cut, what its limit is, and, by a second look, which part of its header is at fault.
+//! The errors of a CAR: the beginning of a section that is cut, the size that is over the limit,
+//! and, by a second look, the part of the header at fault.
 
 use crate::messages::explain::Explanation;
 use crate::messages::hint::Hint;
@@ -10,17 +11,17 @@ use std::alloc::Global;
 use std::fmt;
 use std::io::BufRead;
 
-/// The first bytes of a file, as many as a reader has at hand, which stay in it.
+/// Returns the first bytes of a file that a reader has in its buffer. They are not consumed.
 pub fn beginning_of<R: BufRead>(alloc: Global, reader: &mut R) -> Vec<u8> {
     let mut beginning = Vec::new(alloc);
     if let Ok(bytes) = reader.fill_buf() {
-        // Where this fails, less is said of an error.
+        // If this fails, the message has less detail.
         let _ = beginning.extend_from_slice(bytes);
     }
     beginning
 }
 
-/// Why a block isn't known to be the one that its CID names. Its `Display` is a sentence.
+/// The reason why a block is not known to match its CID. Its `Display` is a sentence.
 #[derive(Clone, Copy)]
 pub struct DigestExplanation(pub VerifyError);
 
@@ -35,7 +36,8 @@ impl fmt::Display for DigestExplanation {
     }
 }
 
-/// Why a section of a CAR isn't read. Its `Display` is a sentence with the offset in the file.
+/// The reason why a section of a CAR can't be read. Its `Display` is a sentence with the offset in
+/// the file.
 #[derive(Clone, Copy)]
 pub struct SectionExplanation<'a>(pub &'a CarError);
 
@@ -69,7 +71,8 @@ impl<'a> fmt::Display for SectionExplanation<'a> {
     }
 }
 
-/// Why a file doesn't begin as a CAR, and what it seems to be. Its `Display` is a sentence with the offset in the file.
+/// The reason why a file doesn't begin as a CAR, and the format that it seems to have. Its
+/// `Display` is a sentence with the offset in the file.
 #[derive(Clone, Copy)]
 pub struct OpeningExplanation<'a> {
     alloc: Global,
@@ -78,7 +81,8 @@ pub struct OpeningExplanation<'a> {
 }
 
 impl<'a> OpeningExplanation<'a> {
-    /// Explains an error of `CarReader::new`, over the first bytes of the file. Of a file of which less is at hand than its header it says less.
+    /// Explains an error of `CarReader::new` by the first bytes of the file. The message has less
+    /// detail if they don't contain the whole header.
     pub fn new(alloc: Global, beginning: &'a [u8], error: &'a CarError) -> Self {
         OpeningExplanation {
             alloc,
@@ -87,7 +91,7 @@ impl<'a> OpeningExplanation<'a> {
         }
     }
 
-    // What is wrong, without its place.
+    // Writes the error, without its place.
     fn write_kind<W: fmt::Write>(&self, f: &mut fmt::Formatter<W>) -> fmt::Result {
         match &self.error.kind {
             CarErrorKind::UnexpectedEnd => {
@@ -109,7 +113,7 @@ impl<'a> OpeningExplanation<'a> {
         }
     }
 
-    // What is wrong with the block of the header.
+    // Writes the error of the header's block.
     fn write_header<W: fmt::Write>(&self, f: &mut fmt::Formatter<W>) -> fmt::Result {
         let Some(block) = header_block(self.beginning, self.error) else {
             return write!(f, "{}", self.error.kind);
@@ -131,7 +135,7 @@ impl<'a> fmt::Display for OpeningExplanation<'a> {
     fn fmt<W: fmt::Write>(&self, f: &mut fmt::Formatter<W>) -> fmt::Result {
         self.write_kind(f)?;
         let hint = match &self.error.kind {
-            // The bytes at hand are not all that there are.
+            // There are more bytes than those in the buffer.
             CarErrorKind::Memory | CarErrorKind::Read(_) => Hint::Unknown,
             _ => Hint::of_no_car(self.alloc, self.beginning),
         };
@@ -139,7 +143,7 @@ impl<'a> fmt::Display for OpeningExplanation<'a> {
     }
 }
 
-// The block of a header, where all of it is at hand.
+// Returns the block of a header, if the buffer contains all of it.
 fn header_block<'a>(beginning: &'a [u8], error: &CarError) -> Option<&'a [u8]> {
     let begin = error.offset as usize;
     let before = beginning.get(error.section as usize..begin)?;
@@ -150,7 +154,7 @@ fn header_block<'a>(beginning: &'a [u8], error: &CarError) -> Option<&'a [u8]> {
     beginning.get(begin..begin.checked_add(length)?)
 }
 
-// What is wrong with a block that is no header.
+// Writes why a block is not a header.
 fn write_fields<W: fmt::Write>(f: &mut fmt::Formatter<W>, block: &[u8]) -> fmt::Result {
     let ItemStart::Map(fields) = item_start(block) else {
         return write!(f, "the header is {}, and no map,", item_start(block));
@@ -167,7 +171,7 @@ fn write_fields<W: fmt::Write>(f: &mut fmt::Formatter<W>, block: &[u8]) -> fmt::
     }
 }
 
-// What is wrong with a map of so many fields, the version aside.
+// Writes why a map of `fields` fields is not a header, apart from its version.
 fn write_roots<W: fmt::Write>(f: &mut fmt::Formatter<W>, block: &[u8], fields: u64) -> fmt::Result {
     let Ok(roots) = value_at(block, "roots") else {
         return f.write_str("the header has no roots");

@@ -1,4 +1,4 @@
-//! What stands at the byte where a block goes wrong, in a sentence.
+//! A sentence about the byte at which a block is invalid.
 
 use crate::messages::start::{ItemStart, item_start};
 use crate::messages::text_place::TextPlace;
@@ -9,28 +9,30 @@ use ipld_block::{BlockCodec, CheckError, InvalidBlock, check};
 use std::alloc::Global;
 use std::fmt;
 
-// The tag of a link, as it stands before its byte string.
+// The tag of a link, before its byte string.
 const LINK_TAG: [u8; 2] = [0xd8, 42];
 
-// Keys of at most so many bytes are part of a sentence.
+// The most bytes of a key that is part of a sentence.
 const SHORT_KEY: usize = 64;
 
-/// What is wrong with bytes that are no block, by a second look at the byte where they go wrong.
+/// The error of bytes that are not a block, by a second look at the byte at fault.
 ///
-/// Its `Display` is a sentence as that of [`InvalidBlock`], which says of DAG-CBOR what stands there: which tag, which simple value, a float
-/// of how many bits, what a string that is cut was to have. Of DAG-JSON it has the line and the column.
+/// Its `Display` is a sentence like that of [`InvalidBlock`]. For DAG-CBOR it names the item there:
+/// the tag, the simple value, the number of bits of a float, or the length of a string that is cut.
+/// For DAG-JSON it has the line and the column.
 #[derive(Clone, Copy, Debug)]
 pub struct Explanation<'a> {
     block: &'a [u8],
     why: InvalidBlock,
-    // Whether the tag of a link stands before what is wrong.
+    // Whether the tag of a link is right before the error.
     is_behind_tag: bool,
 }
 
 impl<'a> Explanation<'a> {
-    /// Explains why these bytes are no block, as `check`, `links_of` or `check_canonical` of them says.
+    /// Explains why `check`, `links_of` or `check_canonical` rejected these bytes.
     ///
-    /// It allocates where a float stands behind what may be the tag of a link: the bytes before it are then read once more.
+    /// It allocates if the error is in DAG-CBOR and follows bytes that may be the tag of a link.
+    /// The bytes before the tag are then read once more.
     pub fn new(alloc: Global, block: &'a [u8], why: InvalidBlock) -> Self {
         let is_behind_tag = match why {
             InvalidBlock::Cbor(error) => is_behind_tag(alloc, block, error.offset),
@@ -44,7 +46,8 @@ impl<'a> Explanation<'a> {
     }
 }
 
-// Whether the tag of a link stands before this byte: the bytes before the tag end where an item has to begin.
+// Returns whether the tag of a link is right before this byte. It is if the bytes before the tag
+// end where an item has to begin.
 fn is_behind_tag(alloc: Global, block: &[u8], offset: usize) -> bool {
     let Some(before) = block.get(..offset) else {
         return false;
@@ -81,7 +84,7 @@ impl<'a> fmt::Display for Explanation<'a> {
 }
 
 impl<'a> Explanation<'a> {
-    // What is wrong with the text, and in which line.
+    // Writes the error of the text, and its line.
     fn write_json<W: fmt::Write>(
         &self,
         f: &mut fmt::Formatter<W>,
@@ -93,7 +96,7 @@ impl<'a> Explanation<'a> {
         write!(f, "no block of DAG-JSON: {place}: {why} at byte {offset}")
     }
 
-    // What is wrong with the item.
+    // Writes the error of the item.
     fn write_cbor<W: fmt::Write>(
         &self,
         f: &mut fmt::Formatter<W>,
@@ -112,7 +115,7 @@ impl<'a> Explanation<'a> {
         }
     }
 
-    // A float that DAG-CBOR doesn't have, or not there.
+    // Writes a float that DAG-CBOR doesn't allow, or not there.
     fn write_float<W: fmt::Write>(&self, f: &mut fmt::Formatter<W>, item: &[u8]) -> fmt::Result {
         match item_start(item) {
             ItemStart::Float(64) => {}
@@ -129,7 +132,7 @@ impl<'a> Explanation<'a> {
     }
 }
 
-// What a float of 64 bits is where it is no number, or no finite one.
+// Describes a float of 64 bits that is infinite or not a number.
 fn special_float(item: &[u8]) -> Option<&'static str> {
     let content = item.get(1..)?.first_chunk::<8>()?;
     let bits = u64::from_be_bytes(*content);
@@ -142,7 +145,7 @@ fn special_float(item: &[u8]) -> Option<&'static str> {
     }
 }
 
-// An item that DAG-CBOR doesn't have.
+// Writes an item that DAG-CBOR doesn't allow.
 fn write_unsupported<W: fmt::Write>(f: &mut fmt::Formatter<W>, start: ItemStart) -> fmt::Result {
     match start {
         ItemStart::Tag(2 | 3) => write!(f, "a bignum, {start} (DAG-CBOR has tag 42 alone)"),
@@ -160,7 +163,7 @@ fn write_unsupported<W: fmt::Write>(f: &mut fmt::Formatter<W>, start: ItemStart)
     }
 }
 
-// What stands behind the tag of a link, and is no byte string of a CID.
+// Writes the item after the tag of a link that is not a byte string of a CID.
 fn write_link_bytes<W: fmt::Write>(f: &mut fmt::Formatter<W>, item: &[u8]) -> fmt::Result {
     match item_start(item) {
         ItemStart::Bytes(0) => f.write_str("an empty byte string behind the tag of a link"),
@@ -171,7 +174,7 @@ fn write_link_bytes<W: fmt::Write>(f: &mut fmt::Formatter<W>, item: &[u8]) -> fm
     }
 }
 
-// What isn't whole.
+// Writes which item is incomplete.
 fn write_end<W: fmt::Write>(f: &mut fmt::Formatter<W>, item: &[u8]) -> fmt::Result {
     if item.is_empty() {
         return f.write_str("the bytes end where an item has to begin");
@@ -190,7 +193,7 @@ fn write_end<W: fmt::Write>(f: &mut fmt::Formatter<W>, item: &[u8]) -> fmt::Resu
     }
 }
 
-// An argument that takes more bytes than it has to.
+// Writes an argument that is not in its shortest form.
 fn write_not_shortest<W: fmt::Write>(f: &mut fmt::Formatter<W>, start: ItemStart) -> fmt::Result {
     match start.argument() {
         Some(argument) => write!(f, "the argument {argument} is not in its shortest form"),
@@ -198,7 +201,7 @@ fn write_not_shortest<W: fmt::Write>(f: &mut fmt::Formatter<W>, start: ItemStart
     }
 }
 
-// A key that the map has already.
+// Writes a key that the map has already.
 fn write_duplicate_key<W: fmt::Write>(f: &mut fmt::Formatter<W>, item: &[u8]) -> fmt::Result {
     match read_key(item) {
         Ok((key, _)) if key.len() <= SHORT_KEY => {

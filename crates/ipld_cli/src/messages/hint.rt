@@ -1,4 +1,4 @@
-//! What a file seems to be that isn't what it was read as.
+//! The format that a file seems to have if it is not the expected one.
 
 use ipld_block::{BlockCodec, check};
 use ipld_car::{CarReader, DEFAULT_LIMIT};
@@ -6,18 +6,19 @@ use ipld_cid_text::parse_any;
 use std::alloc::Global;
 use std::{fmt, str};
 
-/// What bytes seem to be. Its `Display` stands behind a message, and is empty where nothing is known.
+/// The format that bytes seem to have. Its `Display` follows a message, and is empty if nothing is
+/// known.
 #[derive(Clone, Copy, Debug, PartialEq, Eq)]
 pub enum Hint {
     /// Nothing is known.
     Unknown,
-    /// There are no bytes.
+    /// The bytes are empty.
     Empty,
     /// A CAR file.
     Car,
-    /// A block of this codec, and of no other.
+    /// A block of this codec, which is not the expected one.
     Block(BlockCodec),
-    /// A block of DAG-CBOR, and no CAR file.
+    /// A block of DAG-CBOR that is not a CAR file.
     NoCar,
     /// The text of a CID.
     CidText,
@@ -42,13 +43,13 @@ impl fmt::Display for Hint {
     }
 }
 
-// Whether text has no control characters but those between words and lines.
+// Returns whether text has no control characters except tabs and those that end lines.
 fn is_plain(text: &str) -> bool {
     text.chars()
         .all(|c| !c.is_control() || c == '\n' || c == '\r' || c == '\t')
 }
 
-// What the bytes are as text, or that there are none.
+// Returns the hint for bytes that are text or empty.
 fn hint_of_text(bytes: &[u8]) -> Option<Hint> {
     if bytes.is_empty() {
         return Some(Hint::Empty);
@@ -63,7 +64,7 @@ fn hint_of_text(bytes: &[u8]) -> Option<Hint> {
     }
 }
 
-// The other codec than this whose block the bytes are.
+// Returns the hint for bytes that are a block of another codec than this one.
 fn hint_of_block(alloc: Global, codec: BlockCodec, bytes: &[u8]) -> Hint {
     let other = match codec {
         BlockCodec::DagCbor => BlockCodec::DagPb,
@@ -76,11 +77,11 @@ fn hint_of_block(alloc: Global, codec: BlockCodec, bytes: &[u8]) -> Hint {
 }
 
 impl Hint {
-    /// What bytes seem to be that are no block of this codec. It allocates to read them as a CAR and as a block of another codec; where it
-    /// finds no memory, it knows less.
+    /// Returns the format of bytes that are not a block of this codec. It allocates to read them as
+    /// a CAR and as a block of another codec. If an allocation fails, the hint may be less precise.
     pub fn of_no_block(alloc: Global, codec: BlockCodec, bytes: &[u8]) -> Hint {
         match hint_of_text(bytes) {
-            // What is wrong with the text was said.
+            // The message has the error of the text already.
             Some(Hint::Text) if codec == BlockCodec::DagJson => Hint::Unknown,
             Some(Hint::Text) if check(alloc, BlockCodec::DagJson, bytes).is_ok() => {
                 Hint::Block(BlockCodec::DagJson)
@@ -91,7 +92,8 @@ impl Hint {
         }
     }
 
-    /// What bytes seem to be that are no CAR. It allocates to read them as a block; where it finds no memory, it knows less.
+    /// Returns the format of bytes that are not a CAR. It allocates to read them as a block. If an
+    /// allocation fails, the hint may be less precise.
     pub fn of_no_car(alloc: Global, bytes: &[u8]) -> Hint {
         match hint_of_text(bytes) {
             Some(hint) => hint,

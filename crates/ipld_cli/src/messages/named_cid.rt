@@ -5,7 +5,8 @@ use ipld_cid_text::usual_text;
 use std::alloc::Global;
 use std::fmt;
 
-/// A CID whose `Display` is its text as people know it: base32 of version 1, and base58 of version 0, which is allocated.
+/// A CID whose `Display` is its usual text, which is allocated: base32 for version 1, and base58
+/// for version 0.
 #[derive(Clone, Copy)]
 pub struct NamedCid<'a> {
     alloc: Global,
@@ -13,7 +14,7 @@ pub struct NamedCid<'a> {
 }
 
 impl<'a> NamedCid<'a> {
-    /// The CID.
+    /// Creates a wrapper of the CID.
     pub fn new(alloc: Global, cid: &'a Cid) -> Self {
         NamedCid { alloc, cid }
     }
@@ -23,7 +24,7 @@ impl<'a> fmt::Display for NamedCid<'a> {
     fn fmt<W: fmt::Write>(&self, f: &mut fmt::Formatter<W>) -> fmt::Result {
         match usual_text(self.alloc, self.cid) {
             Ok(text) => f.write_str(&text),
-            // Where there is no memory, that of version 0 is in hexadecimal.
+            // If an allocation fails, a CID of version 0 is printed in hexadecimal.
             Err(_) => write!(f, "{}", self.cid),
         }
     }

@@ -1,9 +1,10 @@
-//! Why a text is no CID.
+//! The reason why a text is not a CID.
 
 use ipld_cid_text::TextError;
 use std::fmt;
 
-/// Why a text is no CID. Its `Display` is a sentence, which says of a text of other bytes what is wrong with them.
+/// The reason why a text is not a CID. Its `Display` is a sentence. If the text encodes bytes that
+/// are not a CID, it has their error.
 #[derive(Clone, Copy)]
 pub struct NoCid<'a>(pub &'a TextError);
 

@@ -9,18 +9,18 @@ use std::io::ErrorKind;
 /// How a command ends.
 #[derive(Clone, Copy, Debug, PartialEq, Eq)]
 pub enum Outcome {
-    /// It was done, and what was checked is so.
+    /// The command was done, and every check passed.
     Done,
-    /// What was checked isn't so.
+    /// A check failed.
     NotSo,
-    /// It couldn't be done.
+    /// The command couldn't be done.
     Failed,
     /// Nobody reads the output any more, so nothing is left to do.
     NotRead,
 }
 
 impl Outcome {
-    /// The status of the program.
+    /// Returns the exit status of the program.
     pub fn status(self) -> u8
         ensures { result ≡ status_of self }
     {
@@ -31,7 +31,7 @@ impl Outcome {
         }
     }
 
-    /// How a command ends that ends with this error.
+    /// Returns the outcome of a command that ends with this error.
     pub fn of(error: &ShowError) -> Outcome
         ensures { result ≡ outcome_of error.now }
     {
@@ -42,7 +42,8 @@ impl Outcome {
         }
     }
 
-    /// How both of two things end, one after the other: as that of the greater status, and as the first where they have the same.
+    /// Returns the outcome of two actions, one after the other. It is the one with the greater
+    /// status, or the first if their statuses are equal.
     pub fn worse(self, other: Outcome) -> Outcome
         ensures first { status_of other ≤ status_of self → result ≡ self }
         ensures second { status_of self < status_of other → result ≡ other }

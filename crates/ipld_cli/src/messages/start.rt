@@ -1,27 +1,28 @@
-//! What the first bytes of an item of CBOR say that it is, whether DAG-CBOR has it or not.
+//! The first bytes of an item of CBOR, whether DAG-CBOR allows it or not.
 
 use std::fmt;
 
-/// What the first bytes of an item of CBOR say that it is (RFC 8949, section 3), whether DAG-CBOR has it or not.
+/// The kind of an item of CBOR by its first bytes (RFC 8949, section 3), whether DAG-CBOR allows it
+/// or not.
 ///
-/// Its `Display` names it, as `a list` or `tag 2`.
+/// Its `Display` names it, for example `a list` or `tag 2`.
 #[derive(Clone, Copy, Debug)]
 pub enum ItemStart {
     /// No byte, or a head that is cut.
     Cut,
-    /// An unsigned integer, its argument.
+    /// An unsigned integer, by its argument.
     Unsigned(u64),
-    /// A negative integer, -1 less its argument.
+    /// A negative integer, by its argument: -1 minus the argument.
     Negative(u64),
-    /// A byte string of so many bytes.
+    /// A byte string, by its number of bytes.
     Bytes(u64),
-    /// A text string of so many bytes.
+    /// A text string, by its number of bytes.
     Text(u64),
-    /// A list of so many items.
+    /// A list, by its number of items.
     List(u64),
-    /// A map of so many entries.
+    /// A map, by its number of entries.
     Map(u64),
-    /// A tag of this number.
+    /// A tag, by its number.
     Tag(u64),
     /// False or true.
     Bool,
@@ -31,7 +32,7 @@ pub enum ItemStart {
     Undefined,
     /// Another simple value, by its number.
     Simple(u8),
-    /// A float of so many bits.
+    /// A float, by its number of bits.
     Float(u8),
     /// A break, which ends an item of indefinite length.
     Break,
@@ -43,12 +44,12 @@ pub enum ItemStart {
     IndefiniteList,
     /// A map of indefinite length.
     IndefiniteMap,
-    /// Additional information that has no meaning there: 28 to 30, and 31 of integers and tags.
+    /// Additional information that has no meaning: 28 to 30, and 31 for integers and tags.
     Reserved(u8),
 }
 
 impl ItemStart {
-    /// The argument of the head, where it has one.
+    /// Returns the argument of the head, if it has one.
     pub fn argument(self) -> Option<u64> {
         match self {
             ItemStart::Unsigned(argument)
@@ -63,7 +64,7 @@ impl ItemStart {
     }
 }
 
-// The argument by the additional information, also where it isn't in its shortest form.
+// Returns the argument by the additional information, even if it is not in its shortest form.
 fn argument(additional: u8, rest: &[u8]) -> Option<u64> {
     match additional {
         0..24 => Some(u64::from(additional)),
@@ -75,7 +76,7 @@ fn argument(additional: u8, rest: &[u8]) -> Option<u64> {
     }
 }
 
-// A simple value or a float.
+// Returns a simple value or a float.
 fn simple_start(additional: u8, rest: &[u8]) -> ItemStart {
     match additional {
         20 | 21 => ItemStart::Bool,
@@ -94,7 +95,7 @@ fn simple_start(additional: u8, rest: &[u8]) -> ItemStart {
     }
 }
 
-// An item of a major type below 7, whose additional information is 31.
+// Returns an item of a major type below 7 whose additional information is 31.
 fn indefinite_start(major: u8) -> ItemStart {
     match major {
         2 => ItemStart::IndefiniteBytes,
@@ -105,7 +106,7 @@ fn indefinite_start(major: u8) -> ItemStart {
     }
 }
 
-// An item of a major type below 7, with its argument.
+// Returns an item of a major type below 7, with its argument.
 fn start_with_argument(major: u8, argument: u64) -> ItemStart {
     match major {
         0 => ItemStart::Unsigned(argument),
@@ -118,7 +119,7 @@ fn start_with_argument(major: u8, argument: u64) -> ItemStart {
     }
 }
 
-/// What the bytes begin with.
+/// Returns the kind of the item that the bytes begin with.
 pub fn item_start(bytes: &[u8]) -> ItemStart {
     let [first, rest @ ..] = bytes else {
         return ItemStart::Cut;

@@ -1,4 +1,4 @@
-//! Where in a text a byte stands.
+//! The line and the column of a byte in a text.
 
 use std::fmt;
 
@@ -16,7 +16,7 @@ impl fmt::Display for TextPlace {
 }
 
 impl TextPlace {
-    /// Returns where the byte at this offset stands.
+    /// Returns the line and the column of the byte at this offset.
     pub fn of_offset(text: &[u8], offset: usize) -> Self {
         let mut line = 1usize;
         let mut column = 1usize;

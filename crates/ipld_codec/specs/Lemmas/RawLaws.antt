@@ -1,4 +1,4 @@
--- The laws of the codec of plain bytes.
+-- This file proves the laws of the codec of plain bytes.
 use Rattle.std.specs.Prelude.{Some, []}
 use Rattle.std.proofs.Common.{sym, ap, ◌∙◌}
 use Rattle.std.proofs.lemmas.Option.{same_Some, none-some}
@@ -32,7 +32,7 @@ raw_same_trees v w = (λ e. e, λ e. e)
 pub raw_links_where_decoded : LinksWhereDecoded raw_decoded raw_found
 raw_links_where_decoded block = (λ e. absurd (none-some (bytes block) (sym e)), λ e. absurd (none-some [] (sym e)))
 
--- plain bytes have no links
+-- the law on the links of trees, because plain bytes have no links
 pub raw_links_of_tree : LinksOfTree tree_of raw_decoded raw_found
 raw_links_of_tree v block links decoded found cid =
     ap (times cid) (sym (same_Some [] links found)) ∙ ap (λ t. times cid (links_of t)) (same_Some (bytes block) (tree_of v) decoded)

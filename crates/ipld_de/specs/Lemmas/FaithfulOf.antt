@@ -1,4 +1,5 @@
--- Laws for use in ghost members, and no definitions: of each form of type, that its contents are all of its value, from the laws of its parts. Types of one's own cite these too.
+-- Laws for use in ghost members, not definitions: for every form of type, the contents determine
+-- the value, by the laws of its parts. Custom types cite these too.
 use Rattle.std.proofs.Common.{◌≡◌, ℕ, Bool, true, ◌&&◌, Ordering, List, [], ◌∷◌, map, Option, Some, None, option_map, String, Global, string_bytes, string_eq, nat_eq, refl, ap, ap₂, sym, subst, ◌∙◌}
 use mathlib.Core.Bool.{beq}
 use Rattle.std.specs.Bool.{Decides}
@@ -40,13 +41,13 @@ link_faithful cid = record { decides = λ v w. link_decides (cid v) (cid w) }
 pub tree_faithful : {V : Type 0} → (seen : V → Tree) → EqualByContents (λ v w. tree_eq (seen v) (seen w)) seen
 tree_faithful seen = record { decides = λ v w. tree_decides (seen v) (seen w) }
 
--- a type of one value
+-- a type whose values are all equal
 pub only_faithful : {V : Type 0} → EqualByContents {C = Unit {0}} (λ (v w : V). true) (λ v. tt)
 only_faithful = record { decides = λ v w. (λ e. refl, λ e. refl) }
 
 -- ---- composites
 
--- the same law of a type around another
+-- a type around another, by the law of that
 pub around_faithful : {V W C : Type 0} {eq : V → V → Bool} {contents : V → C} → (inner : W → V) → EqualByContents eq contents
     → EqualByContents (λ v w. eq (inner v) (inner w)) (λ v. contents (inner v))
 around_faithful inner law = record { decides = λ v w. law.decides (inner v) (inner w) }
@@ -72,7 +73,7 @@ list_decides {eq = eq} law (v ∷ vs) (w ∷ ws) =
 pub list_faithful : {V C : Type 0} {eq : V → V → Bool} {contents : V → C} → EqualByContents eq contents → EqualByContents (pointwise eq) (map contents)
 list_faithful law = record { decides = list_decides law }
 
--- a first part and others, as the fields of a struct are; `get` returns the part
+-- A first part and others, such as the fields of a struct. `get` returns the part.
 pub more_faithful : {V A C D : Type 0} {eq : A → A → Bool} {contents : A → C} {others_eq : V → V → Bool} {others : V → D} → (get : V → A)
     → EqualByContents eq contents → EqualByContents others_eq others
     → EqualByContents {C = C × D} (λ v w. eq (get v) (get w) && others_eq v w) (λ v. (contents (get v), others v))
@@ -86,7 +87,7 @@ pub pair_faithful : {A B C D : Type 0} {eq_a : A → A → Bool} {contents_a : A
     → EqualByContents {V = A × B} {C = C × D} (λ v w. eq_a v.0 w.0 && eq_b v.1 w.1) (λ v. (contents_a v.0, contents_b v.1))
 pair_faithful {A} {B} a b = more_faithful (λ (v : A × B). v.0) a (around_faithful (λ (v : A × B). v.1) b)
 
--- both of two tests, of which the first may be of several parts
+-- two tests that both have to pass, the first possibly of several parts
 pub and_faithful : {V C D : Type 0} {eq_c : V → V → Bool} {c : V → C} {eq_d : V → V → Bool} {d : V → D} → EqualByContents eq_c c → EqualByContents eq_d d
     → EqualByContents {C = C × D} (λ v w. eq_c v w && eq_d v w) (λ v. (c v, d v))
 and_faithful {eq_c = eq_c} {eq_d = eq_d} first second = record {
@@ -101,7 +102,7 @@ regrouped {eq = eq} {contents = contents} to from same law = record {
   decides = λ v w. Decides-like (eq v w) (ap to) (λ e. sym (same (contents v)) ∙ ap from e ∙ same (contents w)) (law.decides v w);
 }
 
--- keys that compare as their texts do
+-- keys that compare in the same way as their texts
 pub key_faithful : {K : Type 0} {eq : K → K → Bool} {cmp : K → K → Ordering} (text_of : K → List ℕ)
     → ((a b : K) → eq a b ≡ is_eq (cmp a b)) → ((a b : K) → cmp a b ≡ slice_cmp nat_cmp (text_of a) (text_of b)) → EqualByContents eq text_of
 key_faithful text_of matches in_order = record {
@@ -113,7 +114,7 @@ pub keyed_faithful : {K V C : Type 0} {key_eq : K → K → Bool} {text_of : K �
     → EqualByContents (pointwise (λ (p q : K × V). key_eq p.0 q.0 && eq p.1 q.1)) (keyed_contents text_of contents)
 keyed_faithful keys law = list_faithful (pair_faithful keys law)
 
--- the entries of a map under strings
+-- the entries of a map with string keys
 pub map_faithful : {V C : Type 0} {eq : V → V → Bool} {contents : V → C} → EqualByContents eq contents
     → EqualByContents (pointwise (λ (p q : String Global × V). string_eq p.0 q.0 && eq p.1 q.1)) (entry_contents contents)
 map_faithful law = keyed_faithful (bytes_faithful string_bytes) law

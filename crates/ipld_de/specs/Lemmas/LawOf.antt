@@ -1,5 +1,6 @@
--- Laws for use in ghost members, and no definitions: the image law of each form of type, from the laws of its parts. A ghost member may cite its own crate's specs/
--- alone, so they stand here. Types of one's own cite these too.
+-- Laws for use in ghost members: the image law of every form of type, from the laws of its parts.
+-- They are here since a ghost member may cite only its own crate's specs/. Custom types cite them
+-- too.
 use Rattle.std.proofs.Common.{◌≡◌, ◌==◌, ℕ, suc, length, ℤ, pos, negsuc, ◌^◌, ◌-◌, nat_lt, Bool, true, false, cond, List, [], ◌∷◌, map, Option, Some, None, option_map, option_and_then, string_bytes, encode_utf8, chars, append-nil, refl, ap, ap₂, sym, subst, ◌∙◌}
 use Rattle.std.proofs.lemmas.List.{length-map}
 use Rattle.std.proofs.lemmas.Str.{chars-encodes}
@@ -19,7 +20,8 @@ use Rattle.ipld_de.specs.Law.{ReadsBack, RoundTrip, OptionPlain, ListPlain, Entr
 
 -- ---- types whose values read back as they are
 
--- a type that reads each image as the very contents, which fix the image
+-- A type round-trips if it reads every image as the contents of the value, and the contents
+-- determine the image.
 pub exact_round_trip : {V C : Type 0} {image : V → Option Tree} {contents : V → C} {reads : Tree → Option C}
     → ((v : V) (t : Tree) → image v ≡ Some t → reads t ≡ Some (contents v)) → ((v w : V) → contents w ≡ contents v → image w ≡ image v)
     → RoundTrip image contents reads (λ v. ⊤)
@@ -27,7 +29,7 @@ exact_round_trip {contents = contents} exact fixed = record {
   back = λ v t is. record { reading = contents v; read = exact v t is; same_image = λ w same. fixed v w same ∙ is; same = λ _. refl };
 }
 
--- the same law of a type around another
+-- A type around another round-trips if the other does.
 pub around_round_trip : {V W C : Type 0} {image : V → Option Tree} {contents : V → C} {reads : Tree → Option C} {plain : V → Type 0}
     → (inner : W → V) → RoundTrip image contents reads plain → RoundTrip (λ w. image (inner w)) (λ w. contents (inner w)) reads (λ w. plain (inner w))
 around_round_trip inner law = record {
@@ -35,18 +37,19 @@ around_round_trip inner law = record {
       record { reading = r.reading; read = r.read; same_image = λ x same. r.same_image (inner x) same; same = r.same };
 }
 
--- a value that is always written, as the tree of its contents
+-- A type round-trips if every value is written as the tree of its contents, and this tree is read
+-- as these contents.
 pub always_round_trip : {V C : Type 0} {contents : V → C} (tree : C → Tree) (reads : Tree → Option C) → ((c : C) → reads (tree c) ≡ Some c)
     → RoundTrip (λ v. Some (tree (contents v))) contents reads (λ v. ⊤)
 always_round_trip {contents = contents} tree reads reads_it = exact_round_trip
     (λ v t is. let same : tree (contents v) ≡ t = cc in ap reads (sym same) ∙ reads_it (contents v))
     (λ v w same. ap (λ c. Some (tree c)) same)
 
--- a value that is never written
+-- A type whose values are never written round-trips.
 pub never_round_trip : {V C : Type 0} {contents : V → C} {reads : Tree → Option C} → RoundTrip (λ (v : V). None) contents reads (λ v. ⊤)
 never_round_trip = exact_round_trip (λ v t is. absurd cc) (λ v w same. refl)
 
--- what stands under a test
+-- An image that is written if a test passes is read as the contents.
 written_under : {S C : Type 0} (b : Bool) (s t : S) (reads : S → Option C) (c : C) → reads s ≡ cond b (Some c) None → cond b (Some s) None ≡ Some t → reads t ≡ Some c
 written_under true s t reads c reads_it is = let same : s ≡ t = cc in ap reads (sym same) ∙ reads_it
 written_under false s t reads c reads_it is = absurd cc
@@ -67,7 +70,7 @@ not_negative_exact : (b : Bool) (n : ℕ) (t : Tree) → cond b (Some (integer (
 not_negative_exact true n t is = let same : integer (pos n) ≡ t = cc in ap not_negative_reading (sym same)
 not_negative_exact false n t is = absurd cc
 
--- an unsigned number of so many bits that is read whatever its size is
+-- An unsigned integer that is written in `bits` bits and read in any size round-trips.
 pub not_negative_round_trip : (bits : ℕ) → RoundTrip (unsigned_image bits) (λ n. n) not_negative_reading (λ n. ⊤)
 not_negative_round_trip bits = exact_round_trip
     (λ n t is. not_negative_exact (nat_lt n (2 ^ bits)) n t is)
@@ -81,11 +84,11 @@ whole_exact : (bits : ℕ) (n : ℤ) (t : Tree) → signed_image bits n ≡ Some
 whole_exact bits (pos n) t is = whole_under (nat_lt n (2 ^ (bits - 1))) (pos n) t is
 whole_exact bits (negsuc n) t is = whole_under (nat_lt n (2 ^ (bits - 1))) (negsuc n) t is
 
--- a signed number of so many bits that is read whatever its size is
+-- A signed integer that is written in `bits` bits and read in any size round-trips.
 pub whole_round_trip : (bits : ℕ) → RoundTrip (signed_image bits) (λ n. n) integer_in (λ n. ⊤)
 whole_round_trip bits = exact_round_trip (whole_exact bits) (λ v w same. ap (signed_image bits) same)
 
--- bools, and whatever is written as a string, as bytes, as a link or as a tree
+-- Bools round-trip, and so do types that are written as strings, bytes, links or trees.
 pub boolean_round_trip : RoundTrip (λ b. Some (boolean b)) (λ b. b) boolean_in (λ b. ⊤)
 boolean_round_trip = always_round_trip {contents = λ b. b} boolean boolean_in (λ b. refl)
 
@@ -171,7 +174,7 @@ both_are f o p a b left right = rw (left, right) refl
 
 -- ---- lists
 
--- what all the images of a value's parts are reads back
+-- True if every value whose parts all have images reads back from these images.
 pub record PartsRoundTrip {V C : Type 0} (images : V → List (Option Tree)) (contents : V → C) (reads : Items → Option C) (plain : V → Type 0) : Type 0 where
   pub back : (v : V) (ts : List Tree) → all_of (images v) ≡ Some ts → ReadsBack (λ w. all_of (images w)) contents (λ us. reads (as_items us)) plain v ts
 
@@ -179,7 +182,7 @@ listed : (o : Option (List Tree)) (t : Tree) → option_map (λ ts. list (as_ite
 listed None t is = absurd cc
 listed (Some ts) t is = (ts, refl, cc)
 
--- and so does the list of them
+-- If values read back from the images of their parts, they read back from the list of these images.
 pub list_of_round_trip : {V C : Type 0} {images : V → List (Option Tree)} {contents : V → C} {reads : Items → Option C} {plain : V → Type 0}
     → PartsRoundTrip images contents reads plain → RoundTrip (λ v. list_of (images v)) contents (λ t. option_and_then reads (list_in t)) plain
 list_of_round_trip {images = images} {contents = contents} {reads = reads} {plain = plain} parts = record {
@@ -235,7 +238,7 @@ list_round_trip law = list_of_round_trip (element_parts law)
 
 -- ---- tuples
 
--- no part
+-- A tuple without parts reads back.
 pub end_parts : PartsRoundTrip (λ (v : Unit {0}). []) (λ v. v) read_end (λ v. ⊤)
 end_parts = record {
   back = λ v ts is.
@@ -244,7 +247,7 @@ end_parts = record {
       (record { reading = tt; read = refl; same_image = λ w same. refl; same = λ plain. refl });
 }
 
--- a part in front of others
+-- A part followed by others reads back if its type round-trips and the others read back.
 pub first_part : {V W C D : Type 0} {image : V → Option Tree} {contents : V → C} {reads : Tree → Option C} {plain : V → Type 0}
     {images : W → List (Option Tree)} {others : W → D} {reads_others : Items → Option D} {plain_others : W → Type 0}
     → RoundTrip image contents reads plain → PartsRoundTrip images others reads_others plain_others
@@ -264,13 +267,13 @@ first_part {V = V} {W = W} {C = C} {D = D} {image = image} {contents = contents}
       });
 }
 
--- a tuple of these parts
+-- A tuple round-trips if its parts read back.
 pub tuple_round_trip : {V W C : Type 0} {images : V → List (Option Tree)} {contents : V → C} {reads : Items → Option C} {plain : V → Type 0}
     → (parts : W → V) → PartsRoundTrip images contents reads plain
     → RoundTrip (λ w. list_of (images (parts w))) (λ w. contents (parts w)) (tuple_reading reads) (λ w. plain (parts w))
 tuple_round_trip parts law = around_round_trip parts (list_of_round_trip law)
 
--- a law whose plain values are said in other words
+-- The image law holds for another condition of plain values, `other`, if it implies the first.
 pub plainly : {V C : Type 0} {image : V → Option Tree} {contents : V → C} {reads : Tree → Option C} {plain : V → Type 0} → (other : V → Type 0) → ((v : V) → other v → plain v)
     → RoundTrip image contents reads plain → RoundTrip image contents reads other
 plainly other restated law = record {
@@ -280,7 +283,7 @@ plainly other restated law = record {
 
 -- ---- maps
 
--- what stands under a test that holds
+-- If a tested option has a value, the test passed, and the option itself has this value.
 under_test : {A : Type 0} (b : Bool) (o : Option A) (a : A) → cond b o None ≡ Some a → (b ≡ true) × (o ≡ Some a)
 under_test true o a is = (refl, is)
 under_test false o a is = absurd cc
@@ -331,7 +334,7 @@ mapped : (o : Option Members) (t : Tree) → option_map entries o ≡ Some t →
 mapped None t is = absurd cc
 mapped (Some ms) t is = (ms, refl, cc)
 
--- a map whose keys are written as these texts
+-- A map whose keys are written as texts round-trips if its values do.
 pub keyed_round_trip : {K V C : Type 0} (text_of : K → List ℕ) (is_key : List ℕ → Bool) {image : V → Option Tree} {contents : V → C} {reads : Tree → Option C} {plain : V → Type 0}
     → RoundTrip image contents reads plain → RoundTrip (keyed_image text_of is_key image) (keyed_contents text_of contents) (keyed_reading is_key reads) (EntriesPlain plain)
 keyed_round_trip text_of is_key {image = image} {contents = contents} {reads = reads} {plain = plain} law = record {
@@ -347,7 +350,7 @@ keyed_round_trip text_of is_key {image = image} {contents = contents} {reads = r
       });
 }
 
--- a map under strings
+-- A map with string keys round-trips if its values do.
 pub map_round_trip : {V C : Type 0} {image : V → Option Tree} {contents : V → C} {reads : Tree → Option C} {plain : V → Type 0}
     → RoundTrip image contents reads plain → RoundTrip (map_image image) (entry_contents contents) (map_reading reads) (EntriesPlain plain)
 map_round_trip law = keyed_round_trip string_bytes any_text law
@@ -362,7 +365,7 @@ as_many_read : {C : Type 0} (reads : Tree → Option C) (ts : List Tree) (cs : L
 as_many_read reads [] cs is = let same : [] ≡ cs = cc in ap length (sym same)
 as_many_read reads (t ∷ ts) cs is = let p = parts_of ◌∷◌ (reads t) (read_all reads (as_items ts)) cs is in ap length (sym p.joined) ∙ ap suc (as_many_read reads ts p.right p.has_right)
 
--- an array of so many elements
+-- An array of `n` elements round-trips if its elements do.
 pub array_round_trip : {V C : Type 0} (n : ℕ) {image : V → Option Tree} {contents : V → C} {reads : Tree → Option C} {plain : V → Type 0}
     → RoundTrip image contents reads plain → RoundTrip (array_image n image) (map contents) (array_reading n reads) (ListPlain plain)
 array_round_trip n {image = image} {contents = contents} {reads = reads} {plain = plain} law = record {
@@ -382,7 +385,7 @@ array_round_trip n {image = image} {contents = contents} {reads = reads} {plain 
       });
 }
 
--- where every element is plain a list is
+-- If every value of a type is plain, so is every list of them.
 pub all_plain : {V : Type 0} (vs : List V) → ListPlain (λ v. ⊤) vs
 all_plain [] = tt
 all_plain (v ∷ vs) = (tt, all_plain vs)

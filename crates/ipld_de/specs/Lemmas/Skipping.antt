@@ -1,4 +1,5 @@
--- Laws for use in ghost members, and no definitions: fields skip the members of other names, and look names up whatever their order.
+-- Laws for use in ghost members, not definitions: fields skip members with other names, and find
+-- their names in any order.
 use Rattle.std.proofs.Common.{◌≡◌, ℕ, List, [], ◌∷◌, Bool, true, false, cond, Option, Some, None, option_map, refl, ap, ap₂}
 use Rattle.std.specs.Str.{bytes_eq}
 use Rattle.ipld_tree.specs.Tree.{Tree, Members, member}
@@ -14,7 +15,7 @@ skipped : {C : Type 0} (b : Bool) (from : Option Tree → Option C) (t : Tree) (
 skipped true from t rest is = absurd cc
 skipped false from t rest is = refl
 
--- a field skips a member of another name
+-- A field skips a member with another name.
 pub found_skips : {V C : Type 0} (contents : V → C) (reads : Tree → Option C) (missing found : Option V) (k : List ℕ) (t : Tree) (ms : Members) (name : List ℕ)
     → bytes_eq name k ≡ false → found_or_named contents reads missing found name (member k t ms) ≡ found_or_named contents reads missing found name ms
 found_skips contents reads missing (Some v) k t ms name other = refl
@@ -37,7 +38,7 @@ each_skips first others (name ∷ names) k t ms skips more none =
 
 -- ---- members in another order
 
--- a field reads the same where its name holds the same
+-- A field reads the same from two maps if every name has the same value in both.
 pub found_by_name : {V C : Type 0} (contents : V → C) (reads : Tree → Option C) (missing found : Option V) (es ms : Members)
     → ((name : List ℕ) → value_at name es ≡ value_at name ms) → (name : List ℕ) → found_or_named contents reads missing found name es ≡ found_or_named contents reads missing found name ms
 found_by_name contents reads missing (Some v) es ms same name = refl

@@ -1,5 +1,6 @@
--- Laws for use in ghost members: the image law of structs. A map of fields reads back by their names, from the laws of the fields alone. `named_apart` and `all_named` are
--- what those laws ask of the names.
+-- Laws for use in ghost members: the image law of structs. A map of fields reads back by their
+-- names, from only the laws of the fields. The laws require `named_apart` and `all_named` of the
+-- names.
 use Rattle.std.proofs.Common.{◌≡◌, ℕ, List, [], ◌∷◌, Bool, true, false, cond, Option, Some, None, option_map, option_and_then, if◌then◌else◌, Ordering, Less, Equal, Greater, is_eq, nat_cmp, refl, sym, ap, ap₂, subst, ◌∙◌}
 use Rattle.std.proofs.lemmas.Map.Text.{is_eq-slice_cmp}
 use Rattle.std.proofs.lemmas.Slice.Eq.{bytes_eq-Decides}
@@ -15,29 +16,30 @@ use Rattle.ipld_de.specs.Fields.{reading_or, named_or, field_named, optional_nam
 use Rattle.ipld_de.specs.Law.{ReadsBack, RoundTrip, OptionPlain}
 use Rattle.ipld_de.specs.Lemmas.LawOf.{option_round_trip}
 
--- ---- what a map of fields holds
+-- ---- the members of a map of fields
 
--- each name holds the image beside it, which is there
+-- True if every field has an image, and the map has this image under the field's name.
 abbrev pub AreHeld : Members → List (List ℕ × Option Tree) → Type 0
 AreHeld ms [] = Unit {0}
 AreHeld ms (f ∷ fs) = ((t : Tree) × (f.1 ≡ Some t) × (value_at f.0 ms ≡ Some t)) × AreHeld ms fs
 
--- whether no field has this name
+-- Returns true if no field has this name.
 abbrev pub is_none_of : List ℕ → List (List ℕ × Option Tree) → Bool
 is_none_of name [] = true
 is_none_of name (f ∷ fs) = if bytes_eq name f.0 then false else is_none_of name fs
 
--- whether no two fields have one name; where the names are written out, `λ v. refl` shows it
+-- Returns true if no two fields have the same name. If the names are written out, `λ v. refl`
+-- proves it.
 abbrev pub named_apart : List (List ℕ × Option Tree) → Bool
 named_apart [] = true
 named_apart (f ∷ fs) = if is_none_of f.0 fs then named_apart fs else false
 
--- whether each field has one of these names; where they are written out, `λ v. refl` shows it
+-- Returns true if every field has one of `names`. If these are written out, `λ v. refl` proves it.
 abbrev pub all_named : List (List ℕ) → List (List ℕ × Option Tree) → Bool
 all_named names [] = true
 all_named names (f ∷ fs) = if among f.0 names then all_named names fs else false
 
--- ---- what is put under a name
+-- ---- putting a value under a name
 
 both_true : (a b : Bool) → cond a b false ≡ true → (a ≡ true) × (b ≡ true)
 both_true true b is = (refl, is)
@@ -81,7 +83,8 @@ pub value_at-put_other : (n k : List ℕ) (t : Tree) (ms : Members) → bytes_eq
 value_at-put_other n k t no_members other = ap (λ b. cond b (Some t) None) other
 value_at-put_other n k t (member l u ms) other = put_elsewhere (slice_cmp nat_cmp k l) n k l t u ms (put k t ms) refl other (value_at-put_other n k t ms other)
 
--- what one field does to the fields after it
+-- If a field and the fields after it have been put, the field has an image, and the others are put
+-- after it.
 put_one : (o : Option Tree) (k : List ℕ) (fs : List (List ℕ × Option Tree)) (ms all : Members) → option_and_then (λ t. put_fields fs (put k t ms)) o ≡ Some all
     → (t : Tree) × (o ≡ Some t) × (put_fields fs (put k t ms) ≡ Some all)
 put_one None k fs ms all is = absurd cc
@@ -109,19 +112,20 @@ pub record FieldsRead {V C : Type 0} (fields : V → List (List ℕ × Option Tr
   pub same_fields : (w : V) → contents w ≡ reading → fields w ≡ fields v
   pub same : plain v → contents v ≡ reading
 
--- fields whose values are held under their names read back
+-- True if fields read back from every map that has their images under their names.
 pub record FieldsRoundTrip {V C : Type 0} (fields : V → List (List ℕ × Option Tree)) (contents : V → C) (reads : Members → Option C) (plain : V → Type 0) : Type 0 where
   pub back : (v : V) (ms : Members) → AreHeld ms (fields v) → FieldsRead fields contents reads plain v ms
 
 abbrev one_named : List ℕ → Option Tree → List (List ℕ × Option Tree)
 one_named k o = (k, o) ∷ []
 
--- ---- what stands under a name is what a field reads
+-- ---- a field reads the value under its name
 
 named_held : {C : Type 0} (missing : Option C) (name : List ℕ) (reads : Tree → Option C) (ms : Members) (t : Tree) → value_at name ms ≡ Some t → named_or missing name reads ms ≡ reads t
 named_held missing name reads ms t held = ap (reading_or missing reads) held
 
--- one field: its name, how it is got, what stands for a missing name, and the law of its type
+-- One field reads back if its type round-trips. It has a name, a getter, and contents for a missing
+-- name, if any.
 pub one_read : {V A C : Type 0} {image : A → Option Tree} {contents : A → C} {reads : Tree → Option C} {plain : A → Type 0} → (name : List ℕ) (get : V → A) (missing : Option C)
     → RoundTrip image contents reads plain → FieldsRoundTrip (λ v. (name, image (get v)) ∷ []) (λ v. contents (get v)) (named_or missing name reads) (λ v. plain (get v))
 one_read {reads = reads} name get missing law = record {
@@ -138,7 +142,7 @@ one_read {reads = reads} name get missing law = record {
     one_named : List ℕ → Option Tree → List (List ℕ × Option Tree)
     one_named k o = (k, o) ∷ []
 
--- a field and others
+-- A field and others read back if its type round-trips and the others read back.
 pub more_read : {V A C D : Type 0} {image : A → Option Tree} {contents : A → C} {reads : Tree → Option C} {plain : A → Type 0}
     {fields : V → List (List ℕ × Option Tree)} {others : V → D} {reads_others : Members → Option D} {plain_others : V → Type 0} → (name : List ℕ) (get : V → A) (missing : Option C)
     → RoundTrip image contents reads plain → FieldsRoundTrip fields others reads_others plain_others
@@ -161,25 +165,26 @@ more_read {reads = reads} {reads_others = reads_others} name get missing law fie
     both_read : {C D : Type 0} (o : Option C) (p : Option D) (c : C) (d : D) → o ≡ Some c → p ≡ Some d → both {C = C × D} (λ x y. (x, y)) o p ≡ Some (c, d)
     both_read o p c d is also = rw (is, also) refl
 
--- one field: its name, how it is got, and the law of its type
+-- One required field reads back if its type round-trips.
 pub one_field : {V A C : Type 0} {image : A → Option Tree} {contents : A → C} {reads : Tree → Option C} {plain : A → Type 0} → (name : List ℕ) (get : V → A)
     → RoundTrip image contents reads plain → FieldsRoundTrip (λ v. (name, image (get v)) ∷ []) (λ v. contents (get v)) (field_named name reads) (λ v. plain (get v))
 one_field name get law = one_read name get None law
 
--- a field and others
+-- A required field and others read back if its type round-trips and the others read back.
 pub more_fields : {V A C D : Type 0} {image : A → Option Tree} {contents : A → C} {reads : Tree → Option C} {plain : A → Type 0}
     {fields : V → List (List ℕ × Option Tree)} {others : V → D} {reads_others : Members → Option D} {plain_others : V → Type 0} → (name : List ℕ) (get : V → A)
     → RoundTrip image contents reads plain → FieldsRoundTrip fields others reads_others plain_others
     → FieldsRoundTrip (λ v. (name, image (get v)) ∷ fields v) (λ v. (contents (get v), others v)) (and_fields (field_named name reads) reads_others) (λ v. plain (get v) × plain_others v)
 more_fields name get law fields = more_read name get None law fields
 
--- one field whose name may be missing: its name, how it is got, and the law of the type that it is an option of
+-- One optional field, whose name may be missing, reads back if the type of its content round-trips.
 pub one_optional : {V A C : Type 0} {image : A → Option Tree} {contents : A → C} {reads : Tree → Option C} {plain : A → Type 0} → (name : List ℕ) (get : V → Option A)
     → RoundTrip image contents reads plain
     → FieldsRoundTrip (λ v. (name, option_image image (get v)) ∷ []) (λ v. option_map contents (get v)) (optional_named name reads) (λ v. OptionPlain image plain (get v))
 one_optional name get law = one_read name get (Some None) (option_round_trip law)
 
--- such a field and others
+-- An optional field and others read back if the type of its content round-trips and the others read
+-- back.
 pub more_optional : {V A C D : Type 0} {image : A → Option Tree} {contents : A → C} {reads : Tree → Option C} {plain : A → Type 0}
     {fields : V → List (List ℕ × Option Tree)} {others : V → D} {reads_others : Members → Option D} {plain_others : V → Type 0} → (name : List ℕ) (get : V → Option A)
     → RoundTrip image contents reads plain → FieldsRoundTrip fields others reads_others plain_others
@@ -193,7 +198,7 @@ mapped : (o : Option Members) (t : Tree) → option_map entries o ≡ Some t →
 mapped None t is = absurd cc
 mapped (Some ms) t is = (ms, refl, cc)
 
--- a struct whose other names are ignored
+-- A struct round-trips if its fields read back and no two of them have the same name.
 pub struct_round_trip : {V C : Type 0} {fields : V → List (List ℕ × Option Tree)} {contents : V → C} {reads : Members → Option C} {plain : V → Type 0}
     → FieldsRoundTrip fields contents reads plain → ((v : V) → named_apart (fields v) ≡ true)
     → RoundTrip (λ v. struct_image (fields v)) contents (struct_reading reads) plain
@@ -230,7 +235,8 @@ all_put names (f ∷ fs) ms all known so_far is =
     let p = put_one f.1 f.0 fs ms all is in
     all_put names fs (put f.0 p.0 ms) all each.1 (all_among-put names f.0 p.0 ms each.0 so_far) p.2
 
--- a struct that is read where no other names stand
+-- A struct that rejects other names than `names` round-trips if its fields read back, no two of
+-- them have the same name, and all have one of `names`.
 pub strict_struct_round_trip : {V C : Type 0} {fields : V → List (List ℕ × Option Tree)} {contents : V → C} {reads : Members → Option C} {plain : V → Type 0} → (names : List (List ℕ))
     → FieldsRoundTrip fields contents reads plain → ((v : V) → named_apart (fields v) ≡ true) → ((v : V) → all_named names (fields v) ≡ true)
     → RoundTrip (λ v. struct_image (fields v)) contents (struct_reading (only_fields names reads)) plain

@@ -1,4 +1,4 @@
-//! Options, lists, tuples and maps are what their contents are where their parts are.
+//! Options, lists, tuples and maps are faithful if their parts are.
 
 ghost use Rattle.std.specs.Prelude.{refl};
 ghost use Rattle.ipld_de.specs.Lemmas.FaithfulOf.{around_faithful, unsigned_faithful, option_faithful, list_faithful, and_faithful, regrouped, key_faithful, keyed_faithful};

@@ -1,4 +1,4 @@
-//! Numbers, bools, strings, bytes, CIDs and trees are what their contents are.
+//! Numbers, bools, strings, bytes, CIDs and trees are faithful.
 
 ghost use Rattle.std.specs.Prelude.{string_bytes};
 ghost use Rattle.ipld_cid.specs.LinkOf.{link_of};

@@ -82,7 +82,7 @@ impl Lawful for usize {
     ghost round_trip = { unsigned_round_trip 64 };
 }
 
-/// A number above [`i128::MAX`] has no image, and nothing is claimed of it.
+/// A number above [`i128::MAX`] does not have an image, so the law claims nothing about it.
 impl Lawful for u128 {
     ghost plain = { λ _. ⊤ };
 
@@ -113,14 +113,14 @@ impl Lawful for Cid {
     ghost round_trip = { link_round_trip link_of };
 }
 
-/// A tree round-trips as it is, so that each is plain: it is no `Some`.
+/// A tree round-trips as it is. Every tree is plain, since it is not a `Some`.
 impl Lawful for Ipld {
     ghost plain = { λ _. ⊤ };
 
     ghost round_trip = { tree_round_trip tree_of };
 }
 
-/// It has no image, so nothing is claimed.
+/// `()` does not have an image, so the law claims nothing.
 impl Lawful for () {
     ghost plain = { λ _. ⊤ };
 

@@ -1,4 +1,5 @@
--- Keys compare as their texts do: laws for use in ghost members, and no definitions. A ghost member may cite its own crate's specs/ alone, so they stand here.
+-- Lemmas for ghost members: keys compare as their strings do. A ghost member can cite only the
+-- `specs/` of its own crate, so the lemmas are here.
 use Rattle.std.proofs.Common.{◌≡◌, ◌⊎◌, inl, inr, ℕ, ◌+◌, ◌/◌, ◌%◌, ◌<◌, ◌≤◌, List, [], ◌∷◌, ◌++◌, length, Ordering, Less, Equal, Greater, nat_cmp, refl, ap, ap₂, sym, subst, ◌∙◌, arith}
 use Rattle.std.specs.Char.{encode_utf8}
 use Rattle.std.specs.Cmp.Lexicographic.{slice_cmp}
@@ -6,7 +7,7 @@ use Rattle.std.specs.Ordering.{ordering_reverse, ordering_then}
 use Rattle.std.proofs.lemmas.Bool.{cases_lt}
 use Rattle.std.proofs.lemmas.Cmp.{nat_list_cmp_total, nat_cmp_total}
 
--- a type that compares by its texts
+-- A type that compares by its strings has the order of its strings.
 pub same_order : {K : Type 0} (text_of : K → List ℕ) (a b : K) → slice_cmp nat_cmp (text_of a) (text_of b) ≡ slice_cmp nat_cmp (text_of a) (text_of b)
 same_order text_of a b = refl
 
@@ -21,7 +22,8 @@ first_below {xs = xs} {ys = ys} {x = x} {y = y} is are less = ap₂ (slice_cmp n
 level : (x y : ℕ) (xs ys : List ℕ) → x ≡ y → slice_cmp nat_cmp xs ys ≡ Less → slice_cmp nat_cmp (x ∷ xs) (y ∷ ys) ≡ Less
 level x y xs ys same less = grind arith
 
--- two numbers in order differ in their front, or alone in their last six bits
+-- If `a` is below `b`, either `a / 64` is below `b / 64`, or these are equal and `a % 64` is below
+-- `b % 64`.
 digits : (a b : ℕ) → a < b → (a / 64 < b / 64) ⊎ ((a / 64 ≡ b / 64) × (a % 64 < b % 64))
 digits a b less = by_front (cases_lt (a / 64) (b / 64))
   where
@@ -82,7 +84,7 @@ four_less h a b less = by_digits (digits a b less)
         (level (128 + a / 64 / 64 % 64) (128 + b / 64 / 64 % 64) ((128 + a / 64 % 64) ∷ (128 + a % 64) ∷ []) ((128 + b / 64 % 64) ∷ (128 + b % 64) ∷ []) (ap (λ q. 128 + q / 64 % 64) last.0)
         (level (128 + a / 64 % 64) (128 + b / 64 % 64) ((128 + a % 64) ∷ []) ((128 + b % 64) ∷ []) (ap (λ q. 128 + q % 64) last.0) (below (128 + a % 64) (128 + b % 64) [] [] (omega arith))))
 
--- how many bytes a character takes
+-- The ranges of characters that have one, two, three and four bytes in UTF-8
 abbrev Width : ℕ → Type 0
 Width c = (c < 128) ⊎ (((128 ≤ c) × (c < 2048)) ⊎ (((2048 ≤ c) × (c < 65536)) ⊎ (65536 ≤ c)))
 
@@ -130,7 +132,7 @@ level_with_itself Less is = absurd cc
 level_with_itself Equal is = refl
 level_with_itself Greater is = absurd cc
 
--- characters compare as their bytes do
+-- Characters compare as their UTF-8 bytes do.
 pub char_order : (a b : ℕ) → nat_cmp a b ≡ slice_cmp nat_cmp (encode_utf8 a) (encode_utf8 b)
 char_order a b = first (cases_lt a b)
   where

@@ -1,4 +1,4 @@
--- Equality of trees of the IPLD data model reports whether two trees are one.
+-- Equality of trees of the IPLD data model decides whether two trees are the same.
 use Rattle.std.specs.Prelude.{◌≡◌, ◌&&◌}
 use Rattle.std.proofs.Common.{refl, ap, bytes_eq}
 use Rattle.std.specs.Bool.{Decides}

@@ -12,7 +12,8 @@ use std::alloc::{AllocError, Global};
 use std::collections::{BTreeMap, btree_map};
 use std::{mem, slice};
 
-// A copy of a value, made by a loop: it doesn't recurse, and allocates for a stack that grows with the nesting.
+// A copy of a value by a loop. It doesn't recurse, and allocates for a stack that grows with the
+// nesting.
 pub(super) fn copy_by_loop(alloc: Global, value: &Ipld) -> Result<Ipld, AllocError>
     ensures { IfOk result (λ v. tree_of v ≡ tree_of value.now) }
 {
@@ -57,13 +58,15 @@ enum OpenCopy<'a> {
     Map(MapCopy<'a>),
 }
 
-// The copy of a value that holds no other, or the copy of a list or a map before the first value in it.
+// The copy of a value that contains no others, or the copy of a list or a map before its first
+// value.
 enum Begun<'a> {
     Whole(Ipld),
     Open(OpenCopy<'a>),
 }
 
-// A copy of a list or a map that isn't complete: the innermost container, and those around it, the outermost first.
+// An incomplete copy of a list or a map: the innermost container, and the containers around it, the
+// outermost first.
 #[derive(Drop)]
 struct Copying<'a> {
     alloc: Global,
@@ -98,7 +101,7 @@ impl<'a> Begun<'a> {
 }
 
 impl<'a> OpenCopy<'a> {
-    // The next value, whose copy is to be added before the next one is taken.
+    // The next value. Its copy has to be added before the next call.
     #[inline(always)]
     fn next(&mut self) -> Option<&'a Ipld>
         ensures { TakesNext self.old result self.new }
@@ -127,7 +130,7 @@ impl<'a> OpenCopy<'a> {
         }
     }
 
-    // The copy, where nothing is left.
+    // The copy, if nothing is left.
     #[inline(always)]
     fn into_copy(self) -> Ipld
         ensures { IsDone self.entry → tree_of result ≡ whole self.entry }
@@ -160,7 +163,8 @@ fn add_member(
 }
 
 impl<'a> Copying<'a> {
-    // Copies all that is left, until the innermost container is the outermost one, and complete.
+    // Copies all values that are left, until the innermost container is the outermost one, and
+    // complete.
     fn complete(&mut self) -> Result<(), AllocError>
         ensures copy { OnOk result (whole self.new.innermost ≡ around_all self.old.outer.items
             (whole self.old.innermost)) }
@@ -180,7 +184,7 @@ impl<'a> Copying<'a> {
         }
     }
 
-    // Goes on inside a container, in which nothing is copied yet.
+    // Continues inside a container in which nothing is copied yet.
     fn enter(&mut self, container: OpenCopy<'a>) -> Result<(), AllocError>
         ensures innermost { OnOk result (self.new.innermost ≡ container.entry) }
         ensures outer { OnOk result (self.new.outer.items ≡ self.old.outer.items
@@ -192,7 +196,7 @@ impl<'a> Copying<'a> {
         Ok(())
     }
 
-    // Goes on in the container around the innermost, which is complete.
+    // Continues in the container around the innermost one, which is complete.
     fn leave(&mut self, around: OpenCopy<'a>) -> Result<(), AllocError>
         ensures copy { OnOk result (IsDone self.old.innermost
             → whole self.new.innermost ≡ put_around around.entry (whole self.old.innermost)) }
@@ -203,7 +207,7 @@ impl<'a> Copying<'a> {
         self.innermost.add(self.alloc, copy)
     }
 
-    // Drops what was copied, by loops.
+    // Drops the copied part by loops.
     fn discard(self) {
         self.innermost.into_copy().discard();
         for container in self.outer {

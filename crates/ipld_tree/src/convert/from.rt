@@ -1,4 +1,5 @@
-//! Values of the data model from what they hold. None allocates, and none is rejected.
+//! Conversions of Rust values to values of the data model. They do not allocate, and they do not
+//! fail.
 
 ghost use Rattle.std.specs.Prelude.{◌≡◌, pos, string_bytes};
 ghost use Rattle.ipld_cid.specs.LinkOf.{link_of};
@@ -12,7 +13,7 @@ use std::collections::BTreeMap;
 impl From<bool> for Ipld {
     ghost from_gives = { λ truth v. tree_of v ≡ tree.boolean truth };
 
-    /// The bool, as [`Ipld::Bool`].
+    /// Returns the bool as an [`Ipld::Bool`].
     fn from(truth: bool) -> Ipld {
         Ipld::Bool(truth)
     }
@@ -21,7 +22,7 @@ impl From<bool> for Ipld {
 impl From<i8> for Ipld {
     ghost from_gives = { λ number v. tree_of v ≡ tree.integer number };
 
-    /// The number, as [`Ipld::Integer`].
+    /// Returns the number as an [`Ipld::Integer`].
     fn from(number: i8) -> Ipld {
         Ipld::Integer(number as i128)
     }
@@ -30,7 +31,7 @@ impl From<i8> for Ipld {
 impl From<i16> for Ipld {
     ghost from_gives = { λ number v. tree_of v ≡ tree.integer number };
 
-    /// The number, as [`Ipld::Integer`].
+    /// Returns the number as an [`Ipld::Integer`].
     fn from(number: i16) -> Ipld {
         Ipld::Integer(number as i128)
     }
@@ -39,7 +40,7 @@ impl From<i16> for Ipld {
 impl From<i32> for Ipld {
     ghost from_gives = { λ number v. tree_of v ≡ tree.integer number };
 
-    /// The number, as [`Ipld::Integer`].
+    /// Returns the number as an [`Ipld::Integer`].
     fn from(number: i32) -> Ipld {
         Ipld::Integer(number as i128)
     }
@@ -48,7 +49,7 @@ impl From<i32> for Ipld {
 impl From<i64> for Ipld {
     ghost from_gives = { λ number v. tree_of v ≡ tree.integer number };
 
-    /// The number, as [`Ipld::Integer`].
+    /// Returns the number as an [`Ipld::Integer`].
     fn from(number: i64) -> Ipld {
         Ipld::Integer(number as i128)
     }
@@ -57,7 +58,7 @@ impl From<i64> for Ipld {
 impl From<i128> for Ipld {
     ghost from_gives = { λ number v. tree_of v ≡ tree.integer number };
 
-    /// The number, as [`Ipld::Integer`].
+    /// Returns the number as an [`Ipld::Integer`].
     fn from(number: i128) -> Ipld {
         Ipld::Integer(number)
     }
@@ -66,7 +67,7 @@ impl From<i128> for Ipld {
 impl From<isize> for Ipld {
     ghost from_gives = { λ number v. tree_of v ≡ tree.integer number };
 
-    /// The number, as [`Ipld::Integer`].
+    /// Returns the number as an [`Ipld::Integer`].
     fn from(number: isize) -> Ipld {
         Ipld::Integer(number as i128)
     }
@@ -75,7 +76,7 @@ impl From<isize> for Ipld {
 impl From<u8> for Ipld {
     ghost from_gives = { λ number v. tree_of v ≡ tree.integer (pos number) };
 
-    /// The number, as [`Ipld::Integer`].
+    /// Returns the number as an [`Ipld::Integer`].
     fn from(number: u8) -> Ipld {
         Ipld::Integer(number as i128)
     }
@@ -84,7 +85,7 @@ impl From<u8> for Ipld {
 impl From<u16> for Ipld {
     ghost from_gives = { λ number v. tree_of v ≡ tree.integer (pos number) };
 
-    /// The number, as [`Ipld::Integer`].
+    /// Returns the number as an [`Ipld::Integer`].
     fn from(number: u16) -> Ipld {
         Ipld::Integer(number as i128)
     }
@@ -93,7 +94,7 @@ impl From<u16> for Ipld {
 impl From<u32> for Ipld {
     ghost from_gives = { λ number v. tree_of v ≡ tree.integer (pos number) };
 
-    /// The number, as [`Ipld::Integer`].
+    /// Returns the number as an [`Ipld::Integer`].
     fn from(number: u32) -> Ipld {
         Ipld::Integer(number as i128)
     }
@@ -102,7 +103,7 @@ impl From<u32> for Ipld {
 impl From<u64> for Ipld {
     ghost from_gives = { λ number v. tree_of v ≡ tree.integer (pos number) };
 
-    /// The number, as [`Ipld::Integer`].
+    /// Returns the number as an [`Ipld::Integer`].
     fn from(number: u64) -> Ipld {
         Ipld::Integer(number as i128)
     }
@@ -111,7 +112,7 @@ impl From<u64> for Ipld {
 impl From<usize> for Ipld {
     ghost from_gives = { λ number v. tree_of v ≡ tree.integer (pos number) };
 
-    /// The number, as [`Ipld::Integer`].
+    /// Returns the number as an [`Ipld::Integer`].
     fn from(number: usize) -> Ipld {
         Ipld::Integer(number as i128)
     }
@@ -120,7 +121,7 @@ impl From<usize> for Ipld {
 impl From<String> for Ipld {
     ghost from_gives = { λ text v. tree_of v ≡ tree.text (string_bytes text) };
 
-    /// The string itself, as [`Ipld::String`].
+    /// Returns the string itself as an [`Ipld::String`].
     fn from(text: String) -> Ipld {
         Ipld::String(text)
     }
@@ -129,7 +130,7 @@ impl From<String> for Ipld {
 impl From<Vec<u8>> for Ipld {
     ghost from_gives = { λ bytes v. tree_of v ≡ tree.bytes bytes.items };
 
-    /// The bytes themselves, as [`Ipld::Bytes`].
+    /// Returns the bytes themselves as an [`Ipld::Bytes`].
     fn from(bytes: Vec<u8>) -> Ipld {
         Ipld::Bytes(bytes)
     }
@@ -138,7 +139,7 @@ impl From<Vec<u8>> for Ipld {
 impl From<Vec<Ipld>> for Ipld {
     ghost from_gives = { λ items v. tree_of v ≡ tree.list (items_of items.items) };
 
-    /// The items, as [`Ipld::List`].
+    /// Returns the items as an [`Ipld::List`].
     fn from(items: Vec<Ipld>) -> Ipld {
         Ipld::List(items)
     }
@@ -147,7 +148,7 @@ impl From<Vec<Ipld>> for Ipld {
 impl From<BTreeMap<String, Ipld>> for Ipld {
     ghost from_gives = { λ members v. tree_of v ≡ tree.entries (members_of members.entries) };
 
-    /// The members, as [`Ipld::Map`].
+    /// Returns the members as an [`Ipld::Map`].
     fn from(members: BTreeMap<String, Ipld>) -> Ipld {
         Ipld::Map(members)
     }
@@ -156,7 +157,7 @@ impl From<BTreeMap<String, Ipld>> for Ipld {
 impl From<Cid> for Ipld {
     ghost from_gives = { λ cid v. tree_of v ≡ tree.link (link_of cid) };
 
-    /// A link, as [`Ipld::Link`].
+    /// Returns the CID as an [`Ipld::Link`].
     fn from(cid: Cid) -> Ipld {
         Ipld::Link(cid)
     }
@@ -165,7 +166,7 @@ impl From<Cid> for Ipld {
 impl From<&Cid> for Ipld {
     ghost from_gives = { λ cid v. tree_of v ≡ tree.link (link_of cid.now) };
 
-    /// A link, as [`Ipld::Link`].
+    /// Returns the CID as an [`Ipld::Link`].
     fn from(cid: &Cid) -> Ipld {
         Ipld::Link(*cid)
     }

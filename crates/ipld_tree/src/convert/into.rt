@@ -1,4 +1,4 @@
-//! What `ipld!` takes as its expressions and as its keys.
+//! The types that `ipld!` takes as expressions and as keys.
 
 ghost use Rattle.std.specs.Prelude.{◌≡◌, List, ℕ, Bool, true, false, string_bytes, IfOk, OnErr};
 ghost use Rattle.ipld_tree.specs.Tree as tree;
@@ -7,19 +7,23 @@ ghost use Rattle.ipld_tree.specs.TreeOf.{tree_of};
 use crate::ipld::Ipld;
 use std::alloc::{AllocError, Global};
 
-/// What a value of the data model can be made of. It is there for each type that [`Ipld`] is `From`, for [`Ipld`] itself,
-/// for `&str` and for `&[u8]`.
+/// A type that can be converted to a value of the data model. It is implemented for every type that
+/// [`Ipld`] is `From`, for [`Ipld`] itself, for `&str` and for `&[u8]`.
 pub trait IntoIpld: Sized {
     ghost use Rattle.ipld_tree.specs.declared.ipld.Ipld.{Ipld};
 
-    /// Holds of a value and each [`Ipld`] that it may become.
+    /// Holds for a value and every [`Ipld`] that it may become.
     ghost becomes: { Self → Ipld → Type 0 };
 
-    /// Whether the type allocates, and so can be rejected.
+    /// True if the type allocates, and so can fail.
     ghost allocates: { Bool };
 
-    /// The value of the data model that `self` is. `&str` and `&[u8]` are copied, and rejected for a failed allocation alone;
-    /// no other type allocates, nor is it rejected.
+    /// Converts `self` to a value of the data model. `&str` and `&[u8]` are copied. No other type
+    /// allocates, and no other type fails.
+    ///
+    /// # Errors
+    ///
+    /// `AllocError` if the allocation for the copy fails.
     fn into_ipld(self, alloc: Global) -> Result<Ipld, AllocError>
         ensures ok { IfOk result (λ v. becomes self v) }
         ensures err { OnErr result (allocates ≡ true) };
@@ -55,16 +59,20 @@ impl IntoIpld for &[u8] {
     }
 }
 
-/// What a key of a map can be made of.
+/// A type that can be converted to a key of a map.
 pub trait IntoKey: Sized {
-    /// The bytes of the string that the value is.
+    /// The bytes of the string that the value becomes.
     ghost key: { Self → List ℕ };
 
-    /// Whether the type allocates, and so can be rejected.
+    /// True if the type allocates, and so can fail.
     ghost allocates: { Bool };
 
-    /// The string that `self` is. `&str` is copied, and rejected for a failed allocation alone; `String` does not allocate, nor is it
-    /// rejected.
+    /// Converts `self` to a string. `&str` is copied. `String` does not allocate, and does not
+    /// fail.
+    ///
+    /// # Errors
+    ///
+    /// `AllocError` if the allocation for the copy fails.
     fn into_key(self, alloc: Global) -> Result<String, AllocError>
         ensures ok { IfOk result (λ s. string_bytes s ≡ key self) }
         ensures err { OnErr result (allocates ≡ true) };

@@ -1,4 +1,5 @@
-//! The content of a value of the data model. Nothing allocates, and what is taken out is moved, not copied.
+//! Conversions of a value of the data model to its content. They do not allocate: the content is
+//! moved, not copied.
 
 ghost use Rattle.std.specs.Prelude.{◌≡◌, string_bytes};
 ghost use Rattle.ipld_cid.specs.LinkOf.{link_of};
@@ -28,7 +29,7 @@ fn wrong_kind(expected: IpldKind, found: Ipld) -> ConversionError
     }
 }
 
-// The number, where the type takes it.
+// Converts a value to the integer type `N`. Fails if the value is of another kind, or out of range.
 #[inline(always)]
 fn number_of<N: TryFrom<i128, Error = TryFromIntError>>(
     ipld: Ipld,
@@ -53,7 +54,8 @@ impl TryFrom<Ipld> for () {
 
     ghost try_from_gives = { Converts (λ u. u) (of_kind kind.Null nothing_in) };
 
-    /// Nothing, of a Null. [`ConversionError::WrongIpldKind`] for another kind.
+    /// Returns `()` for a Null. Fails with [`ConversionError::WrongIpldKind`] if the value is of
+    /// another kind.
     #[inline(always)]
     fn try_from(ipld: Ipld) -> Result<(), ConversionError> {
         match ipld {
@@ -68,7 +70,8 @@ impl TryFrom<Ipld> for bool {
 
     ghost try_from_gives = { Converts (λ b. b) (of_kind kind.Bool boolean_in) };
 
-    /// The `bool` of a Bool. [`ConversionError::WrongIpldKind`] for another kind.
+    /// Returns the `bool` of a Bool. Fails with [`ConversionError::WrongIpldKind`] if the value is
+    /// of another kind.
     #[inline(always)]
     fn try_from(ipld: Ipld) -> Result<bool, ConversionError> {
         match ipld {
@@ -83,8 +86,8 @@ impl TryFrom<Ipld> for i8 {
 
     ghost try_from_gives = { Converts (λ n. n) (integer_within (signed_at 8) target_type.I8) };
 
-    /// The number of an Integer in range. [`ConversionError::FromIpld`] for one out of range,
-    /// [`ConversionError::WrongIpldKind`] for another kind.
+    /// Returns the number of an Integer. Fails with [`ConversionError::FromIpld`] if it is out of
+    /// range, and with [`ConversionError::WrongIpldKind`] if the value is of another kind.
     #[inline(always)]
     #[tactic(auto, using(crate::proofs::Converting::signed_tried))]
     fn try_from(ipld: Ipld) -> Result<i8, ConversionError> {
@@ -97,8 +100,8 @@ impl TryFrom<Ipld> for i16 {
 
     ghost try_from_gives = { Converts (λ n. n) (integer_within (signed_at 16) target_type.I16) };
 
-    /// The number of an Integer in range. [`ConversionError::FromIpld`] for one out of range,
-    /// [`ConversionError::WrongIpldKind`] for another kind.
+    /// Returns the number of an Integer. Fails with [`ConversionError::FromIpld`] if it is out of
+    /// range, and with [`ConversionError::WrongIpldKind`] if the value is of another kind.
     #[inline(always)]
     #[tactic(auto, using(crate::proofs::Converting::signed_tried))]
     fn try_from(ipld: Ipld) -> Result<i16, ConversionError> {
@@ -111,8 +114,8 @@ impl TryFrom<Ipld> for i32 {
 
     ghost try_from_gives = { Converts (λ n. n) (integer_within (signed_at 32) target_type.I32) };
 
-    /// The number of an Integer in range. [`ConversionError::FromIpld`] for one out of range,
-    /// [`ConversionError::WrongIpldKind`] for another kind.
+    /// Returns the number of an Integer. Fails with [`ConversionError::FromIpld`] if it is out of
+    /// range, and with [`ConversionError::WrongIpldKind`] if the value is of another kind.
     #[inline(always)]
     #[tactic(auto, using(crate::proofs::Converting::signed_tried))]
     fn try_from(ipld: Ipld) -> Result<i32, ConversionError> {
@@ -125,8 +128,8 @@ impl TryFrom<Ipld> for i64 {
 
     ghost try_from_gives = { Converts (λ n. n) (integer_within (signed_at 64) target_type.I64) };
 
-    /// The number of an Integer in range. [`ConversionError::FromIpld`] for one out of range,
-    /// [`ConversionError::WrongIpldKind`] for another kind.
+    /// Returns the number of an Integer. Fails with [`ConversionError::FromIpld`] if it is out of
+    /// range, and with [`ConversionError::WrongIpldKind`] if the value is of another kind.
     #[inline(always)]
     #[tactic(auto, using(crate::proofs::Converting::signed_tried))]
     fn try_from(ipld: Ipld) -> Result<i64, ConversionError> {
@@ -139,7 +142,8 @@ impl TryFrom<Ipld> for i128 {
 
     ghost try_from_gives = { Converts (λ n. n) (of_kind kind.Integer integer_in) };
 
-    /// The number of an Integer: `i128` holds each. [`ConversionError::WrongIpldKind`] for another kind.
+    /// Returns the number of an Integer. `i128` holds every number. Fails with
+    /// [`ConversionError::WrongIpldKind`] if the value is of another kind.
     #[inline(always)]
     fn try_from(ipld: Ipld) -> Result<i128, ConversionError> {
         match ipld {
@@ -154,8 +158,8 @@ impl TryFrom<Ipld> for isize {
 
     ghost try_from_gives = { Converts (λ n. n) (integer_within (signed_at 64) target_type.Isize) };
 
-    /// The number of an Integer in range. [`ConversionError::FromIpld`] for one out of range,
-    /// [`ConversionError::WrongIpldKind`] for another kind.
+    /// Returns the number of an Integer. Fails with [`ConversionError::FromIpld`] if it is out of
+    /// range, and with [`ConversionError::WrongIpldKind`] if the value is of another kind.
     #[inline(always)]
     #[tactic(auto, using(crate::proofs::Converting::signed_tried))]
     fn try_from(ipld: Ipld) -> Result<isize, ConversionError> {
@@ -168,8 +172,8 @@ impl TryFrom<Ipld> for u8 {
 
     ghost try_from_gives = { Converts (λ n. n) (integer_within (unsigned_at 8) target_type.U8) };
 
-    /// The number of an Integer in range. [`ConversionError::FromIpld`] for one out of range,
-    /// [`ConversionError::WrongIpldKind`] for another kind.
+    /// Returns the number of an Integer. Fails with [`ConversionError::FromIpld`] if it is out of
+    /// range, and with [`ConversionError::WrongIpldKind`] if the value is of another kind.
     #[inline(always)]
     #[tactic(auto, using(crate::proofs::Converting::unsigned_tried))]
     fn try_from(ipld: Ipld) -> Result<u8, ConversionError> {
@@ -182,8 +186,8 @@ impl TryFrom<Ipld> for u16 {
 
     ghost try_from_gives = { Converts (λ n. n) (integer_within (unsigned_at 16) target_type.U16) };
 
-    /// The number of an Integer in range. [`ConversionError::FromIpld`] for one out of range,
-    /// [`ConversionError::WrongIpldKind`] for another kind.
+    /// Returns the number of an Integer. Fails with [`ConversionError::FromIpld`] if it is out of
+    /// range, and with [`ConversionError::WrongIpldKind`] if the value is of another kind.
     #[inline(always)]
     #[tactic(auto, using(crate::proofs::Converting::unsigned_tried))]
     fn try_from(ipld: Ipld) -> Result<u16, ConversionError> {
@@ -196,8 +200,8 @@ impl TryFrom<Ipld> for u32 {
 
     ghost try_from_gives = { Converts (λ n. n) (integer_within (unsigned_at 32) target_type.U32) };
 
-    /// The number of an Integer in range. [`ConversionError::FromIpld`] for one out of range,
-    /// [`ConversionError::WrongIpldKind`] for another kind.
+    /// Returns the number of an Integer. Fails with [`ConversionError::FromIpld`] if it is out of
+    /// range, and with [`ConversionError::WrongIpldKind`] if the value is of another kind.
     #[inline(always)]
     #[tactic(auto, using(crate::proofs::Converting::unsigned_tried))]
     fn try_from(ipld: Ipld) -> Result<u32, ConversionError> {
@@ -210,8 +214,8 @@ impl TryFrom<Ipld> for u64 {
 
     ghost try_from_gives = { Converts (λ n. n) (integer_within (unsigned_at 64) target_type.U64) };
 
-    /// The number of an Integer in range. [`ConversionError::FromIpld`] for one out of range,
-    /// [`ConversionError::WrongIpldKind`] for another kind.
+    /// Returns the number of an Integer. Fails with [`ConversionError::FromIpld`] if it is out of
+    /// range, and with [`ConversionError::WrongIpldKind`] if the value is of another kind.
     #[inline(always)]
     #[tactic(auto, using(crate::proofs::Converting::unsigned_tried))]
     fn try_from(ipld: Ipld) -> Result<u64, ConversionError> {
@@ -224,8 +228,8 @@ impl TryFrom<Ipld> for u128 {
 
     ghost try_from_gives = { Converts (λ n. n) (integer_within not_negative target_type.U128) };
 
-    /// The number of an Integer in range. [`ConversionError::FromIpld`] for one out of range,
-    /// [`ConversionError::WrongIpldKind`] for another kind.
+    /// Returns the number of an Integer. Fails with [`ConversionError::FromIpld`] if it is out of
+    /// range, and with [`ConversionError::WrongIpldKind`] if the value is of another kind.
     #[inline(always)]
     #[tactic(auto, using(crate::proofs::Converting::u128_tried))]
     fn try_from(ipld: Ipld) -> Result<u128, ConversionError> {
@@ -238,8 +242,8 @@ impl TryFrom<Ipld> for usize {
 
     ghost try_from_gives = { Converts (λ n. n) (integer_within (unsigned_at 64) target_type.Usize) };
 
-    /// The number of an Integer in range. [`ConversionError::FromIpld`] for one out of range,
-    /// [`ConversionError::WrongIpldKind`] for another kind.
+    /// Returns the number of an Integer. Fails with [`ConversionError::FromIpld`] if it is out of
+    /// range, and with [`ConversionError::WrongIpldKind`] if the value is of another kind.
     #[inline(always)]
     #[tactic(auto, using(crate::proofs::Converting::unsigned_tried))]
     fn try_from(ipld: Ipld) -> Result<usize, ConversionError> {
@@ -252,7 +256,8 @@ impl TryFrom<Ipld> for String {
 
     ghost try_from_gives = { Converts string_bytes (of_kind kind.String text_in) };
 
-    /// The content of a String. [`ConversionError::WrongIpldKind`] for another kind.
+    /// Returns the content of a String. Fails with [`ConversionError::WrongIpldKind`] if the value
+    /// is of another kind.
     #[inline(always)]
     fn try_from(ipld: Ipld) -> Result<String, ConversionError> {
         match ipld {
@@ -267,7 +272,8 @@ impl TryFrom<Ipld> for Vec<u8> {
 
     ghost try_from_gives = { Converts (λ v. v.items) (of_kind kind.Bytes bytes_in) };
 
-    /// The bytes of a Bytes. [`ConversionError::WrongIpldKind`] for another kind.
+    /// Returns the bytes of a Bytes. Fails with [`ConversionError::WrongIpldKind`] if the value is
+    /// of another kind.
     #[inline(always)]
     fn try_from(ipld: Ipld) -> Result<Vec<u8>, ConversionError> {
         match ipld {
@@ -282,7 +288,8 @@ impl TryFrom<Ipld> for Vec<Ipld> {
 
     ghost try_from_gives = { Converts (λ v. items_of v.items) (of_kind kind.List list_in) };
 
-    /// The items of a List. [`ConversionError::WrongIpldKind`] for another kind.
+    /// Returns the items of a List. Fails with [`ConversionError::WrongIpldKind`] if the value is
+    /// of another kind.
     #[inline(always)]
     fn try_from(ipld: Ipld) -> Result<Vec<Ipld>, ConversionError> {
         match ipld {
@@ -297,7 +304,8 @@ impl TryFrom<Ipld> for BTreeMap<String, Ipld> {
 
     ghost try_from_gives = { Converts (λ m. members_of m.entries) (of_kind kind.Map entries_in) };
 
-    /// The members of a Map. [`ConversionError::WrongIpldKind`] for another kind.
+    /// Returns the members of a Map. Fails with [`ConversionError::WrongIpldKind`] if the value is
+    /// of another kind.
     #[inline(always)]
     fn try_from(ipld: Ipld) -> Result<BTreeMap<String, Ipld>, ConversionError> {
         match ipld {
@@ -312,7 +320,8 @@ impl TryFrom<Ipld> for Cid {
 
     ghost try_from_gives = { Converts link_of (of_kind kind.Link link_in) };
 
-    /// The CID of a Link. [`ConversionError::WrongIpldKind`] for another kind.
+    /// Returns the CID of a Link. Fails with [`ConversionError::WrongIpldKind`] if the value is of
+    /// another kind.
     #[inline(always)]
     fn try_from(ipld: Ipld) -> Result<Cid, ConversionError> {
         match ipld {

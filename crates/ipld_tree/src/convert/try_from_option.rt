@@ -1,4 +1,5 @@
-//! The content of a value of the data model, or nothing of a Null. Nothing allocates.
+//! Conversions of a value of the data model to its content, or to `None` for a Null. They do not
+//! allocate.
 
 ghost use Rattle.std.specs.Prelude.{◌≡◌, option_map, string_bytes};
 ghost use Rattle.ipld_cid.specs.LinkOf.{link_of};
@@ -13,7 +14,7 @@ use crate::ipld::Ipld;
 use ipld_cid::Cid;
 use std::collections::BTreeMap;
 
-// `None` of a Null, else what the type takes.
+// Returns `None` for a Null, and otherwise converts to the type.
 fn convert_unless_null<T: TryFrom<Ipld, Error = ConversionError>>(
     ipld: Ipld,
 ) -> Result<Option<T>, ConversionError>
@@ -30,7 +31,7 @@ impl TryFrom<Ipld> for Option<bool> {
 
     ghost try_from_gives = { Converts (option_map (λ b. b)) (optional (of_kind kind.Bool boolean_in)) };
 
-    /// `None` of a Null, else what `bool` takes, with its rejections.
+    /// Returns `None` for a Null, and otherwise converts to `bool`, with the same errors.
     #[tactic(auto, using(crate::proofs::Converting::optional_converts))]
     fn try_from(ipld: Ipld) -> Result<Option<bool>, ConversionError> {
         convert_unless_null(ipld)
@@ -42,7 +43,7 @@ impl TryFrom<Ipld> for Option<i8> {
 
     ghost try_from_gives = { Converts (option_map (λ n. n)) (optional (integer_within (signed_at 8) target_type.I8)) };
 
-    /// `None` of a Null, else what `i8` takes, with its rejections.
+    /// Returns `None` for a Null, and otherwise converts to `i8`, with the same errors.
     #[tactic(auto, using(crate::proofs::Converting::optional_converts))]
     fn try_from(ipld: Ipld) -> Result<Option<i8>, ConversionError> {
         convert_unless_null(ipld)
@@ -54,7 +55,7 @@ impl TryFrom<Ipld> for Option<i16> {
 
     ghost try_from_gives = { Converts (option_map (λ n. n)) (optional (integer_within (signed_at 16) target_type.I16)) };
 
-    /// `None` of a Null, else what `i16` takes, with its rejections.
+    /// Returns `None` for a Null, and otherwise converts to `i16`, with the same errors.
     #[tactic(auto, using(crate::proofs::Converting::optional_converts))]
     fn try_from(ipld: Ipld) -> Result<Option<i16>, ConversionError> {
         convert_unless_null(ipld)
@@ -66,7 +67,7 @@ impl TryFrom<Ipld> for Option<i32> {
 
     ghost try_from_gives = { Converts (option_map (λ n. n)) (optional (integer_within (signed_at 32) target_type.I32)) };
 
-    /// `None` of a Null, else what `i32` takes, with its rejections.
+    /// Returns `None` for a Null, and otherwise converts to `i32`, with the same errors.
     #[tactic(auto, using(crate::proofs::Converting::optional_converts))]
     fn try_from(ipld: Ipld) -> Result<Option<i32>, ConversionError> {
         convert_unless_null(ipld)
@@ -78,7 +79,7 @@ impl TryFrom<Ipld> for Option<i64> {
 
     ghost try_from_gives = { Converts (option_map (λ n. n)) (optional (integer_within (signed_at 64) target_type.I64)) };
 
-    /// `None` of a Null, else what `i64` takes, with its rejections.
+    /// Returns `None` for a Null, and otherwise converts to `i64`, with the same errors.
     #[tactic(auto, using(crate::proofs::Converting::optional_converts))]
     fn try_from(ipld: Ipld) -> Result<Option<i64>, ConversionError> {
         convert_unless_null(ipld)
@@ -90,7 +91,7 @@ impl TryFrom<Ipld> for Option<i128> {
 
     ghost try_from_gives = { Converts (option_map (λ n. n)) (optional (of_kind kind.Integer integer_in)) };
 
-    /// `None` of a Null, else what `i128` takes, with its rejections.
+    /// Returns `None` for a Null, and otherwise converts to `i128`, with the same errors.
     #[tactic(auto, using(crate::proofs::Converting::optional_converts))]
     fn try_from(ipld: Ipld) -> Result<Option<i128>, ConversionError> {
         convert_unless_null(ipld)
@@ -102,7 +103,7 @@ impl TryFrom<Ipld> for Option<isize> {
 
     ghost try_from_gives = { Converts (option_map (λ n. n)) (optional (integer_within (signed_at 64) target_type.Isize)) };
 
-    /// `None` of a Null, else what `isize` takes, with its rejections.
+    /// Returns `None` for a Null, and otherwise converts to `isize`, with the same errors.
     #[tactic(auto, using(crate::proofs::Converting::optional_converts))]
     fn try_from(ipld: Ipld) -> Result<Option<isize>, ConversionError> {
         convert_unless_null(ipld)
@@ -114,7 +115,7 @@ impl TryFrom<Ipld> for Option<u8> {
 
     ghost try_from_gives = { Converts (option_map (λ n. n)) (optional (integer_within (unsigned_at 8) target_type.U8)) };
 
-    /// `None` of a Null, else what `u8` takes, with its rejections.
+    /// Returns `None` for a Null, and otherwise converts to `u8`, with the same errors.
     #[tactic(auto, using(crate::proofs::Converting::optional_converts))]
     fn try_from(ipld: Ipld) -> Result<Option<u8>, ConversionError> {
         convert_unless_null(ipld)
@@ -126,7 +127,7 @@ impl TryFrom<Ipld> for Option<u16> {
 
     ghost try_from_gives = { Converts (option_map (λ n. n)) (optional (integer_within (unsigned_at 16) target_type.U16)) };
 
-    /// `None` of a Null, else what `u16` takes, with its rejections.
+    /// Returns `None` for a Null, and otherwise converts to `u16`, with the same errors.
     #[tactic(auto, using(crate::proofs::Converting::optional_converts))]
     fn try_from(ipld: Ipld) -> Result<Option<u16>, ConversionError> {
         convert_unless_null(ipld)
@@ -138,7 +139,7 @@ impl TryFrom<Ipld> for Option<u32> {
 
     ghost try_from_gives = { Converts (option_map (λ n. n)) (optional (integer_within (unsigned_at 32) target_type.U32)) };
 
-    /// `None` of a Null, else what `u32` takes, with its rejections.
+    /// Returns `None` for a Null, and otherwise converts to `u32`, with the same errors.
     #[tactic(auto, using(crate::proofs::Converting::optional_converts))]
     fn try_from(ipld: Ipld) -> Result<Option<u32>, ConversionError> {
         convert_unless_null(ipld)
@@ -150,7 +151,7 @@ impl TryFrom<Ipld> for Option<u64> {
 
     ghost try_from_gives = { Converts (option_map (λ n. n)) (optional (integer_within (unsigned_at 64) target_type.U64)) };
 
-    /// `None` of a Null, else what `u64` takes, with its rejections.
+    /// Returns `None` for a Null, and otherwise converts to `u64`, with the same errors.
     #[tactic(auto, using(crate::proofs::Converting::optional_converts))]
     fn try_from(ipld: Ipld) -> Result<Option<u64>, ConversionError> {
         convert_unless_null(ipld)
@@ -162,7 +163,7 @@ impl TryFrom<Ipld> for Option<u128> {
 
     ghost try_from_gives = { Converts (option_map (λ n. n)) (optional (integer_within not_negative target_type.U128)) };
 
-    /// `None` of a Null, else what `u128` takes, with its rejections.
+    /// Returns `None` for a Null, and otherwise converts to `u128`, with the same errors.
     #[tactic(auto, using(crate::proofs::Converting::optional_converts))]
     fn try_from(ipld: Ipld) -> Result<Option<u128>, ConversionError> {
         convert_unless_null(ipld)
@@ -174,7 +175,7 @@ impl TryFrom<Ipld> for Option<usize> {
 
     ghost try_from_gives = { Converts (option_map (λ n. n)) (optional (integer_within (unsigned_at 64) target_type.Usize)) };
 
-    /// `None` of a Null, else what `usize` takes, with its rejections.
+    /// Returns `None` for a Null, and otherwise converts to `usize`, with the same errors.
     #[tactic(auto, using(crate::proofs::Converting::optional_converts))]
     fn try_from(ipld: Ipld) -> Result<Option<usize>, ConversionError> {
         convert_unless_null(ipld)
@@ -186,7 +187,7 @@ impl TryFrom<Ipld> for Option<String> {
 
     ghost try_from_gives = { Converts (option_map string_bytes) (optional (of_kind kind.String text_in)) };
 
-    /// `None` of a Null, else what `String` takes, with its rejections.
+    /// Returns `None` for a Null, and otherwise converts to `String`, with the same errors.
     #[tactic(auto, using(crate::proofs::Converting::optional_converts))]
     fn try_from(ipld: Ipld) -> Result<Option<String>, ConversionError> {
         convert_unless_null(ipld)
@@ -198,7 +199,7 @@ impl TryFrom<Ipld> for Option<Vec<u8>> {
 
     ghost try_from_gives = { Converts (option_map (λ v. v.items)) (optional (of_kind kind.Bytes bytes_in)) };
 
-    /// `None` of a Null, else what `Vec<u8>` takes, with its rejections.
+    /// Returns `None` for a Null, and otherwise converts to `Vec<u8>`, with the same errors.
     #[tactic(auto, using(crate::proofs::Converting::optional_converts))]
     fn try_from(ipld: Ipld) -> Result<Option<Vec<u8>>, ConversionError> {
         convert_unless_null(ipld)
@@ -210,7 +211,7 @@ impl TryFrom<Ipld> for Option<Vec<Ipld>> {
 
     ghost try_from_gives = { Converts (option_map (λ v. items_of v.items)) (optional (of_kind kind.List list_in)) };
 
-    /// `None` of a Null, else what `Vec<Ipld>` takes, with its rejections.
+    /// Returns `None` for a Null, and otherwise converts to `Vec<Ipld>`, with the same errors.
     #[tactic(auto, using(crate::proofs::Converting::optional_converts))]
     fn try_from(ipld: Ipld) -> Result<Option<Vec<Ipld>>, ConversionError> {
         convert_unless_null(ipld)
@@ -222,7 +223,8 @@ impl TryFrom<Ipld> for Option<BTreeMap<String, Ipld>> {
 
     ghost try_from_gives = { Converts (option_map (λ m. members_of m.entries)) (optional (of_kind kind.Map entries_in)) };
 
-    /// `None` of a Null, else what `BTreeMap<String, Ipld>` takes, with its rejections.
+    /// Returns `None` for a Null, and otherwise converts to `BTreeMap<String, Ipld>`, with the same
+    /// errors.
     #[tactic(auto, using(crate::proofs::Converting::optional_converts))]
     fn try_from(ipld: Ipld) -> Result<Option<BTreeMap<String, Ipld>>, ConversionError> {
         convert_unless_null(ipld)
@@ -234,7 +236,7 @@ impl TryFrom<Ipld> for Option<Cid> {
 
     ghost try_from_gives = { Converts (option_map link_of) (optional (of_kind kind.Link link_in)) };
 
-    /// `None` of a Null, else what `Cid` takes, with its rejections.
+    /// Returns `None` for a Null, and otherwise converts to `Cid`, with the same errors.
     #[tactic(auto, using(crate::proofs::Converting::optional_converts))]
     fn try_from(ipld: Ipld) -> Result<Option<Cid>, ConversionError> {
         convert_unless_null(ipld)

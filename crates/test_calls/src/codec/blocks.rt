@@ -1,4 +1,4 @@
-//! Blocks of plain bytes: what is written, what is read, what is rejected.
+//! Blocks of plain bytes: written, read and rejected.
 
 use crate::codec::generic::{encode_generic, sent_and_received};
 use dag_cbor::DagCborCodec;

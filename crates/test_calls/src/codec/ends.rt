@@ -13,7 +13,7 @@ use std::io::{self, BufRead, Error, ErrorKind, Read, Write};
 use std::process::Abort;
 use std::test::Fail;
 
-/// Fails each write.
+/// A writer that fails on each write.
 #[derive(Drop)]
 struct Fails {
     kind: ErrorKind,
@@ -161,7 +161,7 @@ fn ends_of_blocks_of_dag_cbor(rt: HostRuntime) {
     assert!(rt; outcome == Err(CborError::Write));
 }
 
-// A writer that takes no byte has failed, and isn't tried again without end.
+// Checks that a writer that takes no byte counts as failed, and isn't retried endlessly.
 #[test]
 fn reports_a_writer_that_takes_no_byte(rt: HostRuntime) -> Result<(), Fail> {
     let alloc = rt.alloc();
@@ -175,7 +175,7 @@ fn reports_a_writer_that_takes_no_byte(rt: HostRuntime) -> Result<(), Fail> {
     Ok(())
 }
 
-// A number that no block has is rejected for that, before anything is written.
+// Checks that a number out of a block's range is rejected before anything is written.
 #[test]
 fn reports_a_number_out_of_range(rt: HostRuntime) {
     let alloc = rt.alloc();

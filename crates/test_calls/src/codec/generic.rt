@@ -6,7 +6,7 @@ ghost use Rattle.ipld_codec.specs.Codec.{writing, MemoryOr};
 use ipld_core::codec::Codec;
 use std::alloc::Global;
 
-/// The block of a value.
+/// Returns the block of a value.
 pub fn encode_generic<C, T>(alloc: Global, value: &T) -> Result<Vec<u8>, C::Error>
 where
     C: Codec<T>,
@@ -17,7 +17,8 @@ where
     C::encode_to_vec(alloc, value)
 }
 
-/// What the block of a value decodes to: the same value. It is rejected only where the value can't be written, but for failures.
+/// Returns the value that the block of a value decodes to, which is the same value. Other than for
+/// failures, it is rejected only if the value can't be written.
 pub fn sent_and_received<C, T>(alloc: Global, value: &T) -> Result<T, C::Error>
 where
     C: Codec<T>,

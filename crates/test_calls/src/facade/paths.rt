@@ -1,4 +1,4 @@
-//! Each public path of `ipld_core`: this crate doesn't build where one is missing.
+//! Each public path of `ipld_core`. This crate doesn't build if one is missing.
 
 pub mod cid {
     pub use ipld_core::cid::laws::{cid_bytes_law, cid_order_law, cid_text_law};

@@ -1,4 +1,5 @@
-//! One value through all of the crate: made, walked for its links, written as tokens and read back.
+//! One value through all of the crate: built, walked for its links, written as tokens and read
+//! back.
 
 use ipld_core::cid::{Cid, CidGeneric};
 use ipld_core::ipld;

@@ -1,4 +1,4 @@
-//! Readers that come in pieces, that are interrupted and that fail, and writers that fail.
+//! Readers that return pieces, are interrupted or fail, and writers that fail.
 
 use crate::links::runs::{outcome_of, runs};
 use crate::pieces::{Full, Pieces};
@@ -8,10 +8,10 @@ use std::alloc::Global;
 use std::io::{self, Error, ErrorKind, Write};
 use std::process::Abort;
 
-// What is written for a word that is none.
+// The output for an unknown word.
 const USAGE: &str = "usage: ipld_links [cid|links|refs|cbor]\n";
 
-/// Takes so many bytes, and then fails.
+/// A writer that takes `left` bytes, and then fails.
 #[derive(Drop)]
 struct Capacity {
     left: usize,
@@ -43,7 +43,7 @@ impl Write for Capacity {
     }
 }
 
-// The word, run on the pieces, returns and writes this, and has taken all of them.
+// Checks the result and the output of the word on the pieces, and that all of them were read.
 fn reads_pieces(
     rt: &impl Abort,
     alloc: Global,
@@ -57,7 +57,8 @@ fn reads_pieces(
     assert!(rt; reader.bytes.is_empty(), "{word}: {size}");
 }
 
-// The word, run on the input, ends with an error of the writer, which took this beginning of the output. How much is not read.
+// Checks that the word on the input fails with an error of the writer, which took this beginning of
+// the output. Returns how many bytes of the input are not read.
 fn fills_capacity(rt: &impl Abort, alloc: Global, word: &str, input: &str, output: &[u8]) -> usize {
     let mut reader = input.as_bytes();
     let mut writer = Capacity::new(alloc, output.len());
@@ -80,7 +81,8 @@ fn reads_pieces_of_any_size(rt: HostRuntime) {
     }
 }
 
-/// Inputs of `cid`, how the reader then fails, what is returned, and what is written.
+/// Inputs of `cid`, with the reader's error after them, the expected result, and the expected
+/// output.
 const BROKEN_OFF: [(&str, ErrorKind, RunFault, &str); 6] = [
     ("", ErrorKind::Other, RunFault::Read, ""),
     (
@@ -146,7 +148,7 @@ fn reads_pieces_of_tokens_of_any_size(rt: HostRuntime) {
     }
 }
 
-// Both words end with this error, and write nothing.
+// Checks that both words return this error, and write nothing.
 fn write_nothing(
     rt: &impl Abort,
     alloc: Global,
@@ -176,7 +178,8 @@ fn writes_nothing_before_all_lines_are_read(rt: HostRuntime) {
     }
 }
 
-/// Words and inputs, what is written for them, and how much of the input is not read where that is known.
+/// Words and inputs, the expected output, and the number of bytes of the input that are not read,
+/// if it is known.
 const WRITTEN: [(&str, &str, &str, Option<usize>); 8] = [
     ("cid", LINES, OUTPUT, None),
     ("", LINES, USAGE, Some(LINES.len())),
@@ -207,7 +210,7 @@ fn reports_a_writer_that_takes_no_byte(rt: HostRuntime) {
     }
 }
 
-// The reader fails after the first of two lines, the writer at its first write.
+// The reader fails after the first of two lines, and the writer at its first write.
 #[test]
 fn reports_ends_that_fail_at_once(rt: HostRuntime) {
     let lines = b"01550000\n01550000\n";

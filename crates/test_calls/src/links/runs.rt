@@ -1,4 +1,4 @@
-//! Runs of the program, with what each is to return and to write.
+//! Runs of the program, with the expected results and outputs.
 
 use ipld_links_run::{RunFault, Status, run};
 use std::alloc::Global;
@@ -6,7 +6,7 @@ use std::fmt::Display;
 use std::io::{BufRead, Write};
 use std::process::Abort;
 
-/// What the program returns.
+/// Returns the result of the program.
 pub fn outcome_of<R: BufRead, W: Write>(
     alloc: Global,
     word: &str,
@@ -16,7 +16,8 @@ pub fn outcome_of<R: BufRead, W: Write>(
     run(alloc, word, reader, writer)
 }
 
-/// The program, run with the word on what the reader reads, returns and writes this. Fails with the name where it does not.
+/// Checks the result and the output of the program, run with the word on the reader's input. The
+/// message of a failure has the name.
 pub fn runs<R: BufRead, N: Display + Copy>(
     rt: &impl Abort,
     alloc: Global,

@@ -1,4 +1,4 @@
-//! Blocks that a recursion reads.
+//! Blocks that are read by recursion.
 
 use crate::blocks::{FLOAT, with_floats};
 use dag_cbor::{BlockSize, check_block, count_links, measure_block};

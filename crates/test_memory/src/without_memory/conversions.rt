@@ -9,7 +9,7 @@ use std::alloc::Global;
 use std::collections::BTreeMap;
 use std::process::Abort;
 
-// The type takes the value from the tree.
+// Checks that the type takes the value from the tree.
 fn takes<T>(rt: &impl Abort, tree: Ipld, value: T)
 where
     T: TryFrom<Ipld, Error = ConversionError> + PartialEq + Drop,
@@ -17,7 +17,7 @@ where
     assert!(rt; T::try_from(tree) == Ok(value));
 }
 
-// The number goes into a tree and comes back.
+// Checks that the number makes a round trip through a tree.
 fn keeps<T>(rt: &impl Abort, number: T)
 where
     T: Into<Ipld> + TryFrom<Ipld, Error = ConversionError> + PartialEq + Copy,
@@ -91,7 +91,7 @@ fn of_other_kinds(rt: HostRuntime) -> Result<(), Ended> {
     Ok(())
 }
 
-// The type takes the tree of one kind, of no other, and `None` of Null if the type is an `Option`.
+// Checks that the type takes the tree of only one kind. An `Option` also takes Null, as `None`.
 fn takes_kind<T>(
     rt: &impl Abort,
     alloc: Global,
@@ -113,7 +113,7 @@ where
     Ok(())
 }
 
-// The type and its `Option`.
+// Checks the type and its `Option`.
 fn both_take_kind<T>(rt: &impl Abort, alloc: Global, expected: IpldKind) -> Result<(), Ended>
 where
     T: TryFrom<Ipld, Error = ConversionError> + Drop,
@@ -152,7 +152,7 @@ fn of_each_kind_to_others(rt: HostRuntime) -> Result<(), Ended> {
     both_take_kind::<Cid>(&rt, alloc, IpldKind::Link)
 }
 
-// Neither the type nor its `Option` has the number.
+// Checks that neither the type nor its `Option` has the number.
 fn lacks<T>(rt: &impl Abort, number: i128, into: TargetType)
 where
     T: TryFrom<Ipld, Error = ConversionError> + Drop,

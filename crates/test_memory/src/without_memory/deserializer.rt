@@ -1,4 +1,4 @@
-//! The calls by which a tree is read, and the cursors over no items.
+//! The calls that read a tree, and the cursors over no items.
 
 use crate::ended::{Ended, reported};
 use crate::samples::{A, KINDS, cid, of_kind, reads_kind, rejects, returns};
@@ -10,7 +10,7 @@ use std::alloc::Global;
 use std::collections::BTreeMap;
 use std::process::Abort;
 
-// The tree is read as the value.
+// Checks that the tree is read as the value.
 fn reads<T: Deserialize + PartialEq>(rt: &impl Abort, alloc: Global, tree: Ipld, value: T) {
     assert!(rt; from_ipld(alloc, tree) == Ok(value));
 }
@@ -112,7 +112,7 @@ fn maps(rt: HostRuntime) -> Result<(), Ended> {
     Ok(())
 }
 
-// A variant without content, whose name is empty.
+// Returns a variant without content, with an empty name.
 fn empty_variant(alloc: Global) -> Result<VariantDeserializer, Ended> {
     let read = reported(
         "deserialize_enum",
@@ -172,7 +172,7 @@ fn reads_texts_and_bytes(rt: &impl Abort, alloc: Global, found: IpldKind) -> Res
     reads_kind(rt, found, IpldKind::Bytes, tree.deserialize_byte_buf());
     let outcome = of_kind(alloc, found)?.deserialize_char();
     let is_text = found == IpldKind::String;
-    // The text has no character.
+    // The string has no character.
     assert!(rt;
         outcome
             == Err(if is_text {

@@ -1,4 +1,4 @@
-//! CIDs read, made, taken apart, compared and printed, and CIDs of blocks.
+//! CIDs read, created, taken apart, compared and printed, and CIDs of blocks.
 
 use crate::ended::Ended;
 use crate::samples::{A, B, cid};
@@ -78,7 +78,7 @@ fn to_buffers_and_hashes(rt: HostRuntime) -> Result<(), Ended> {
     Ok(())
 }
 
-// The bytes are no CID, and the first fault is this.
+// Checks that the bytes are not a CID, and that this is the first error.
 fn is_rejected(rt: &impl Abort, bytes: &[u8], expected: CidError) {
     assert!(rt; Cid::try_from(bytes) == Err(expected));
 }

@@ -1,4 +1,4 @@
-//! Values that are written without memory.
+//! Values that are written without an allocation.
 
 use crate::ended::{Ended, reported};
 use crate::samples::{A, cid, rejects, returns};
@@ -9,7 +9,7 @@ use std::alloc::Global;
 use std::collections::BTreeMap;
 use std::process::Abort;
 
-// The value is written as the tree.
+// Checks that the value is written as the tree.
 fn writes<T: Serialize>(rt: &impl Abort, alloc: Global, value: T, tree: Ipld)
 where
     T: Drop,
@@ -25,7 +25,7 @@ fn values_and_links(rt: HostRuntime) -> Result<(), Ended> {
     writes(&rt, alloc, None::<u8>, Ipld::Null);
     writes(&rt, alloc, Some(7u8), Ipld::Integer(7));
     writes(&rt, alloc, Ipld::Null, Ipld::Null);
-    // Something without anything is written as nothing is.
+    // `Some` of nothing is written as nothing is.
     writes(&rt, alloc, Some(None::<u8>), Ipld::Null);
     writes(&rt, alloc, Some(Ipld::Null), Ipld::Null);
     assert!(rt; to_ipld(alloc, &UnitStruct) == Err(SerdeError::UnitStruct));

@@ -1,4 +1,4 @@
-//! Sources of tokens, what is read from a few, codecs, and ends that fail.
+//! Sources of tokens, values read from a few tokens, codecs, and ends that fail.
 
 use crate::ended::{Ended, reported};
 use crate::samples::A;

@@ -1,4 +1,4 @@
-//! Trees of no items, measured, looked into and compared.
+//! Empty trees, measured, looked into and compared.
 
 use crate::ended::Ended;
 use crate::samples::{A, KINDS, cid, of_kind};
@@ -39,7 +39,7 @@ fn indexes(rt: HostRuntime) {
     assert!(rt; usize::try_from(empty.into_index()).is_err());
 }
 
-// What is neither a list nor a map is rejected by its kind, whatever the index is.
+// Checks that a tree other than a list or a map is rejected by its kind, whatever the index is.
 fn is_no_container(rt: &impl Abort, alloc: Global, kind: IpldKind) -> Result<(), Ended> {
     let tree = of_kind(alloc, kind)?;
     assert!(rt; tree.get(0) == Err(IndexError::WrongKind(kind)));
@@ -68,7 +68,7 @@ fn kinds_that_hold_nothing(rt: HostRuntime) -> Result<(), Ended> {
     Ok(())
 }
 
-// A list takes a text as Rust reads a `usize`.
+// Checks that a list reads a text as Rust reads a `usize`.
 #[test]
 fn texts_as_indexes_of_a_list(rt: HostRuntime) {
     let alloc = rt.alloc();

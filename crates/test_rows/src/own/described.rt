@@ -1,4 +1,4 @@
-//! Types of one's own that say their fields and their variants once.
+//! Custom types that describe their fields and their variants once.
 
 // [begin: uses]
 ghost use Rattle.std.specs.Prelude.{[], ◌∷◌, codes};
@@ -19,15 +19,15 @@ use std::collections::BTreeMap;
 /// A trip.
 #[derive(Debug, PartialEq, Eq, Drop)]
 pub struct Trip {
-    /// What it is called.
+    /// The name of the trip.
     pub title: String,
-    /// How many days it takes.
+    /// The number of days that it takes.
     pub days: u32,
     /// The places on the way.
     pub stops: Vec<String>,
     /// The block of a photo.
     pub photo: Option<Cid>,
-    /// What was spent, by purpose.
+    /// The expenses, by purpose.
     pub costs: BTreeMap<String, i64>,
 }
 // [end: trip]
@@ -87,9 +87,9 @@ pub enum Shape {
     },
     /// Two ends.
     Segment {
-        /// Where it begins.
+        /// The beginning.
         from: i64,
-        /// Where it ends.
+        /// The end.
         to: i64,
     },
 }

@@ -1,4 +1,5 @@
-//! Types of each form that say once how they are written and read: an enum with variants of each kind, a newtype and a tuple struct.
+//! Types of each form that describe once how they are written and read: an enum with variants of
+//! each kind, a newtype and a tuple struct.
 
 ghost use Rattle.std.specs.Prelude.{[], ◌∷◌, codes};
 ghost use Rattle.ipld_de.specs.Described.{inl, inr, refl, structure, field, optional, around, enumeration, unit, holds, has_fields, named, named_optional, string, byte_buf, bool, u32, i64, pair, triple};
@@ -12,22 +13,22 @@ use ipld_tree::Ipld;
 use std::alloc::Global;
 
 // [begin: event]
-/// What happened on a trip.
+/// An event on a trip.
 #[derive(Debug, PartialEq, Eq, Drop)]
 pub enum Event {
     /// It began.
     Started,
-    /// Something was said.
+    /// A remark.
     Said(String),
-    /// So many people were met, or none was.
+    /// A number of people were met, or nobody was.
     Met(i64, bool),
     /// A way was taken.
     Moved {
-        /// Where it began.
+        /// The place where it began.
         from: i64,
-        /// Where it ended.
+        /// The place where it ended.
         to: i64,
-        /// By which means.
+        /// The means of travel.
         by: String,
     },
 }
@@ -184,11 +185,11 @@ impl Lawful for Place {
 /// A photo that was taken.
 #[derive(Debug, PartialEq, Eq, Drop)]
 pub struct Photo {
-    /// What it shows, where that was said.
+    /// The subject, if it was given.
     pub title: Option<String>,
     /// The file.
     pub file: ByteBuf,
-    /// How many people like it, where they were asked.
+    /// The number of people who like it, if they were asked.
     pub likes: Option<i64>,
 }
 
@@ -230,7 +231,7 @@ impl Lawful for Photo {
 // [end: photo]
 
 // [begin: empty]
-/// A mark without anything beside it.
+/// A mark without content.
 #[derive(Debug, PartialEq, Eq, Drop)]
 pub struct Mark {}
 
@@ -277,9 +278,9 @@ pub enum Signal {
     Stop {},
     /// To go.
     Go {
-        /// How fast.
+        /// The speed.
         speed: i64,
-        /// Where to, if that is known.
+        /// The destination, if it is known.
         to: Option<String>,
     },
 }

@@ -1,4 +1,4 @@
-//! Types of one's own that are the keys of maps.
+//! Custom types that are the keys of maps.
 
 // [begin: uses]
 ghost use Rattle.std.specs.Prelude.{◌||◌, codes, refl, string_bytes};
@@ -12,14 +12,14 @@ use std::alloc::Global;
 // [end: uses]
 
 // [begin: colour]
-/// A colour. The variants stand by name.
+/// A colour. The variants are in the order of their names.
 #[derive(Clone, Copy, Debug, PartialEq, Eq, PartialOrd, Ord)]
 pub enum Colour {
-    /// As the sky.
+    /// Like the sky.
     Blue,
-    /// As grass.
+    /// Like grass.
     Green,
-    /// As blood.
+    /// Like blood.
     Red,
 }
 

@@ -1,4 +1,4 @@
-//! Types that hold CIDs and own no memory: structs, an enum and a newtype.
+//! Types that contain CIDs and own no memory: structs, an enum and a newtype.
 
 ghost use Rattle.std.specs.Prelude.{[], ◌∷◌, codes};
 ghost use Rattle.ipld_de.specs.Described.{inl, inr, refl, structure, field, optional, around, enumeration, holds, has_fields, named, u32, i64, cid};
@@ -59,7 +59,7 @@ impl Lawful for Root {
 /// A post that links to something.
 #[derive(Debug, Drop)]
 pub struct Post {
-    /// What it links to.
+    /// The block that it links to.
     pub link: Cid,
 }
 
@@ -97,7 +97,7 @@ impl Lawful for Post {
     ghost round_trip = { ⟦<Post as Described>⟧.known.law };
 }
 
-/// A file beside a post.
+/// A file that belongs to a post.
 #[derive(Debug, Drop)]
 pub struct Attachment {
     /// Its first block.
@@ -158,9 +158,9 @@ impl Lawful for Attachment {
 /// A way from one block to another.
 #[derive(Debug, Drop)]
 pub struct Edge {
-    /// Where it begins.
+    /// The first block.
     pub from: Cid,
-    /// Where it ends.
+    /// The last block.
     pub to: Cid,
 }
 
@@ -204,7 +204,7 @@ impl Lawful for Edge {
 pub struct Version {
     /// The file as it is now.
     pub content: Cid,
-    /// How many versions there are up to it.
+    /// The number of versions up to it.
     pub number: u32,
     /// The version that it was made from.
     pub parent: Option<Cid>,
@@ -252,19 +252,19 @@ impl Lawful for Version {
     ghost round_trip = { ⟦<Version as Described>⟧.known.law };
 }
 
-/// What was done to a file.
+/// A change of a file.
 #[derive(Debug, Drop)]
 pub enum Change {
-    /// It was put there.
+    /// The file was created.
     Created(Cid),
-    /// It stands in another directory.
+    /// The file was moved to another directory.
     Moved {
-        /// The directory that it stood in.
+        /// The directory that it was in.
         from: Cid,
-        /// The directory that it stands in.
+        /// The directory that it is in.
         to: Cid,
     },
-    /// It has another length.
+    /// The file has another length.
     Resized {
         /// Its first block.
         file: Cid,

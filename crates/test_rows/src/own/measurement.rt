@@ -1,4 +1,4 @@
-//! A type of one's own: how it is written, how it is read, and that it round-trips.
+//! A custom type: how it is written, how it is read, and that it round-trips.
 
 // [begin: uses]
 ghost use Rattle.std.specs.Prelude.{⊤, ◌∷◌, [], ℕ, ℤ, List, Option, Some, option_map, refl, codes, string_bytes};
@@ -20,14 +20,14 @@ use std::alloc::Global;
 // [end: uses]
 
 // [begin: measurement]
-/// What was measured at a place.
+/// A measurement at a place.
 #[derive(Debug, PartialEq, Eq, Drop)]
 pub struct Measurement {
     /// The place.
     pub place: String,
     /// The temperature, in whole degrees.
     pub degrees: i32,
-    /// What else was seen.
+    /// Other observations.
     pub note: Option<String>,
 }
 // [end: measurement]
@@ -53,7 +53,7 @@ impl Serialize for Measurement {
 // [begin: read]
 type MeasurementFields = (Field<String>, (Field<i32>, Field<Option<String>>));
 
-/// A Map of the three fields; other names are ignored.
+/// A Map of the three fields. Other names are ignored.
 impl Deserialize for Measurement {
     ghost Contents = { List ℕ × (ℤ × Option (List ℕ)) };
 
@@ -81,7 +81,7 @@ impl Deserialize for Measurement {
 // [end: read]
 
 // [begin: law]
-/// Plain where the note is.
+/// Plain if the note is.
 impl Lawful for Measurement {
     ghost plain = { λ m. OptionPlain (λ s. Some (text (string_bytes s))) (λ _. ⊤) m.note };
 
