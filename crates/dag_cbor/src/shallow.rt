@@ -1,6 +1,7 @@
 //! The tree of a block that nests little, read by recursion.
 //!
-//! It is the fast way of reading a tree, and says of no block what is wrong with it: where it returns no tree, another reads the block.
+//! This is the fast way of reading a tree, but it does not report the error of a block. If it does
+//! not return a tree, another function has to read the block.
 
 ghost use Rattle.std.specs.Prelude.{◌≡◌, ◌≤◌, ◌++◌, ◌∷◌, [], ℕ, false, Some, map, string_bytes, IfOk, OnOk};
 ghost use Rattle.std.specs.BTreeMap.{IsFromIterResult};
@@ -24,10 +25,12 @@ use ipld_tree::{Ipld, list_capacity};
 use std::alloc::{AllocError, Global};
 use std::collections::BTreeMap;
 
-// From so many entries on a map is made of all of them at once, which takes less than to insert each.
+// A map with at least this many entries is made of all of them at once, which is cheaper than
+// inserting them one by one.
 const MANY: u64 = 12;
 
-// A value behind its head, put where it is to stand; each returns what follows it. The first four hold no others.
+// The functions below read a value after its head into `value`, and return the bytes after it. The
+// values of the first four contain no others.
 
 #[inline(never)]
 fn read_byte_string<'a>(
@@ -101,8 +104,9 @@ fn read_simple<'a>(value: &mut Ipld, number: u64, bytes: &'a [u8]) -> Result<&'a
     }
 }
 
-// `left` is how many of the bytes the items or entries behind the value need at least, and `owed` what stands around their list or map
-// does, so that no list reserves what the bytes can't fill.
+// `left` is the minimum number of bytes that the items or entries after the value need. `owed` is
+// the same for everything around their list or map. So no list reserves capacity that the bytes
+// cannot fill.
 #[cycle(shallow)]
 #[inline(always)]
 fn read_content<'a>(
@@ -164,6 +168,16 @@ fn read_content<'a>(
     }
 }
 
+// Creates an empty list with memory for `count` values, the first of those that a head announces.
+// The bound keeps a head without values from reserving memory.
+#[inline(always)]
+fn with_announced<T>(alloc: Global, count: usize) -> Result<Vec<T>, AllocError>
+    requires { count ≤ 4096 }
+    ensures { IfOk result (λ values. values.items ≡ []) }
+{
+    Vec::with_capacity(alloc, count)
+}
+
 #[cycle(shallow)]
 #[inline(never)]
 fn read_list<'a>(
@@ -184,7 +198,7 @@ fn read_list<'a>(
     if count as usize > bytes.len().saturating_sub(owed) {
         return Err(Stop::Unread);
     }
-    let mut items = Vec::with_capacity(alloc, list_capacity(Some(count as usize)))?;
+    let mut items = with_announced(alloc, list_capacity(Some(count as usize)))?;
     let mut rest = bytes;
     let mut left = count;
     while left > 0 {
@@ -196,7 +210,7 @@ fn read_list<'a>(
     Ok(rest)
 }
 
-// Puts the value that the bytes begin with behind the others of a list, and returns what follows it.
+// Appends the value at the front of the bytes to a list, and returns the bytes after it.
 #[cycle(shallow)]
 #[inline(always)]
 fn add_item<'a>(
@@ -225,7 +239,7 @@ fn add_item<'a>(
     }
 }
 
-// The same behind the value's head.
+// Does the same after the value's head.
 #[cycle(shallow)]
 #[inline(always)]
 fn add_content<'a>(
@@ -292,7 +306,8 @@ fn read_map<'a>(
     Ok(rest)
 }
 
-// Puts the pair that the bytes begin with into a map, which doesn't have its key yet, and returns what follows it.
+// Inserts the pair at the front of the bytes into a map, which must not have its key yet, and
+// returns the bytes after it.
 #[cycle(shallow)]
 #[inline(always)]
 fn add_entry<'a>(
@@ -316,7 +331,7 @@ fn add_entry<'a>(
     Ok(rest)
 }
 
-// Puts a value under a key that the map doesn't have yet.
+// Inserts a value under a key that the map must not have yet.
 #[inline(always)]
 fn insert_member(members: &mut BTreeMap<String, Ipld>, key: String, value: Ipld) -> Result<(), Stop>
     ensures absent { OnOk result (has_key (string_bytes key) (members_of members.old.entries)
@@ -351,7 +366,7 @@ fn read_large_map<'a>(
     if count as usize > bytes.len().saturating_sub(owed) {
         return Err(Stop::Unread);
     }
-    let mut entries = Vec::with_capacity(alloc, list_capacity(Some(count as usize)))?;
+    let mut entries = with_announced(alloc, list_capacity(Some(count as usize)))?;
     let mut rest = bytes;
     let mut left = count;
     while left > 0 {
@@ -364,7 +379,7 @@ fn read_large_map<'a>(
     Ok(rest)
 }
 
-// Puts the entry that the bytes begin with behind the others, and returns what follows it.
+// Appends the entry at the front of the bytes to the others, and returns the bytes after it.
 #[cycle(shallow)]
 #[inline(always)]
 fn push_entry<'a>(
@@ -388,14 +403,14 @@ fn push_entry<'a>(
     Ok(rest)
 }
 
-// The map of entries, of which a later one takes the place of an earlier one with its key.
+// Returns the map of the entries. A later entry replaces an earlier one with the same key.
 fn map_of(alloc: Global, entries: Vec<(String, Ipld)>) -> Result<BTreeMap<String, Ipld>, AllocError>
     ensures { IfOk result (λ members. IsFromIterResult string_cmp entries.items members) }
 {
     entries.into_iter().collect(alloc)
 }
 
-// The map of entries whose keys differ: else it has fewer.
+// Returns the map of entries whose keys differ. If keys are equal, the map has fewer entries.
 fn map_of_distinct(
     alloc: Global,
     entries: Vec<(String, Ipld)>,
@@ -411,12 +426,14 @@ fn map_of_distinct(
     Ok(members)
 }
 
-/// Returns the tree that the bytes begin with, and what follows it, if the tree nests no deeper than so many levels, and no deeper than
-/// [`SHALLOW`](dag_cbor_blocks::shallow::SHALLOW), down to which it recurses.
+/// Decodes the tree at the front of the bytes, and returns it with the bytes after it. The tree may
+/// nest at most `levels` levels, and at most [`SHALLOW`](dag_cbor_blocks::shallow::SHALLOW) levels,
+/// down to which the function recurses.
 ///
 /// # Errors
 ///
-/// [`Stop::Memory`] where an allocation failed, and [`Stop::Unread`] where the bytes begin with no tree that nests so little.
+/// [`Stop::Memory`] if an allocation fails. [`Stop::Unread`] if the bytes do not begin with a tree
+/// that nests at most that deep.
 pub fn read_front<'a>(
     alloc: Global,
     bytes: &'a [u8],
@@ -431,7 +448,7 @@ pub fn read_front<'a>(
     Ok((tree, rest))
 }
 
-// The tree that the bytes of a block encode, all of the bytes, where it nests no deeper than so many levels.
+// Decodes a block from all of the bytes, if its tree nests at most `levels` levels.
 pub(crate) fn read_shallow(alloc: Global, bytes: &[u8], levels: usize) -> Result<Ipld, Stop>
     requires { levels ≤ 32 }
     ensures found { IfOk result (λ tree. EncodesTree (tree_of tree) bytes.now) }

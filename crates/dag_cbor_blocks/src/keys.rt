@@ -1,6 +1,6 @@
-//! The keys that an open map has.
+//! The keys of an open map.
 
-ghost use Rattle.std.specs.Prelude.{◌≡◌, [], IfOk};
+ghost use Rattle.std.specs.Prelude.{◌≡◌, ◌≤◌, [], IfOk};
 ghost use Rattle.dag_cbor_format.specs.Canonical.{goes_first, is_before};
 ghost use Rattle.dag_cbor_blocks.specs.KeyList.{keys_now, Adds, IsGreatest};
 
@@ -8,10 +8,12 @@ use std::alloc::{AllocError, Global};
 use std::cmp::Ordering;
 use std::collections::BTreeSet;
 
-// At most so many keys are reserved before any came, since a head may announce more than follow.
+// Capacity is reserved for at most this many keys in advance, because a head may announce more keys
+// than follow.
 const RESERVED: u64 = 16;
 
-// Keys of which each comes after the one before in length-first order (RFC 8949, section 4.2.3), and so differs from all before it.
+// Keys in length-first order (RFC 8949, section 4.2.3). Every key comes after the one before it,
+// and so differs from all before it.
 #[derive(Drop)]
 pub(crate) struct AscendingKeys<'a> {
     keys: Vec<&'a str>,
@@ -28,7 +30,7 @@ pub(crate) enum Keys<'a> {
     Any(BTreeSet<&'a str>),
 }
 
-// Whether bytes come before others in byte order, looked at one by one.
+// Returns whether `bytes` come before `others` in byte order. Compares byte by byte.
 #[inline(always)]
 fn precedes_by_bytes(bytes: &[u8], others: &[u8]) -> bool
     ensures { result ≡ is_before bytes.now others.now }
@@ -48,7 +50,7 @@ fn precedes_by_bytes(bytes: &[u8], others: &[u8]) -> bool
     !right.is_empty()
 }
 
-// Whether bytes come before others in byte order. Eight that are alike are skipped at once.
+// Returns whether `bytes` come before `others` in byte order. Skips equal bytes eight at a time.
 #[inline(always)]
 fn precedes(bytes: &[u8], others: &[u8]) -> bool
     ensures { result ≡ is_before bytes.now others.now }
@@ -68,7 +70,7 @@ fn precedes(bytes: &[u8], others: &[u8]) -> bool
     precedes_by_bytes(left, right)
 }
 
-// Whether a key comes after another in length-first order.
+// Returns whether a key comes after another in length-first order.
 #[inline(always)]
 pub(crate) fn comes_after(key: &str, other: &str) -> bool
     ensures { result ≡ goes_first other.now key.now }
@@ -80,26 +82,36 @@ pub(crate) fn comes_after(key: &str, other: &str) -> bool
     }
 }
 
+// Reserves memory for the first `count` keys of a map. The bound keeps a head without keys from
+// reserving memory.
+#[inline(always)]
+fn reserve_keys(keys: &mut Vec<&str>, count: usize) -> Result<(), AllocError>
+    requires { count ≤ 16 }
+    ensures { keys.new.items ≡ keys.old.items }
+{
+    if keys.capacity() < count {
+        keys.reserve(count)?;
+    }
+    Ok(())
+}
+
 impl<'a> AscendingKeys<'a> {
     ghost use Rattle.dag_cbor_blocks.specs.Ascending.{keys_in, AddsGreatest};
 
-    // No keys, in the memory of those of another map, where so many are to come.
+    // Creates an empty collection in the memory of another map's keys. `count` keys are to come.
     #[inline(always)]
     fn with_memory(mut spare: Vec<&'a str>, count: u64) -> Result<Self, AllocError>
         ensures { IfOk result (λ keys. keys_in keys ≡ []) }
     {
         spare.clear();
-        let count = count.min(RESERVED) as usize;
-        if spare.capacity() < count {
-            spare.reserve(count)?;
-        }
+        reserve_keys(&mut spare, count.min(RESERVED) as usize)?;
         Ok(AscendingKeys {
             keys: spare,
             greatest: "",
         })
     }
 
-    // Adds a key where it comes after all of them, and says whether it does.
+    // Adds a key if it comes after all others, and returns whether it does.
     #[inline(always)]
     fn add_greatest(&mut self, key: &'a str) -> Result<bool, AllocError>
         ensures { AddsGreatest key.entry.now (keys_in self.old) result (keys_in self.new) }
@@ -113,7 +125,7 @@ impl<'a> AscendingKeys<'a> {
         }
     }
 
-    // These keys as a set.
+    // Returns these keys as a set.
     fn to_set(&self, alloc: Global) -> Result<BTreeSet<&'a str>, AllocError>
         ensures { IfOk result (λ set. keys_now set.keys ≡ keys_in self.now) }
     {
@@ -125,7 +137,7 @@ impl<'a> AscendingKeys<'a> {
     }
 }
 
-// Adds a key unless the set has it, and says whether it was new.
+// Adds a key unless the set has it, and returns whether it was new.
 fn insert_into<'a>(set: &mut BTreeSet<&'a str>, key: &'a str) -> Result<bool, AllocError>
     ensures { Adds key.entry.now (keys_now set.old.keys) result (keys_now set.new.keys) }
 {
@@ -135,7 +147,7 @@ fn insert_into<'a>(set: &mut BTreeSet<&'a str>, key: &'a str) -> Result<bool, Al
 impl<'a> Keys<'a> {
     ghost use Rattle.dag_cbor_blocks.specs.Keys.{seen_in};
 
-    // No keys, in the memory of those of another map, where so many are to come.
+    // Creates an empty collection in the memory of another map's keys. `count` keys are to come.
     #[inline(always)]
     pub(crate) fn with_memory(spare: Vec<&'a str>, count: u64) -> Result<Self, AllocError>
         ensures { IfOk result (λ keys. seen_in keys ≡ []) }
@@ -143,7 +155,8 @@ impl<'a> Keys<'a> {
         Ok(Keys::Ascending(AscendingKeys::with_memory(spare, count)?))
     }
 
-    // Adds a key unless they have it, and says whether it was new. It is put into a set where it doesn't come after all of them.
+    // Adds a key unless it is there already, and returns whether it was new. If it does not come
+    // after all others, the keys become a set.
     #[inline(always)]
     pub(crate) fn insert(&mut self, alloc: Global, key: &'a str) -> Result<bool, AllocError>
         ensures { Adds key.entry.now (seen_in self.old) result (seen_in self.new) }
@@ -156,7 +169,7 @@ impl<'a> Keys<'a> {
         self.insert_any(alloc, key)
     }
 
-    // Adds a key that doesn't come after all of them, or to a set.
+    // Adds a key that does not come after all others, or adds a key to a set.
     #[inline(never)]
     fn insert_any(&mut self, alloc: Global, key: &'a str) -> Result<bool, AllocError>
         ensures { Adds key.entry.now (seen_in self.old) result (seen_in self.new) }
@@ -170,7 +183,7 @@ impl<'a> Keys<'a> {
         Ok(is_new)
     }
 
-    // The memory of the keys, where they can be had for others.
+    // Returns the memory of the keys if other keys can use it.
     #[inline(always)]
     pub(crate) fn into_memory(self) -> Option<Vec<&'a str>> {
         match self {

@@ -1,4 +1,4 @@
-//! What holds of CIDs as bytes and as text.
+//! The laws of CIDs as bytes and as text.
 
 ghost use Rattle.std.specs.Prelude.{◌≡◌, ◌↔◌, ◌++◌, ◌∷◌, ℕ, List, Ok, Err, IsTrue};
 ghost use Rattle.std.specs.Cmp.{IsTotalOrder};
@@ -14,18 +14,21 @@ use crate::cid::Version;
 use crate::error::CidError;
 use std::cmp::Ordering;
 
-/// What holds of CIDs as bytes, at each capacity `S` for the digest. A call does nothing.
+/// States the laws of CIDs as bytes, for every capacity `S` for the digest. A call does nothing.
 ///
-/// - Reading returns a CID just where the bytes encode it.
-/// - Each valid CID has an encoding, and only one. What is encoded is valid, and bytes encode at most one CID.
-/// - Bytes are rejected as trailing just where they begin with the bytes of a CID and go on after it.
-/// - The bytes of a CID that are cut anywhere are rejected as ending early, so none begin the bytes of another CID.
+/// - Reading returns a CID if and only if the bytes encode it.
+/// - Every valid CID has exactly one encoding. An encoded CID is valid, and bytes encode at most
+///   one CID.
+/// - Bytes are rejected as trailing if and only if they are the bytes of a CID with more bytes
+///   after them.
+/// - The bytes of a CID that are cut anywhere are rejected as ending early. So the bytes of a CID
+///   never begin with those of another CID.
 pub fn cid_bytes_law<const S: usize>()
     ensures read_is_encoded { (bytes : List ℕ) (link : Link) → IsBytes bytes
         → read_cid S bytes ≡ Ok link → IsCid S bytes link }
     ensures encoded_is_read { (bytes : List ℕ) (link : Link) → IsCid S bytes link
         → read_cid S bytes ≡ Ok link }
-    ensures each_has_a_encoding { (link : Link) → IsValid S link → IsCid S (bytes_of link) link }
+    ensures each_has_an_encoding { (link : Link) → IsValid S link → IsCid S (bytes_of link) link }
     ensures encoded_is_valid { (bytes : List ℕ) (link : Link) → IsCid S bytes link
         → IsValid S link }
     ensures one_encoding { (bytes : List ℕ) (link : Link) → IsCid S bytes link
@@ -45,10 +48,12 @@ pub fn cid_bytes_law<const S: usize>()
         → IsCid S (front ++ x ∷ more) link → IsCid S front other → ⊥ }
 {}
 
-/// What holds of multihashes as bytes, at each capacity `S` for the digest. A call does nothing.
+/// States the laws of multihashes as bytes, for every capacity `S` for the digest. A call does
+/// nothing.
 ///
-/// - Reading returns a multihash just where the bytes encode it.
-/// - Each valid multihash has an encoding, and only one. What is encoded is valid, and bytes encode at most one multihash.
+/// - Reading returns a multihash if and only if the bytes encode it.
+/// - Every valid multihash has exactly one encoding. An encoded multihash is valid, and bytes
+///   encode at most one multihash.
 /// - Bytes after those of a multihash are rejected as trailing.
 pub fn multihash_bytes_law<const S: usize>()
     ensures read_is_encoded { (bytes : List ℕ) (hash : HashParts) → IsBytes bytes
@@ -68,10 +73,12 @@ pub fn multihash_bytes_law<const S: usize>()
         → read_hash S (front ++ x ∷ more) ≡ Err CidError.TrailingBytes }
 {}
 
-/// What holds of CIDs as text, at each capacity `S` for the digest. A call does nothing.
+/// States the laws of CIDs as text, for every capacity `S` for the digest. A call does nothing.
 ///
-/// - Reading a text returns a CID just where the text encodes it, and a text encodes at most one CID.
-/// - Each valid version 1 CID has a text, the printed one, and only that; so reading that returns the same CID.
+/// - Reading a text returns a CID if and only if the text encodes it, and a text encodes at most
+///   one CID.
+/// - Every valid version 1 CID has exactly one text, the printed one. So reading the printed text
+///   returns the same CID.
 /// - The text that is printed for a version 0 CID is rejected.
 pub fn cid_text_law<const S: usize>()
     ensures read_is_encoded { (text : List ℕ) (link : Link) → read_text S text ≡ Ok link
@@ -89,10 +96,10 @@ pub fn cid_text_law<const S: usize>()
         → read_text S (text_of link) ≡ Err CidError.InvalidText }
 {}
 
-/// What holds of the comparisons of CIDs. A call does nothing.
+/// States the laws of the comparisons of CIDs. A call does nothing.
 ///
-/// - Two CIDs are equal just where they have the same version, codec, hash code and digest.
-/// - The order is total, and ties only what is equal.
+/// - Two CIDs are equal if and only if they have the same version, codec, hash code and digest.
+/// - The order is total, and two CIDs tie if and only if they are equal.
 pub fn cid_order_law()
     ensures equal_parts { (a b : Link) → IsTrue (link_eq a b) ↔ (a ≡ b) }
     ensures total { IsTotalOrder link_cmp }

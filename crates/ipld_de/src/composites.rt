@@ -1,4 +1,4 @@
-//! Options, lists and maps, as they are read.
+//! The reading of options, lists and maps.
 
 ghost use Rattle.std.specs.Prelude.{◌≡◌, ◌≢◌, ℕ, List, Option, Some, None, Ok, option_map, map, IfOk, IfErr};
 ghost use Rattle.ipld_de.specs.Composites.{option_reading, read_all, list_reading, read_entries, keyed_reading, keyed_contents, OptionReadError, ItemsError, ListReadError, EntriesError, KeyedReadError};
@@ -21,7 +21,7 @@ use ipld_tree::Ipld;
 use std::alloc::Global;
 use std::collections::BTreeMap;
 
-/// `None` of a Null, else what the content reads.
+/// `None` for a Null. Any other tree is read as the content.
 impl<T: Deserialize> Deserialize for Option<T> {
     ghost Contents = { Option T.Contents };
 
@@ -65,7 +65,8 @@ impl<T: Deserialize> Deserialize for Option<T> {
     }
 }
 
-/// A List whose items are all read. Bytes aren't a list of numbers: they are read as a [`ByteBuf`](ipld_ser::ByteBuf).
+/// A List whose items are all read. Bytes are not a list of numbers: they are read as a
+/// [`ByteBuf`](ipld_ser::ByteBuf).
 impl<T: Deserialize> Deserialize for Vec<T> {
     ghost Contents = { List T.Contents };
 
@@ -99,7 +100,7 @@ impl<T: Deserialize> Deserialize for Vec<T> {
     }
 }
 
-// All the items, read in order.
+// Reads all the items in order.
 fn read_items<T: Deserialize>(
     alloc: Global,
     mut items: SeqDeserializer,
@@ -115,10 +116,10 @@ fn read_items<T: Deserialize>(
     Ok(all.into_vec())
 }
 
-// The most items that the head of a list reserves, since more may not come.
+// The maximum capacity that is reserved by the head of a list, since more items may not follow.
 const RESERVED: usize = 32;
 
-// So many items, read part by part.
+// Reads `count` items part by part.
 #[inline(always)]
 fn read_image_items<T: Deserialize, R: ImageReader>(
     alloc: Global,
@@ -130,7 +131,7 @@ fn read_image_items<T: Deserialize, R: ImageReader>(
         (R.contents reader.old) (R.contents reader.new)) }
     ensures never_missing { IfErr result (λ e. e ≢ Unread.MissingField) }
 {
-    let mut all = Items::with_capacity(alloc, count.min(RESERVED))?;
+    let mut all = Items::with_announced(alloc, count.min(RESERVED))?;
     let mut left = count;
     while left > 0 {
         left -= 1;
@@ -162,7 +163,7 @@ impl<K: DeserializeKey, T: Deserialize> Deserialize for BTreeMap<K, T> {
     }
 }
 
-// All the entries, read in the order of the keys.
+// Reads all the entries in the order of the keys.
 fn read_members<K: DeserializeKey, T: Deserialize>(
     alloc: Global,
     mut members: MapDeserializer,

@@ -1,6 +1,7 @@
-//! What was read of a value before a later part of it was rejected: it is dropped by a loop, however deep it nests.
+//! The parts of a value that were read before a later part was rejected. They are dropped by a
+//! loop, however deeply they nest.
 
-ghost use Rattle.std.specs.Prelude.{◌≡◌, ◌≢◌, ◌∷◌, ◌++◌, [], IfOk, IfErr, OnOk};
+ghost use Rattle.std.specs.Prelude.{◌≡◌, ◌≢◌, ◌≤◌, ◌∷◌, ◌++◌, [], IfOk, IfErr, OnOk};
 ghost use Rattle.std.specs.BTreeMap.{insert_entry};
 ghost use Rattle.ipld_de.specs.ImageReader.{BeginsRead};
 
@@ -10,7 +11,7 @@ use crate::key::DeserializeKey;
 use std::alloc::{AllocError, AllocFailed, Global};
 use std::collections::BTreeMap;
 
-// A part of a value, read part by part.
+// Reads a part of a value, part by part.
 #[inline(always)]
 pub(crate) fn read_part<T: Deserialize, R: ImageReader>(
     alloc: Global,
@@ -57,7 +58,7 @@ impl<T: Deserialize> Drop for Part<T> {
     }
 }
 
-// The items of a vector, until all are read. Its drop is the `discard` of each.
+// The items of a vector, until all are read. Its drop is the `discard` of every item.
 pub(crate) struct Items<T: Deserialize> {
     items: Vec<T>,
 }
@@ -72,7 +73,17 @@ impl<T: Deserialize> Items<T> {
         })
     }
 
-    // Adds an item, which is discarded where an allocation fails.
+    // Creates an empty list with memory for `count` items, the first of those that the head of a list
+    // announces. The bound keeps a head without items from reserving memory.
+    #[inline(always)]
+    pub(crate) fn with_announced(alloc: Global, count: usize) -> Result<Items<T>, AllocError>
+        requires { count ≤ 32 }
+        ensures { IfOk result (λ r. r.items.items ≡ []) }
+    {
+        Items::with_capacity(alloc, count)
+    }
+
+    // Adds an item, which is discarded if an allocation fails.
     #[inline(always)]
     pub(crate) fn push(&mut self, item: T) -> Result<(), AllocError>
         ensures { OnOk result (self.new.items.items ≡ self.old.items.items ++ item ∷ []) }
@@ -103,7 +114,7 @@ impl<T: Deserialize> Drop for Items<T> {
     }
 }
 
-// The entries of a map, until all are read. Its drop is the `discard` of each value.
+// The entries of a map, until all are read. Its drop is the `discard` of every value.
 pub(crate) struct Members<K: DeserializeKey, T: Deserialize> {
     members: BTreeMap<K, T>,
 }
@@ -118,7 +129,8 @@ impl<K: DeserializeKey, T: Deserialize> Members<K, T> {
         }
     }
 
-    // Puts a value at a key. What stood there is discarded, and the value where an allocation fails.
+    // Inserts a value at a key. Discards the earlier value of the key, and the new value if an
+    // allocation fails.
     #[inline(always)]
     pub(crate) fn insert(&mut self, key: K, value: T) -> Result<(), AllocError>
         ensures { OnOk result (self.new.members.entries

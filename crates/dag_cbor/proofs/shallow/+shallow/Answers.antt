@@ -46,7 +46,7 @@ add_entry-returns t c =
     c.in_ok-insert_member.ensures.absent c.in_ok-insert_member.ensures.put
 
 pub read_list-loop-left-init : goal.read_list-loop-left-init
-read_list-loop-left-init t c = list_begun c.in-Some.inner c.args.count c.args.bytes.now c.in_ok-items.items.items c.in_ok-items.ensures.items
+read_list-loop-left-init t c = list_begun c.in-Some.inner c.args.count c.args.bytes.now c.in_ok-items.items.items c.in_ok-items.ensures
 
 pub read_list-loop-left-preserved : goal.read_list-loop-left-preserved
 read_list-loop-left-preserved t c =
@@ -88,7 +88,7 @@ push_entry-returns t c =
     c.in_ok-rest.ensures c.in_ok-push_item.ensures
 
 pub read_large_map-loop-left-init : goal.read_large_map-loop-left-init
-read_large_map-loop-left-init t c = entries_begun c.in-Some.inner c.args.count c.args.bytes.now c.in_ok-entries.entries.items c.in_ok-entries.ensures.items
+read_large_map-loop-left-init t c = entries_begun c.in-Some.inner c.args.count c.args.bytes.now c.in_ok-entries.entries.items c.in_ok-entries.ensures
 
 pub read_large_map-loop-left-preserved : goal.read_large_map-loop-left-preserved
 read_large_map-loop-left-preserved t c =

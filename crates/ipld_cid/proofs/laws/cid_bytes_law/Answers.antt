@@ -6,7 +6,7 @@ pub returns : goal.returns
 returns g c = record {
   read_is_encoded = read_is_encoded g.row.S;
   encoded_is_read = encoded_is_read g.row.S;
-  each_has_a_encoding = λ link. has_encoding g.row.S link (omega (arith, g.S.fits));
+  each_has_an_encoding = λ link. has_encoding g.row.S link (omega (arith, g.S.fits));
   encoded_is_valid = encoded_is_valid g.row.S;
   one_encoding = one_encoding g.row.S;
   one_meaning = one_meaning g.row.S;

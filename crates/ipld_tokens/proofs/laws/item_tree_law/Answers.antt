@@ -5,4 +5,4 @@ pub returns-clause-same_tree : goal.returns-clause-same_tree
 returns-clause-same_tree c = same_tree c.cid_bytes_law.ensures.one_meaning
 
 pub returns-clause-one_tree : goal.returns-clause-one_tree
-returns-clause-one_tree c = one_tree c.cid_bytes_law.ensures.one_meaning c.cid_bytes_law.ensures.each_has_a_encoding
+returns-clause-one_tree c = one_tree c.cid_bytes_law.ensures.one_meaning c.cid_bytes_law.ensures.each_has_an_encoding
