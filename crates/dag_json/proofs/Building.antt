@@ -23,7 +23,7 @@ use Rattle.dag_json.specs.Offset.{is_going, Stands}
 use Rattle.dag_json.specs.ReadMachine.{Level, in_list, in_key, in_value, State, going, done, failed, completed, completed_if, takes_value, value_step, begin_step, end_list_step, end_map_step, key_step, step}
 use Rattle.dag_json.specs.Building.{as_read, levels_of, counted, state_of, added, begun, list_ended, object_ended, key_at, Reaches, Counted, MayBegin}
 use Rattle.dag_json.specs.declared.read_error.ReadErrorKind.{ReadErrorKind}
-use Rattle.dag_json.specs.declared.read_error.ReadErrorKind.TheVariants.{Syntax, DuplicateKey, TooDeep, TooMany}
+use Rattle.dag_json.specs.declared.read_error.ReadErrorKind.TheVariants.{Syntax, DuplicateKey, TooDeep}
 use Rattle.dag_json.specs.declared.tree.TreeBuilder.{TreeBuilder}
 
 -- an equal state is reached

@@ -1,5 +1,5 @@
 -- Tokens written one after another, and what is left after some of them.
-use Rattle.std.proofs.Common.{◌≡◌, ◌⊎◌, inl, inr, ℕ, ◌<◌, Bool, true, false, List, [], ◌∷◌, ◌++◌, length, Option, Some, None, Bor, refl, sym, ap, ap₂, subst, ◌∙◌, append_assoc, length-append, arith}
+use Rattle.std.proofs.Common.{◌≡◌, ◌⊎◌, inl, inr, ℕ, ◌<◌, Bool, true, false, List, [], ◌∷◌, ◌++◌, length, Option, Some, None, Bor, refl, sym, ap, subst, ◌∙◌, append_assoc, length-append, arith}
 use Rattle.std.specs.Prelude.{◌||◌}
 use Rattle.std.proofs.lemmas.List.{append-nil}
 use Rattle.std.specs.Str.{IsUtf8}
@@ -11,20 +11,13 @@ use Rattle.json.specs.Token.{Token, begin_array, begin_object}
 use Rattle.json.specs.Print.{print}
 use Rattle.json.specs.Tree.{json_tokens, items_tokens}
 use Rattle.json.specs.Written.{Written}
-use Rattle.dag_json.specs.Form.{text_of, json_of, items_json}
+use Rattle.dag_json.specs.Form.{text_of, json_of, items_json, Wrote}
 use Rattle.dag_json.specs.Reserved.{is_reserved, any_reserved, has_reserved}
 use Rattle.dag_json.specs.declared.encode.JsonCursor.{JsonCursor}
 use Rattle.dag_json.specs.declared.encode.Stop.{Stop}
 use Rattle.dag_json.specs.declared.encode.Stop.TheVariants.{Memory, Reserved}
-use Rattle.dag_json.specs.Cursors.{Wrote, tokens_of, trees_of, all_of, all_tokens, all_trees, tokens_left, trees_left, load, Advances, Begins, Opens, Goes, StepOf}
-
--- ---- writing
-
-pub wrote_both : (a b c : Written) (f g : List Token) → Wrote a b f → Wrote b c g → Wrote a c (f ++ g)
-wrote_both a b c f g first then = record {
-  before = then.before ∙ first.before;
-  tokens = then.tokens ∙ ap (λ ts. ts ++ g) first.tokens ∙ append_assoc a.tokens f g;
-}
+use Rattle.dag_json.proofs.Writing.{Wrote-trans, all_written, all_printed}
+use Rattle.dag_json.specs.Cursors.{tokens_of, trees_of, all_of, all_tokens, all_trees, tokens_left, trees_left, load, Advances, Begins, Opens, Goes, StepOf}
 
 -- ---- what is left
 
@@ -129,7 +122,7 @@ entered o x before kept innermost outer more old middle new some a b =
     let count = sym (length-append more (innermost ∷ [])) ∙ ap length b.inside ∙ length-append (outer ++ kept ∷ []) inner in
     let around = length-append outer (kept ∷ []) in
     let shrinks = begun.shrinks in
-    (record { front = next.0 ++ begun.front; wrote = wrote_both old middle new next.0 begun.front next.1 begun.wrote; same = tokens; reserved = trees }, omega arith)
+    (record { front = next.0 ++ begun.front; wrote = Wrote-trans old middle new next.0 begun.front next.1 begun.wrote; same = tokens; reserved = trees }, omega arith)
 
 -- the next value has a reserved map
 pub next_reserved : (o : Option (Bor Ipld)) (x : Bor Ipld) (before after : JsonCursor) (outer : List JsonCursor) (old new : Written) → o ≡ Some x → Advances before old o after new
@@ -153,7 +146,7 @@ went_on b ts us old middle new c d cs ds g e s =
     let h = (subst (λ a. StepOf a c cs middle d ds new) e s).0 in
     record {
       front = g.front ++ h.front;
-      wrote = wrote_both old middle new g.front h.front g.wrote h.wrote;
+      wrote = Wrote-trans old middle new g.front h.front g.wrote h.wrote;
       same = g.same ∙ ap (λ more. g.front ++ more) h.same ∙ sym (append_assoc g.front h.front (tokens_left d ds));
       reserved = g.reserved ∙ h.reserved;
     }
@@ -163,15 +156,14 @@ pub came_to_end : (b : Bool) (ts : List Token) (us : List Tree) (old middle new 
     → StepOf b c cs middle d ds new → Wrote old new ts × (any_reserved us ≡ false)
 came_to_end b ts us old middle new c d cs ds g e s =
     let ended : Wrote middle new (tokens_left c cs) × (trees_left c cs ≡ []) = subst (λ a. StepOf a c cs middle d ds new) e s in
-    (subst (Wrote old new) (sym g.same) (wrote_both old middle new g.front (tokens_left c cs) g.wrote ended.0), g.reserved ∙ ap any_reserved ended.1)
+    (subst (Wrote old new) (sym g.same) (Wrote-trans old middle new g.front (tokens_left c cs) g.wrote ended.0), g.reserved ∙ ap any_reserved ended.1)
 
 -- the text stands behind what was there
 pub text_written : (out result : List ℕ) (t : Tree) (old new : Written) → Wrote old new (json_tokens (json_of t)) → old.before ≡ out → old.tokens ≡ [] → result ≡ new.before ++ print new.tokens
     → result ≡ out ++ text_of t
 unfolding text_of
-text_written out result t old new w before none e =
-    e ∙ ap₂ (λ b ts. b ++ print ts) (w.before ∙ before) (w.tokens ∙ ap (λ ts. ts ++ json_tokens (json_of t)) none)
+text_written out result t old new w before none e = all_printed out result (json_tokens (json_of t)) old new w before none e
 
 pub text_utf8 : (t : Tree) (old new : Written) → Wrote old new (json_tokens (json_of t)) → old.tokens ≡ [] → IsUtf8 (print new.tokens) → IsUtf8 (text_of t)
 unfolding text_of
-text_utf8 t old new w none is = subst (λ ts. IsUtf8 (print ts)) (w.tokens ∙ ap (λ ts. ts ++ json_tokens (json_of t)) none) is
+text_utf8 t old new w none is = subst (λ ts. IsUtf8 (print ts)) (all_written (json_tokens (json_of t)) old new w none) is

@@ -1,3 +1,4 @@
+pub mod Writing
 mod Integers
 mod Joining
 mod ReservedMaps

@@ -1,5 +1,5 @@
 -- Where the first reserved map of a tree stands.
-use Rattle.std.proofs.Common.{◌≡◌, ℕ, suc, ◌+◌, ◌-◌, ◌^◌, true, false, List, [], ◌∷◌, Option, Some, None, refl, sym, ap, subst, ◌∙◌, inl, inr, arith}
+use Rattle.std.proofs.Common.{◌≡◌, ℕ, suc, ◌+◌, ◌-◌, ◌^◌, false, List, [], ◌∷◌, Option, Some, None, refl, sym, ap, subst, ◌∙◌, inl, inr, arith}
 use Rattle.std.specs.Prelude.{◌||◌, if◌then◌else◌, option_map, min}
 use Rattle.std.proofs.lemmas.Bool.{cases_Bool}
 use Rattle.ipld_tree.specs.Tree.{Tree}

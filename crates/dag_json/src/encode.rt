@@ -1,35 +1,30 @@
-//! A tree written as DAG-JSON.
+//! The encoding of a tree as DAG-JSON.
 
 ghost use Rattle.std.specs.Prelude.{◌≡◌, ◌⊎◌, [], ◌∷◌, ◌++◌, true, false, Some, None, OnOk, IfOk, IfErr};
-ghost use Rattle.std.specs.Fmt.{signed_decimal};
 ghost use Rattle.std.specs.Str.{IsUtf8};
 ghost use Rattle.std.specs.String.{string_bytes};
-ghost use Rattle.ipld_cid.specs.LinkOf.{link_of};
 ghost use Rattle.ipld_tree.specs.Tree as tree;
 ghost use Rattle.ipld_tree.specs.TreeOf.{tree_of, items_of, members_of};
 ghost use Rattle.ipld_tree.specs.Walk.{preorder};
-ghost use Rattle.json.specs.Token.{number};
 ghost use Rattle.json.specs.Tree.{json_tokens};
-ghost use Rattle.dag_json.specs.Form.{json_of, text_of};
 ghost use Rattle.dag_json.specs.Written.{written, IsReserved};
 ghost use Rattle.dag_json.specs.Reserved.{has_reserved, any_reserved, first_reserved, Counts};
-ghost use Rattle.dag_json.specs.Cursors.{Wrote, Advances, Opens, StepOf, trees_left};
+ghost use Rattle.dag_json.specs.Form.{json_of, text_of, Wrote};
+ghost use Rattle.dag_json.specs.Cursors.{Advances, Opens, StepOf, trees_left};
 
 use crate::error::DagJsonError;
+use crate::parts::{write_bytes, write_integer, write_link};
 use crate::reserved::{find_reserved, is_reserved};
-use base64::engine::general_purpose::STANDARD_NO_PAD;
-use ipld_cid::Cid;
-use ipld_cid_text::usual_text;
 use ipld_tree::Ipld;
 use json::Writer;
 use std::alloc::{AllocError, Global};
 use std::collections::{BTreeMap, btree_map};
 use std::{mem, slice};
 
-// What the vector for a text can hold at first.
+// The initial capacity of the vector for a text, in bytes.
 const RESERVED: usize = 128;
 
-// Why a value isn't written: which of them is reserved isn't known here.
+// Why a value is not written. The index of the reserved map is not known here.
 #[derive(Clone, Copy, Debug, PartialEq, Eq)]
 enum Stop {
     Memory,
@@ -47,7 +42,7 @@ impl From<AllocError> for Stop {
     }
 }
 
-// What an open list or map has left to write, or the tree itself.
+// The rest of an open list or map that is to be written, or the tree itself.
 #[derive(Drop)]
 enum JsonCursor<'a> {
     Itself(Option<&'a Ipld>),
@@ -55,7 +50,7 @@ enum JsonCursor<'a> {
     Entries(btree_map::Iter<'a, String, Ipld>),
 }
 
-// What a cursor has next, with its key written, or the end of the list or map.
+// Returns the next value of a cursor, with its key written, or writes the end of the list or map.
 #[inline(always)]
 fn advance<'a>(
     cursor: &mut JsonCursor<'a>,
@@ -83,45 +78,7 @@ fn advance<'a>(
     }
 }
 
-// Writes a link.
-#[inline(never)]
-fn write_link(alloc: Global, writer: &mut Writer, cid: &Cid) -> Result<(), AllocError>
-    ensures { OnOk result (Wrote writer.old writer.new
-        (json_tokens (json_of (tree.link (link_of cid.now))))) }
-{
-    let text = usual_text(alloc, cid)?;
-    writer.begin_object()?;
-    writer.key("/")?;
-    writer.string(&text)?;
-    writer.end_object()
-}
-
-// Writes bytes.
-#[inline(never)]
-fn write_bytes(alloc: Global, writer: &mut Writer, bytes: &[u8]) -> Result<(), AllocError>
-    ensures { OnOk result (Wrote writer.old writer.new
-        (json_tokens (json_of (tree.bytes bytes.now)))) }
-{
-    let text = STANDARD_NO_PAD.encode(alloc, bytes)?;
-    writer.begin_object()?;
-    writer.key("/")?;
-    writer.begin_object()?;
-    writer.key("bytes")?;
-    writer.string(&text)?;
-    writer.end_object()?;
-    writer.end_object()
-}
-
-// Writes an integer.
-#[inline(always)]
-fn write_integer(writer: &mut Writer, value: i128) -> Result<(), AllocError>
-    ensures { OnOk result (Wrote writer.old writer.new (number (signed_decimal value) ∷ [])) }
-{
-    let mut buffer = itoa::Buffer::new();
-    writer.number(buffer.format(value))
-}
-
-// Goes on in what a list or a map holds.
+// Continues in a list or a map.
 #[inline(always)]
 fn enter<'a>(
     inner: JsonCursor<'a>,
@@ -135,7 +92,7 @@ fn enter<'a>(
     Ok(())
 }
 
-// Begins a list, and goes on in it.
+// Begins a list, and continues in it.
 #[inline(never)]
 fn enter_list<'a>(
     writer: &mut Writer,
@@ -151,7 +108,7 @@ fn enter_list<'a>(
     Ok(())
 }
 
-// Begins a map, and goes on in it.
+// Begins a map, and continues in it.
 #[inline(never)]
 fn enter_map<'a>(
     writer: &mut Writer,
@@ -173,7 +130,7 @@ fn enter_map<'a>(
     Ok(())
 }
 
-// Writes a value; of a list or a map the beginning, and goes on in it.
+// Writes a value. For a list or a map, it writes the beginning and continues in it.
 #[inline(always)]
 fn write_value<'a>(
     alloc: Global,
@@ -200,7 +157,7 @@ fn write_value<'a>(
     Ok(())
 }
 
-// Writes the next value, or leaves a list or a map at its end; false where nothing is left.
+// Writes the next value, or leaves a list or a map at its end. Returns false if nothing is left.
 #[inline(always)]
 fn write_next<'a>(
     alloc: Global,
@@ -239,7 +196,7 @@ fn write_tree(alloc: Global, writer: &mut Writer, value: &Ipld) -> Result<(), St
     Ok(())
 }
 
-// The text of a tree behind what a vector holds.
+// Appends the text of a tree to a vector.
 fn write_after(alloc: Global, out: Vec<u8>, value: &Ipld) -> Result<Vec<u8>, Stop>
     ensures ok { IfOk result (λ text. text.items ≡ out.items ++ text_of (tree_of value.now)) }
     ensures utf8 { OnOk result (IsUtf8 (text_of (tree_of value.now))) }
@@ -252,7 +209,7 @@ fn write_after(alloc: Global, out: Vec<u8>, value: &Ipld) -> Result<Vec<u8>, Sto
     Ok(writer.into_inner())
 }
 
-// Which error a tree with a reserved map has.
+// Returns the error of a tree with a reserved map.
 #[cold]
 fn reserved_error(alloc: Global, value: &Ipld) -> DagJsonError
     requires { has_reserved (tree_of value.now) ≡ true }
@@ -265,16 +222,17 @@ fn reserved_error(alloc: Global, value: &Ipld) -> DagJsonError
     }
 }
 
-/// The text of a tree in DAG-JSON, in the strict form.
+/// Encodes a tree in DAG-JSON, in the strict form.
 ///
-/// It doesn't recurse. Beside the text it allocates a slot for each list or map that is open, and the text of each link and of bytes while
-/// that is written. Integers are written exactly, all 128 bits of them.
+/// It doesn't recurse. Besides the text, it allocates a slot for every open list or map, and the
+/// text of a link or of bytes while that is written. Integers are written exactly, all 128 bits of
+/// them.
 ///
 /// # Errors
 ///
-/// - `Reserved` where a map would be read as a link or as bytes. It says which value of the tree the first such map is; to find it, the
-///   tree is walked once more.
-/// - `Memory` where an allocation failed.
+/// - `Reserved` if a map would be read as a link or as bytes. It has the index of the first such
+///   map in the tree. To find it, the tree is walked once more, as [`Ipld::iter`] does.
+/// - `Memory` if an allocation fails.
 pub fn to_vec(alloc: Global, value: &Ipld) -> Result<Vec<u8>, DagJsonError>
     ensures ok { IfOk result (λ text. written (tree_of value.now) ≡ Some text.items) }
     ensures utf8 { IfOk result (λ text. IsUtf8 text.items) }
@@ -289,7 +247,7 @@ pub fn to_vec(alloc: Global, value: &Ipld) -> Result<Vec<u8>, DagJsonError>
     }
 }
 
-/// The text of a tree in DAG-JSON, as a string: the bytes that [`to_vec`] returns.
+/// Encodes a tree in DAG-JSON, and returns a string of the bytes that [`to_vec`] returns.
 ///
 /// # Errors
 ///

@@ -1,6 +1,8 @@
-//! DAG-JSON (IPLD's DAG-JSON specification, over JSON, RFC 8259): trees of the IPLD data model as text.
+//! DAG-JSON (IPLD's DAG-JSON specification, over JSON, RFC 8259): trees of the IPLD data model as
+//! text.
 //!
-//! [`to_vec`] writes a tree in the strict form, in which a tree has one text, and [`to_string`] the same as a string:
+//! [`to_vec`] writes a tree in the strict form, in which a tree has one text. [`to_string`] writes
+//! the same text as a string:
 //!
 //! ```rust
 //! use dag_json::{DagJsonError, to_vec};
@@ -12,13 +14,16 @@
 //! }
 //! ```
 //!
-//! A link is an object of one member, `{"/":"bafy.."}`, with the text of the CID, and bytes are `{"/":{"bytes":"aGk"}}`, in base64 without padding.
-//! So a map may not look like either: see [`DagJsonError::Reserved`]. All else is as in JSON. The keys of a map come in the order of their
-//! bytes, no blank stands anywhere, an integer is its decimal digits, and of a string only what has to be escaped is.
+//! A link is an object with one member, `{"/":"bafy.."}`, which has the text of the CID. Bytes are
+//! `{"/":{"bytes":"aGk"}}`, in base64 without padding. So a map must not look like either: see
+//! [`DagJsonError::Reserved`]. Everything else is as in JSON. The keys of a map are in the order of
+//! their bytes, and the text has no blanks. An integer is written as its decimal digits. In a
+//! string, only the characters that must be escaped are escaped.
 //!
-//! [`from_slice`] and [`from_str`] read a text as a tree, with blanks, escapes and the keys of an object in any order, and [`from_canonical`] the
-//! text alone that is written of its tree. No key of an object comes twice. What is read has [`Limits`](ipld_tree::Limits). Trees have no floats; texts
-//! that may have some are read by the module [`floats`]:
+//! [`from_slice`] and [`from_str`] read a text as a tree, with blanks, escapes and the keys of an
+//! object in any order. [`from_canonical`] reads only the text that is written of its tree. No key
+//! of an object may come twice. Reading has [`Limits`](ipld_tree::Limits). Trees have no floats.
+//! The module [`floats`] reads texts that may have floats. For example, without floats:
 //!
 //! ```rust
 //! use dag_json::{ReadError, from_slice};
@@ -30,8 +35,9 @@
 //! }
 //! ```
 //!
-//! [`tape_from_slice`] reads a text, which may have floats, as a [`Tape`]: each value and each key as an entry of an array, over a buffer of their
-//! content. `dag_cbor_tape::encode_tape` makes the block of DAG-CBOR of it:
+//! [`tape_from_slice`] reads a text that may have floats, and returns a [`Tape`]: an array with an
+//! entry for every value and every key, over a buffer of their content.
+//! `dag_cbor_tape::encode_tape` makes the DAG-CBOR block of a tape:
 //!
 //! ```rust
 //! use dag_cbor_tape::encode_tape;
@@ -60,6 +66,7 @@ mod error;
 pub mod floats;
 pub mod laws;
 mod offset;
+pub mod parts;
 mod read_error;
 mod reserved;
 mod scalar;

@@ -8,7 +8,7 @@ use Rattle.ipld_cid.specs.Cid.{Link, hash_of}
 use Rattle.ipld_cid.specs.LinkOf.{link_of}
 use Rattle.ipld_car.specs.CarHeader.{header_bytes}
 use Rattle.ipld_car.specs.Index.{index_bytes}
-use Rattle.ipld_car.specs.IndexGrouping.{entries_in, indexed}
+use Rattle.ipld_car.specs.IndexGrouping.{entries_in, indexed, AreGrouped, IsSplit}
 use Rattle.ipld_car.specs.IndexOrder.{AreSorted}
 use Rattle.ipld_car.specs.Section.{Block, IsSection, AreSections}
 use Rattle.ipld_car.specs.Writing.{WritesSection}
@@ -84,10 +84,10 @@ row_at begin end rows blocks i x within at l =
 -- ---- the whole
 
 pub indexed_car : (old begun mid new end : Option (List ℕ)) (roots : List Link) (blocks : List Block) (begin size : ℕ) (rows : List IndexEntry) (index : CarIndex) (is_full : Bool)
-    → IsHeaderLen roots begin → Located begin blocks rows size → IsPermutation (indexed rows) (entries_in index) → AreSorted (entries_in index)
+    → IsHeaderLen roots begin → Located begin blocks rows size → IsPermutation (indexed rows) (entries_in index) → AreSorted (entries_in index) → AreGrouped index → IsSplit index
     → Appends old begun (header_bytes (car_header is_full size)) → WritesCar begun mid roots blocks → Appends mid new (index_bytes index) → Keeps new end
     → WritesIndexedCar old end roots blocks
-indexed_car old begun mid new end roots blocks begin size rows index is_full h l same sorted first w last kept =
+indexed_car old begun mid new end roots blocks begin size rows index is_full h l same sorted grouped split first w last kept =
     let one : h.header ≡ w.header = cc (sym h.is_canonical ∙ w.is_canonical) in
     let begins : begin ≡ length w.header = h.counted ∙ ap length one in
     let ends : size ≡ length (w.header ++ w.sections) =
@@ -96,10 +96,13 @@ indexed_car old begun mid new end roots blocks begin size rows index is_full h l
       header = w.header;
       sections = w.sections;
       is_header = w.is_header;
+      is_canonical = w.is_canonical;
       are_sections = w.are_sections;
       index = index;
       indexes = subst (λ (es : List IndexEntry). IsPermutation (indexed es) (entries_in index)) (l.0 ∙ ap (λ (n : ℕ). located n blocks) begins) same;
       sorted = sorted;
+      grouped = grouped;
+      split = split;
       is_full = is_full;
       appends = still old new end _ kept (Appends-trans old begun new (header_bytes (car_header is_full (length (w.header ++ w.sections)))) ((w.header ++ w.sections) ++ index_bytes index)
           (subst (λ (n : ℕ). Appends old begun (header_bytes (car_header is_full n))) ends first)

@@ -1,4 +1,4 @@
--- What is written of a CAR that is made.
+-- The bytes that are written for a new CAR.
 use Rattle.std.specs.Prelude.{◌≡◌, ℕ, ◌+◌, Bool, List, [], ◌∷◌, ◌++◌, length, Option, Some}
 use Rattle.std.specs.List.Sorted.{IsPermutation}
 use Rattle.std.specs.Io.KnownBytes.{Appends}
@@ -7,7 +7,7 @@ use Rattle.ipld_cid.specs.LinkOf.{link_of}
 use Rattle.ipld_car.specs.CarHeader.{header_bytes}
 use Rattle.ipld_car.specs.Header.{IsHeader, canonical_header}
 use Rattle.ipld_car.specs.Index.{index_bytes}
-use Rattle.ipld_car.specs.IndexGrouping.{entries_in, indexed}
+use Rattle.ipld_car.specs.IndexGrouping.{entries_in, indexed, AreGrouped, IsSplit}
 use Rattle.ipld_car.specs.IndexOrder.{AreSorted}
 use Rattle.ipld_car.specs.Section.{Block, AreSections}
 use Rattle.ipld_car.specs.declared.index.CarIndex.{CarIndex}
@@ -16,12 +16,13 @@ use Rattle.ipld_car.specs.declared.index.header.CarHeader.{CarHeader}
 use Rattle.car_files.specs.Written.{section_len, sections_len}
 use Rattle.ipld_cli.specs.declared.new_car.NewBlock.{NewBlock}
 
--- a block that is to be written, as one of a section
+-- the model of a block that is to be written: its CID and its bytes
 abbrev pub block_of : NewBlock → Block
 block_of b = record { cid = link_of b.cid; bytes = b.bytes.now }
 
--- True if a CAR of version 1 was written after what the writer held, and nothing else: the header
--- with these roots, and the sections of these blocks in their order (CARv1).
+-- True if a CAR of version 1 was written after the old bytes of the writer, and nothing else
+-- (CARv1). It is the header with these roots, whose block is canonical, and the sections of these
+-- blocks in their order.
 pub record WritesCar (old new : Option (List ℕ)) (roots : List Link) (blocks : List Block) : Type 0 where
   pub header : List ℕ
   pub sections : List ℕ
@@ -30,32 +31,39 @@ pub record WritesCar (old new : Option (List ℕ)) (roots : List Link) (blocks :
   pub are_sections : AreSections sections blocks
   pub appends : Appends old new (header ++ sections)
 
--- True if this is how many bytes the header with these roots has whose block is canonical.
+-- True if `len` is the length of the header with these roots whose block is canonical.
 pub record IsHeaderLen (roots : List Link) (len : ℕ) : Type 0 where
   pub header : List ℕ
   pub is_canonical : canonical_header roots ≡ Some header
   pub counted : len ≡ length header
 
--- the header of version 2 of a payload of so many bytes, before an index
+-- the header of version 2 for a payload of `size` bytes from byte 51 on, with an index right after
+-- it
 abbrev pub car_header : Bool → ℕ → CarHeader
 car_header is_full size = record { is_fully_indexed = is_full; payload = 51; size = size; index = size + 51 }
 
--- the rows of an index of these blocks, of which the first section begins at this byte
+-- the index entries of the blocks, whose sections follow one another from byte `begin` on
 abbrev pub located : ℕ → List Block → List IndexEntry
 located begin [] = []
 located begin (block ∷ blocks) = record { hash = hash_of block.cid; offset = begin } ∷ located (begin + section_len block) blocks
 
--- True if a CAR of version 2 was written after what the writer held, and nothing else: the pragma
--- and the header, the header with these roots and the sections of these blocks in their order, and
--- an index (CARv2). The index has a row for each block whose digest has a byte or more, which leads
--- to the block's section, and no other row.
+-- True if a CAR of version 2 was written after the old bytes of the writer, and nothing else
+-- (CARv2). It has the pragma and the header, then a payload, then an index. The payload is the
+-- header with these roots, whose block is canonical, and the sections of these blocks in their
+-- order. The index has a row for every block whose digest has at least one byte, with the offset of
+-- the block's section, and no other row. Its rows are sorted, and grouped by hash function and
+-- digest length. No group is empty or comes twice. The header's flag for a fully indexed payload
+-- may have either value.
 pub record WritesIndexedCar (old new : Option (List ℕ)) (roots : List Link) (blocks : List Block) : Type 0 where
   pub header : List ℕ
   pub sections : List ℕ
   pub is_header : IsHeader header roots
+  pub is_canonical : canonical_header roots ≡ Some header
   pub are_sections : AreSections sections blocks
   pub index : CarIndex
   pub indexes : IsPermutation (indexed (located (length header) blocks)) (entries_in index)
   pub sorted : AreSorted (entries_in index)
+  pub grouped : AreGrouped index
+  pub split : IsSplit index
   pub is_full : Bool
   pub appends : Appends old new (header_bytes (car_header is_full (length (header ++ sections))) ++ ((header ++ sections) ++ index_bytes index))

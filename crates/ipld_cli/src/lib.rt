@@ -1,8 +1,12 @@
-//! The files of the program `ipld`, and what it says of them.
+//! The files, outputs and messages of the program `ipld`.
 //!
-//! Files and standard input, read whole, as CARs or from any byte on; the blocks of a CAR by their CIDs, and those of files and CARs gathered for
-//! one that is made; outputs, so that nothing that is there is lost and nothing is left half written; what is wrong with a block, a CAR or a
-//! digest in a sentence, with what stands at the byte at fault; objects of JSON for scripts; and how a command ends.
+//! - Files and standard input are read whole, as CARs, or from any byte.
+//! - The blocks of a CAR are found by their CIDs. The blocks of files and CARs are gathered for a
+//!   new CAR.
+//! - Outputs are written so that no existing file is lost and no file is left half written.
+//! - Messages describe the error of a block, a CAR or a digest in a sentence, with the item at the
+//!   invalid byte. Scripts get objects of JSON.
+//! - Every command ends with an [`Outcome`].
 //!
 //! ```rust
 //! use ipld_cli::{Opened, open_blocks};
@@ -23,7 +27,7 @@ mod files;
 mod hasher;
 mod index_check;
 mod input;
-pub mod json;
+pub mod json_lines;
 mod messages;
 mod new_car;
 mod output;

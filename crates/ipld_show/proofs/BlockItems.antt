@@ -28,7 +28,7 @@ use Rattle.ipld_show.specs.AtPath.{AtPath, found, no_segment, not_a_container, a
 use Rattle.ipld_block.specs.Blocks.{IsInvalid, IfInvalid}
 use Rattle.ipld_block.specs.declared.error.CheckError.{CheckError}
 use Rattle.ipld_block.specs.declared.error.CheckError.TheVariants.{Memory as OutOfMemory, Invalid as IsInvalidBlock}
-use Rattle.ipld_show.specs.Blocks.{IsNoBlock, IsCborOf, OfBlock, IsShown, IsTreeAt, IsJsonAt, IsUnwritten, IsCidError}
+use Rattle.ipld_show.specs.Blocks.{IsNoBlock, IsCborOf, OfBlock, IsShown, IsTreeAt, IsJsonAt, IsUnwritten, IsCidError, IsLineError}
 use Rattle.ipld_show.specs.JsonText.{IsJson, IsJsonError}
 use Rattle.ipld_show.specs.Node.{node_tree}
 use Rattle.ipld_show.specs.Scalars.{IsOutputError}
@@ -189,7 +189,7 @@ rejected_unwritten (Write kind) old = tt
 rejected_unwritten (Invalid why) old = refl
 rejected_unwritten (NoSegment n) old = refl
 rejected_unwritten (NotAContainer n) old = refl
-rejected_unwritten (Reserved n) old = tt
+rejected_unwritten (Reserved n) old = refl
 rejected_unwritten (Cid e) old = refl
 
 module _ (codec : BlockCodec) (bytes : List ℕ) where
@@ -258,17 +258,17 @@ module _ (d : DataItem) (path : List ℕ) (old new : Option (List ℕ)) where
   output_unwritten (Reserved n) h = absurd h
   output_unwritten (Cid e) h = absurd h
 
-  json_error : (e : DataItem) → at_segments 0 (segments path) d ≡ found e → (error : ShowError) → IsJsonError e error → IsJsonAt d path (Err error) old new
+  json_error : (e : DataItem) → at_segments 0 (segments path) d ≡ found e → (error : ShowError) → IsLineError e error old new → IsJsonAt d path (Err error) old new
   json_error e is Memory h = tt
   json_error e is (Write kind) h = h
   json_error e is (Invalid why) h = absurd h
   json_error e is (NoSegment n) h = absurd h
   json_error e is (NotAContainer n) h = absurd h
-  json_error e is (Reserved n) h = (e, is, h)
+  json_error e is (Reserved n) h = (e, is, h.0)
   json_error e is (Cid c) h = absurd h
 
-  json_unwritten : (e : DataItem) (error : ShowError) → IsJsonError e error → IsUnwritten error old new
-  json_unwritten e (Reserved n) h = tt
+  json_unwritten : (e : DataItem) (error : ShowError) → IsLineError e error old new → IsUnwritten error old new
+  json_unwritten e (Reserved n) h = h.1
   json_unwritten e Memory h = tt
   json_unwritten e (Write kind) h = tt
   json_unwritten e (Invalid why) h = absurd h
@@ -293,7 +293,7 @@ module _ (d : DataItem) (path : List ℕ) (old new : Option (List ℕ)) where
     tree_unwritten (Err error) h = let l = leads_to (at_segments 0 (segments path) d) value at in output_unwritten error (h l.0 l.2 l.3)
 
     pub json_at : (r : Result (Unit {0}) ShowError)
-        → ((e : DataItem) (behind : List ℕ) → BeginsWithItem e value.now behind → MatchResult r (λ _. (t : List ℕ) × IsJson e t × Appends old new (t ++ codes "\n")) (IsJsonError e))
+        → ((e : DataItem) (behind : List ℕ) → BeginsWithItem e value.now behind → MatchResult r (λ _. (t : List ℕ) × IsJson e t × Appends old new (t ++ codes "\n")) (λ error. IsLineError e error old new))
         → IsJsonAt d path r old new × IfErr r (λ error. IsUnwritten error old new)
     json_at (Ok u) h =
         let l = leads_to (at_segments 0 (segments path) d) value at in
@@ -303,6 +303,26 @@ module _ (d : DataItem) (path : List ℕ) (old new : Option (List ℕ)) where
         let l = leads_to (at_segments 0 (segments path) d) value at in
         let e = h l.0 l.2 l.3 in
         (json_error l.0 l.1 error e, json_unwritten l.0 error e)
+
+-- an error of an item stands for that of its line, where nothing was written
+pub json_stops : (d : DataItem) (error : ShowError) (old : Option (List ℕ)) → IsJsonError d error → IsLineError d error old old
+json_stops d (Reserved n) old h = (h, refl)
+json_stops d Memory old h = h
+json_stops d (Write kind) old h = absurd h
+json_stops d (Invalid why) old h = absurd h
+json_stops d (NoSegment n) old h = absurd h
+json_stops d (NotAContainer n) old h = absurd h
+json_stops d (Cid c) old h = absurd h
+
+-- and so does one of the writer or of an allocation
+pub line_failed : (d : DataItem) (error : ShowError) (old new : Option (List ℕ)) → IsOutputError error → IsLineError d error old new
+line_failed d Memory old new h = h
+line_failed d (Write kind) old new h = h
+line_failed d (Reserved n) old new h = absurd h
+line_failed d (Invalid why) old new h = absurd h
+line_failed d (NoSegment n) old new h = absurd h
+line_failed d (NotAContainer n) old new h = absurd h
+line_failed d (Cid c) old new h = absurd h
 
 -- ---- the CID of a block
 

@@ -1,28 +1,31 @@
--- The DAG-JSON of a value, written part by part.
-use Rattle.std.proofs.Common.{◌≡◌, inl, inr, ℕ, zero, suc, ◌+◌, ◌-◌, ◌<◌, ◌≤◌, Bool, true, false, List, [], ◌∷◌, ◌++◌, length, map, reverse, Bor, Option, Some, None, codes, refl, sym, ap, subst, ◌∙◌, append_assoc, append-nil, length-append, arith}
-use Rattle.std.specs.List.{sum_by}
-use Rattle.std.specs.Io.KnownBytes.{Appends}
+-- The DAG-JSON of a value, written token by token.
+use Rattle.std.proofs.Common.{◌≡◌, ◌⊎◌, inl, inr, ℕ, suc, ◌+◌, ◌-◌, ◌<◌, ◌≤◌, true, false, List, [], ◌∷◌, ◌++◌, length, map, reverse, Some, None, refl, sym, ap, subst, ◌∙◌, append_assoc, append-nil, length-append, arith}
 use Rattle.std.specs.declared.vec.Vec.{Vec}
 use Rattle.std.specs.declared.alloc.Global.{Global}
-use Rattle.std.proofs.KnownBytes.{Appends-trans, Appends-nil}
-use Rattle.std.proofs.lemmas.List.{reverse-append, reverse-reverse}
+use Rattle.std.proofs.lemmas.List.{reverse-reverse}
 use Rattle.std.proofs.lemmas.List.Sums.{sum_by-cons}
 use Rattle.std.proofs.lemmas.List.Sorted.{sum_by-IsPermutation}
 use Rattle.ipld_cid.proofs.Encodings.{one_meaning}
+use Rattle.ipld_tree.specs.Tree as tree
+use Rattle.json.specs.Json.{Json}
+use Rattle.json.specs.Json as json
+use Rattle.json.specs.Token.{Token, begin_array, end_array, begin_object, end_object, key}
+use Rattle.json.specs.Tree.{json_tokens, items_tokens, members_tokens}
+use Rattle.json.specs.Written.{Written}
 use Rattle.dag_cbor_format.proofs.HeadLaws.{head_some}
-use Rattle.dag_cbor_format.specs.declared.major.Major.TheVariants.{Text, List as Array, Map}
+use Rattle.dag_cbor_format.specs.declared.major.Major.TheVariants.{List as Array, Map}
 use Rattle.dag_cbor_format.specs.Head.{head}
 use Rattle.dag_cbor_format.specs.declared.item.ItemHead.{ItemHead}
 use Rattle.dag_cbor_format.specs.declared.item.ItemHead.TheVariants as begin
+use Rattle.dag_json.specs.Form.{json_of, Wrote}
+use Rattle.dag_json.proofs.Writing.{Wrote-nil, Wrote-trans}
 use Rattle.ipld_show.specs.DataItem.{DataItem, null, boolean, integer, float, text_string, byte_string, link, list, map as of_entries, DataItems, no_items, item, DataEntries, no_entries, entry, item_count, entry_count, string_encoding, encoding, items_encoding, entries_encoding, IsDataItem, AreDataItems, BeginsWithItem}
-use Rattle.ipld_show.specs.Extents.{extents, items_extents, entries_extents}
+use Rattle.ipld_show.specs.Extents.{extents, items_extents}
 use Rattle.ipld_show.specs.Heads.{IsHeadOf}
-use Rattle.ipld_show.specs.JsonScalars.{link_json, IsHeadJson, comma, key_json}
-use Rattle.ipld_show.specs.JsonText.{Member, members_of, IsInKeyOrder, AreReserved, IsScalarJson, IsJson, of_scalar, of_list, of_map, AreItemsJson, no_more_items, item_json, AreMembersJson, no_more_members, member_json, StandsIn, whole, in_list, IsJsonError}
-use Rattle.ipld_show.specs.JsonFrames.{items_in, items_in_items, items_in_entries, items_in_members, ItemsLeft, EntriesLeft, Behind, Coming, Wrote, Steps, ComesNext, Leads}
-use Rattle.ipld_show.specs.Places.{HoldsItem, IsBehind, StandsBefore, HoldsPart, ItemsStand, KnownEntry, AreEntriesOf}
-use Rattle.ipld_show.specs.Scalars.{IsOutputError}
-use Rattle.ipld_show.specs.TreeLevels.{HasCid}
+use Rattle.ipld_show.specs.JsonText.{Member, members_of, IsInKeyOrder, AreReserved, IsScalarJson, IsItemJson, of_scalar, of_list, of_map, AreItemsJson, no_more_items, item_json, AreMembersJson, no_more_members, member_json, StandsIn, whole, in_list, IsJsonError}
+use Rattle.ipld_show.specs.JsonFrames.{items_in, items_in_items, items_in_entries, items_in_members, IsHeadJson, Behind, Coming, Begun, Steps, Leads}
+use Rattle.ipld_show.specs.Places.{IsBehind, HoldsPart, ItemsStand, KnownEntry, AreEntriesOf}
+use Rattle.ipld_show.specs.Scalars.{IsMemory}
 use Rattle.ipld_show.specs.declared.containers.Extent.{Extent}
 use Rattle.ipld_show.specs.declared.places.Place.{Place}
 use Rattle.ipld_show.specs.declared.places.Entry.{Entry}
@@ -36,32 +39,34 @@ use Rattle.ipld_show.proofs.Trees.{reverse_pop}
 
 -- ---- scalars
 
-scalar_boolean : (b : Bool) (t : List ℕ) → IsHeadJson (begin.Bool b) t → IsScalarJson (boolean b) t
-scalar_boolean false t x = x
-scalar_boolean true t x = x
-
--- a scalar has this text, and is one item
-pub record IsScalar (d : DataItem) (t : List ℕ) : Type 0 where
-  pub text : IsScalarJson d t
+-- a scalar has this JSON, and is one item
+pub record IsScalar (d : DataItem) (j : Json) : Type 0 where
+  pub json : IsScalarJson d j
   pub one : items_in d ≡ 1
   pub none : extents d ≡ []
 
-scalar_is : (x d : DataItem) (t : List ℕ) → d ≡ x → IsScalarJson x t → items_in x ≡ 1 → extents x ≡ [] → IsScalar d t
-scalar_is x d t e s n l = subst (λ y. IsScalar y t) (sym e) (record { text = s; one = n; none = l })
+scalar_is : (x d : DataItem) (j : Json) → d ≡ x → IsScalarJson x j → items_in x ≡ 1 → extents x ≡ [] → IsScalar d j
+scalar_is x d j e s n l = subst (λ y. IsScalar y j) (sym e) (record { json = s; one = n; none = l })
 
-pub scalar_json : (h : ItemHead) (d : DataItem) (rest behind t : List ℕ) → IsHeadOf h d rest behind → IsDataItem d → ((n : ℕ) → h ≡ begin.List n → ⊥) → ((n : ℕ) → h ≡ begin.Map n → ⊥) → IsHeadJson h t
-    → IsScalar d t × (rest ≡ behind)
-scalar_json begin.Null d rest behind t i g l m x = (scalar_is null d t i.0 x refl refl, i.1)
-scalar_json (begin.Bool b) d rest behind t i g l m x = (scalar_is (boolean b) d t i.0 (scalar_boolean b t x) refl refl, i.1)
-scalar_json (begin.Integer n) d rest behind t i g l m x = (scalar_is (integer n) d t i.0 x refl refl, i.1)
-scalar_json (begin.Float bits) d rest behind t i g l m x = (scalar_is (float i.0) d t i.1 (subst (λ (b : ℕ). IsHeadJson (begin.Float b) t) i.2 x) refl refl, i.3)
-scalar_json (begin.Str s) d rest behind t i g l m x = (scalar_is (text_string s.now) d t i.0 x refl refl, i.1)
-scalar_json (begin.Bytes b) d rest behind t i g l m x = (scalar_is (byte_string b.now) d t i.0 x refl refl, i.1)
-scalar_json (begin.Link b) d rest behind t i g l m x =
+pub scalar_json : (h : ItemHead) (d : DataItem) (rest behind : List ℕ) (j : Json) → IsHeadOf h d rest behind → IsDataItem d → ((n : ℕ) → h ≡ begin.List n → ⊥) → ((n : ℕ) → h ≡ begin.Map n → ⊥) → IsHeadJson h j
+    → IsScalar d j × (rest ≡ behind)
+scalar_json begin.Null d rest behind j i g l m x = (scalar_is null d j i.0 x refl refl, i.1)
+scalar_json (begin.Bool b) d rest behind j i g l m x = (scalar_is (boolean b) d j i.0 x refl refl, i.1)
+scalar_json (begin.Integer n) d rest behind j i g l m x = (scalar_is (integer n) d j i.0 x refl refl, i.1)
+scalar_json (begin.Float bits) d rest behind j i g l m x = (scalar_is (float i.0) d j i.1 (subst (λ (b : ℕ). IsHeadJson (begin.Float b) j) i.2 x) refl refl, i.3)
+scalar_json (begin.Str s) d rest behind j i g l m x = (scalar_is (text_string s.now) d j i.0 x refl refl, i.1)
+scalar_json (begin.Bytes b) d rest behind j i g l m x = (scalar_is (byte_string b.now) d j i.0 x refl refl, i.1)
+scalar_json (begin.Link b) d rest behind j i g l m x =
     let h : IsDataItem (link b.now i.0) = subst IsDataItem i.1 g in
-    (scalar_is (link b.now i.0) d t i.1 (x.2 ∙ ap link_json (one_meaning 64 b.now x.0 i.0 x.1 h.1)) refl refl, i.2)
-scalar_json (begin.List n) d rest behind t i g l m x = absurd (l n refl)
-scalar_json (begin.Map n) d rest behind t i g l m x = absurd (m n refl)
+    (scalar_is (link b.now i.0) d j i.1 (x.2 ∙ ap (λ cid. json_of (tree.link cid)) (one_meaning 64 b.now x.0 i.0 x.1 h.1)) refl refl, i.2)
+scalar_json (begin.List n) d rest behind j i g l m x = absurd (l n refl)
+scalar_json (begin.Map n) d rest behind j i g l m x = absurd (m n refl)
+
+-- what is written for null, and for the head of a list or a map, of which nothing is asked
+pub null_json : (h : ItemHead) → (h ≡ begin.Null) ⊎ (((n : ℕ) × (h ≡ begin.List n)) ⊎ ((n : ℕ) × (h ≡ begin.Map n))) → IsHeadJson h (json_of tree.null)
+null_json h (inl is) = subst (λ x. IsHeadJson x (json_of tree.null)) (sym is) refl
+null_json h (inr (inl is)) = subst (λ x. IsHeadJson x (json_of tree.null)) (sym is.1) tt
+null_json h (inr (inr is)) = subst (λ x. IsHeadJson x (json_of tree.null)) (sym is.1) tt
 
 -- ---- how many items there are
 
@@ -98,22 +103,19 @@ members_counted (entry k d es) = omega (arith, sum_by-cons (λ (m : Member). ite
 ordered_counted : (es : DataEntries) (ordered : List Member) → IsInKeyOrder es ordered → items_in_members ordered ≡ items_in_entries es
 ordered_counted es ordered o = sum_by-IsPermutation (λ (m : Member). items_in m.1) (members_of es) ordered o.same ∙ members_counted es
 
--- ---- texts
+-- ---- tokens
 
-three : (a b c : List ℕ) → a ++ (b ++ c) ≡ (a ++ b) ++ c
+three : (a b c : List Token) → a ++ (b ++ c) ≡ (a ++ b) ++ c
 three a b c = sym (append_assoc a b c)
-
-four : (a b c d : List ℕ) → a ++ (b ++ (c ++ d)) ≡ ((a ++ b) ++ c) ++ d
-four a b c d = three a b (c ++ d) ∙ three (a ++ b) c d
 
 module _ (d : DataItem) (total : ℕ) (fs : List Frame) where
   -- ---- a list
 
-  item_comes : (left less : ℕ) (place : Place) (others : Bool) (w : List ℕ) (n : ℕ) (ds : DataItems) (mid : List ℕ) (post : List Extent) (outside : ℕ) → AreDataItems ds → left ≡ item_count ds
+  item_comes : (left less : ℕ) (place : Place) (w : List Token) (n : ℕ) (ds : DataItems) (mid : List ℕ) (post : List Extent) (outside : ℕ) → AreDataItems ds → left ≡ item_count ds
       → place.rest.now ≡ items_encoding ds ++ mid → place.containers.now ≡ items_extents ds ++ post → ItemsStand d total (length place.rest.now) ds → n ≡ items_in_items ds + outside
-      → ((t : List ℕ) → AreItemsJson others ds t → Behind d total fs mid post true (w ++ t) outside) → left ≡ suc less → Coming d total (frame.List less ∷ fs) place (w ++ comma others) n
-  item_comes left less place others w n no_items mid post outside g c e l s a ends some = absurd (omega arith)
-  item_comes left less place others w n (item x ds) mid post outside g c e l s a ends some =
+      → ((js : json.Items) → AreItemsJson ds js → Behind d total fs mid post (w ++ items_tokens js) outside) → left ≡ suc less → Coming d total (frame.List less ∷ fs) place w n
+  item_comes left less place w n no_items mid post outside g c e l s a ends some = absurd (omega arith)
+  item_comes left less place w n (item x ds) mid post outside g c e l s a ends some =
       let behind : List ℕ = items_encoding ds ++ mid in
       let encoded : place.rest.now ≡ encoding x ++ behind = e ∙ append_assoc (encoding x) (items_encoding ds) mid in
       let long : length place.rest.now ≡ length (encoding x) + length behind = ap length encoded ∙ length-append (encoding x) behind in
@@ -127,7 +129,7 @@ module _ (d : DataItem) (total : ℕ) (fs : List Frame) where
         };
         outside = items_in_items ds + outside;
         all = omega arith;
-        ends = λ t is. record {
+        ends = λ j is. record {
           items = ds;
           mid = mid;
           post = post;
@@ -138,33 +140,33 @@ module _ (d : DataItem) (total : ℕ) (fs : List Frame) where
           listed_so = refl;
           stand = λ m r y v q. s (length (encoding x) + m) r y (inr (m, v, refl)) (omega (arith, q, long));
           all = refl;
-          ends = λ u us. subst (λ xs. Behind d total fs mid post true xs outside) (four w (comma others) t u) (ends (comma others ++ (t ++ u)) (item_json others x ds t u is us));
+          ends = λ js us. subst (λ xs. Behind d total fs mid post xs outside) (three w (json_tokens j) (items_tokens js)) (ends (json.item j js) (item_json x ds j js is us));
         };
       }
 
-  pub next_item_comes : (left less : ℕ) (place : Place) (others : Bool) (w : List ℕ) (n : ℕ) → Behind d total (frame.List left ∷ fs) place.rest.now place.containers.now others w n → left ≡ suc less
-      → Coming d total (frame.List less ∷ fs) place (w ++ comma others) n
-  next_item_comes left less place others w n b some =
-      item_comes left less place others w n b.items b.mid b.post b.outside b.are_items b.count b.encoded b.listed_so b.stand b.all b.ends some
+  pub next_item_comes : (left less : ℕ) (place : Place) (w : List Token) (n : ℕ) → Behind d total (frame.List left ∷ fs) place.rest.now place.containers.now w n → left ≡ suc less
+      → Coming d total (frame.List less ∷ fs) place w n
+  next_item_comes left less place w n b some =
+      item_comes left less place w n b.items b.mid b.post b.outside b.are_items b.count b.encoded b.listed_so b.stand b.all b.ends some
 
-  no_item_comes : (rest : List ℕ) (listed : List Extent) (others : Bool) (w : List ℕ) (n : ℕ) (ds : DataItems) (mid : List ℕ) (post : List Extent) (outside : ℕ) → 0 ≡ item_count ds
-      → rest ≡ items_encoding ds ++ mid → listed ≡ items_extents ds ++ post → n ≡ items_in_items ds + outside → ((t : List ℕ) → AreItemsJson others ds t → Behind d total fs mid post true (w ++ t) outside)
-      → Behind d total fs rest listed true (w ++ codes "]") n
-  no_item_comes rest listed others w n no_items mid post outside c e l a ends =
+  no_item_comes : (rest : List ℕ) (listed : List Extent) (w : List Token) (n : ℕ) (ds : DataItems) (mid : List ℕ) (post : List Extent) (outside : ℕ) → 0 ≡ item_count ds
+      → rest ≡ items_encoding ds ++ mid → listed ≡ items_extents ds ++ post → n ≡ items_in_items ds + outside → ((js : json.Items) → AreItemsJson ds js → Behind d total fs mid post (w ++ items_tokens js) outside)
+      → Behind d total fs rest listed (w ++ end_array ∷ []) n
+  no_item_comes rest listed w n no_items mid post outside c e l a ends =
       let same : outside ≡ n = omega arith in
-      subst (λ xs. Behind d total fs xs listed true (w ++ codes "]") n) (sym e)
-      (subst (λ xs. Behind d total fs mid xs true (w ++ codes "]") n) (sym l)
-      (subst (λ (k : ℕ). Behind d total fs mid post true (w ++ codes "]") k) same (ends (codes "]") (no_more_items others))))
-  no_item_comes rest listed others w n (item x ds) mid post outside c e l a ends = absurd (omega arith)
+      subst (λ xs. Behind d total fs xs listed (w ++ end_array ∷ []) n) (sym e)
+      (subst (λ xs. Behind d total fs mid xs (w ++ end_array ∷ []) n) (sym l)
+      (subst (λ (k : ℕ). Behind d total fs mid post (w ++ end_array ∷ []) k) same (ends json.no_items no_more_items)))
+  no_item_comes rest listed w n (item x ds) mid post outside c e l a ends = absurd (omega arith)
 
-  pub list_ends : (left : ℕ) (rest : List ℕ) (listed : List Extent) (others : Bool) (w : List ℕ) (n : ℕ) → Behind d total (frame.List left ∷ fs) rest listed others w n → left ≡ 0
-      → Behind d total fs rest listed true (w ++ codes "]") n
-  list_ends left rest listed others w n b none = no_item_comes rest listed others w n b.items b.mid b.post b.outside (sym none ∙ b.count) b.encoded b.listed_so b.all b.ends
+  pub list_ends : (left : ℕ) (rest : List ℕ) (listed : List Extent) (w : List Token) (n : ℕ) → Behind d total (frame.List left ∷ fs) rest listed w n → left ≡ 0
+      → Behind d total fs rest listed (w ++ end_array ∷ []) n
+  list_ends left rest listed w n b none = no_item_comes rest listed w n b.items b.mid b.post b.outside (sym none ∙ b.count) b.encoded b.listed_so b.all b.ends
 
   -- a list begins
-  pub list_begins : (items : ℕ) (place inner : Place) (rest : List ℕ) (w : List ℕ) (n : ℕ) (old new : Option (List ℕ)) (fs2 : List Frame) (c : Coming d total fs place w n)
+  pub list_begins : (items : ℕ) (place inner : Place) (rest : List ℕ) (w : List Token) (n : ℕ) (old new : Written) (fs2 : List Frame) (c : Coming d total fs place w n)
       → IsHeadOf (begin.List items) c.value rest c.part.mid → inner.rest.now ≡ rest → ((x : Extent) (xs : List Extent) → place.containers.now ≡ x ∷ xs → inner.containers.now ≡ xs)
-      → Appends old new (codes "[") → fs2 ≡ frame.List items ∷ fs → Wrote d total fs2 inner false w n old new
+      → Wrote old new (begin_array ∷ []) → fs2 ≡ frame.List items ∷ fs → Begun d total fs2 inner w n old new
   list_begins items place inner rest w n old new fs2 c i r inside wrote pushed =
       let ds : DataItems = i.0 in
       let is : IsDataItem (list ds) = subst IsDataItem i.1 c.part.holds.begins.is_item in
@@ -176,7 +178,7 @@ module _ (d : DataItem) (total : ℕ) (fs : List Frame) where
       let stands : StandsIn d c.part.stands.at (list ds) = subst (StandsIn d c.part.stands.at) i.1 c.part.stands.stands in
       let at = c.part.stands.is_at in
       let counted = ap items_in i.1 in
-      let left : Behind d total (frame.List items ∷ fs) inner.rest.now inner.containers.now false (w ++ codes "[") (items_in_items ds + c.outside) = record {
+      let left : Behind d total (frame.List items ∷ fs) inner.rest.now inner.containers.now (w ++ begin_array ∷ []) (items_in_items ds + c.outside) = record {
         items = ds;
         mid = c.part.mid;
         post = c.part.post;
@@ -187,62 +189,63 @@ module _ (d : DataItem) (total : ℕ) (fs : List Frame) where
         listed_so = inside _ _ (c.part.holds.listed ∙ ap (λ x. extents x ++ c.part.post) i.1);
         stand = λ m left x v e. record { at = c.part.stands.at + (length (head Array (item_count ds)) + m); stands = in_list c.part.stands.at m ds x stands v; is_at = omega arith };
         all = refl;
-        ends = λ t js. subst (λ xs. Behind d total fs c.part.mid c.part.post true xs c.outside) (three w (codes "[") t) (c.ends (codes "[" ++ t) (subst (λ x. IsJson x (codes "[" ++ t)) (sym i.1) (of_list ds t js)));
+        ends = λ js are. subst (λ xs. Behind d total fs c.part.mid c.part.post xs c.outside) (three w (begin_array ∷ []) (items_tokens js))
+            (c.ends (json.array js) (subst (λ x. IsItemJson x (json.array js)) (sym i.1) (of_list ds js are)));
       } in
       record {
-        text = codes "[";
+        tokens = begin_array ∷ [];
         left = items_in_items ds + c.outside;
-        appended = wrote;
+        wrote = wrote;
         fewer = omega (arith, counted, c.all);
-        behind = subst (λ ls. Behind d total ls inner.rest.now inner.containers.now false (w ++ codes "[") (items_in_items ds + c.outside)) (sym pushed) left;
+        behind = subst (λ ls. Behind d total ls inner.rest.now inner.containers.now (w ++ begin_array ∷ []) (items_in_items ds + c.outside)) (sym pushed) left;
       }
 
   -- a scalar was written
-  pub scalar_written : (h : ItemHead) (place next : Place) (w t : List ℕ) (n : ℕ) (old new : Option (List ℕ)) (c : Coming d total fs place w n) → IsHeadOf h c.value next.rest.now c.part.mid
-      → ((k : ℕ) → h ≡ begin.List k → ⊥) → ((k : ℕ) → h ≡ begin.Map k → ⊥) → IsHeadJson h t → next.containers.now ≡ place.containers.now → Appends old new t → Wrote d total fs next true w n old new
-  scalar_written h place next w t n old new c i l m x same wrote =
-      let s = scalar_json h c.value next.rest.now c.part.mid t i c.part.holds.begins.is_item l m x in
+  pub scalar_written : (h : ItemHead) (place next : Place) (w : List Token) (j : Json) (n : ℕ) (old new : Written) (c : Coming d total fs place w n) → IsHeadOf h c.value next.rest.now c.part.mid
+      → ((k : ℕ) → h ≡ begin.List k → ⊥) → ((k : ℕ) → h ≡ begin.Map k → ⊥) → IsHeadJson h j → next.containers.now ≡ place.containers.now → Wrote old new (json_tokens j) → Begun d total fs next w n old new
+  scalar_written h place next w j n old new c i l m x same wrote =
+      let s = scalar_json h c.value next.rest.now c.part.mid j i c.part.holds.begins.is_item l m x in
       let one = s.0.one in
       let listed : next.containers.now ≡ c.part.post = same ∙ c.part.holds.listed ∙ ap (λ xs. xs ++ c.part.post) s.0.none in
       record {
-        text = t;
+        tokens = json_tokens j;
         left = c.outside;
-        appended = wrote;
+        wrote = wrote;
         fewer = omega (arith, c.all);
-        behind = subst (λ xs. Behind d total fs xs next.containers.now true (w ++ t) c.outside) (sym s.1)
-            (subst (λ xs. Behind d total fs c.part.mid xs true (w ++ t) c.outside) (sym listed) (c.ends t (of_scalar c.value t s.0.text)));
+        behind = subst (λ xs. Behind d total fs xs next.containers.now (w ++ json_tokens j) c.outside) (sym s.1)
+            (subst (λ xs. Behind d total fs c.part.mid xs (w ++ json_tokens j) c.outside) (sym listed) (c.ends j (of_scalar c.value j s.0.json)));
       }
 
   -- ---- a map
 
-  pub map_begins : (count : ℕ) (place after : Place) (rest : List ℕ) (w : List ℕ) (n : ℕ) (old new : Option (List ℕ)) (fs2 : List Frame) (v : Vec Entry Global) (sorted : List Entry) (c : Coming d total fs place w n)
+  pub map_begins : (count : ℕ) (place after : Place) (rest : List ℕ) (w : List Token) (n : ℕ) (old new : Written) (fs2 : List Frame) (v : Vec Entry Global) (sorted : List Entry) (c : Coming d total fs place w n)
       (i : IsHeadOf (begin.Map count) c.value rest c.part.mid) (a : AreEntriesOf d total i.0 sorted) → v.items ≡ reverse sorted → AreReserved (map (λ k. k.member) a.known) false
-      → IsBehind (Some after) c.part.mid c.part.post → Appends old new (codes "{") → fs2 ≡ frame.Map v after ∷ fs → Wrote d total fs2 place false w n old new
+      → IsBehind (Some after) c.part.mid c.part.post → Wrote old new (begin_object ∷ []) → fs2 ≡ frame.Map v after ∷ fs → Begun d total fs2 place w n old new
   map_begins count place after rest w n old new fs2 v sorted c i a turned free b wrote pushed =
       let es : DataEntries = i.0 in
       let ordered = map (λ (k : KnownEntry d total). k.member) a.known in
       let counted = ordered_counted es ordered a.in_order in
       let value = ap items_in i.1 in
-      let left : Behind d total (frame.Map v after ∷ fs) place.rest.now place.containers.now false (w ++ codes "{") (items_in_entries es + c.outside) = record {
+      let left : Behind d total (frame.Map v after ∷ fs) place.rest.now place.containers.now (w ++ begin_object ∷ []) (items_in_entries es + c.outside) = record {
         known = a.known;
         outside = c.outside;
         are = turned ∙ ap reverse a.are;
         all = ap (λ (k : ℕ). k + c.outside) (sym counted);
-        ends = λ t js. subst (λ xs. Behind d total fs xs after.containers.now true ((w ++ codes "{") ++ t) c.outside) (sym b.0)
-            (subst (λ xs. Behind d total fs c.part.mid xs true ((w ++ codes "{") ++ t) c.outside) (sym b.1)
-            (subst (λ xs. Behind d total fs c.part.mid c.part.post true xs c.outside) (three w (codes "{") t)
-            (c.ends (codes "{" ++ t) (subst (λ x. IsJson x (codes "{" ++ t)) (sym i.1) (of_map es ordered t a.in_order free js)))));
+        ends = λ js are. subst (λ xs. Behind d total fs xs after.containers.now ((w ++ begin_object ∷ []) ++ members_tokens js) c.outside) (sym b.0)
+            (subst (λ xs. Behind d total fs c.part.mid xs ((w ++ begin_object ∷ []) ++ members_tokens js) c.outside) (sym b.1)
+            (subst (λ xs. Behind d total fs c.part.mid c.part.post xs c.outside) (three w (begin_object ∷ []) (members_tokens js))
+            (c.ends (json.object js) (subst (λ x. IsItemJson x (json.object js)) (sym i.1) (of_map es ordered js a.in_order free are)))));
       } in
       record {
-        text = codes "{";
+        tokens = begin_object ∷ [];
         left = items_in_entries es + c.outside;
-        appended = wrote;
+        wrote = wrote;
         fewer = omega (arith, value, c.all);
-        behind = subst (λ ls. Behind d total ls place.rest.now place.containers.now false (w ++ codes "{") (items_in_entries es + c.outside)) (sym pushed) left;
+        behind = subst (λ ls. Behind d total ls place.rest.now place.containers.now (w ++ begin_object ∷ []) (items_in_entries es + c.outside)) (sym pushed) left;
       }
 
   -- the map is reserved
-  pub map_reserved : (count at : ℕ) (place : Place) (rest : List ℕ) (w : List ℕ) (n : ℕ) (entries : List Entry) (c : Coming d total fs place w n)
+  pub map_reserved : (count at : ℕ) (place : Place) (rest : List ℕ) (w : List Token) (n : ℕ) (entries : List Entry) (c : Coming d total fs place w n)
       (i : IsHeadOf (begin.Map count) c.value rest c.part.mid) (a : AreEntriesOf d total i.0 entries) → AreReserved (map (λ k. k.member) a.known) true → at ≡ total - length place.rest.now
       → IsJsonError d (Reserved at)
   map_reserved count at place rest w n entries c i a reserved e =
@@ -254,86 +257,84 @@ module _ (d : DataItem) (total : ℕ) (fs : List Frame) where
         reserved,
       )
 
-  entry_comes : (x : Entry) (ys : List Entry) (after : Place) (others : Bool) (w : List ℕ) (n : ℕ) (v2 : Vec Entry Global) (known : List (KnownEntry d total)) (outside : ℕ)
+  entry_comes : (x : Entry) (ys : List Entry) (after : Place) (w : List Token) (n : ℕ) (v2 : Vec Entry Global) (known : List (KnownEntry d total)) (outside : ℕ)
       → map (λ k. k.entry) known ≡ x ∷ reverse ys → n ≡ items_in_members (map (λ k. k.member) known) + outside
-      → ((t : List ℕ) → AreMembersJson others (map (λ k. k.member) known) t → Behind d total fs after.rest.now after.containers.now true (w ++ t) outside) → v2.items ≡ ys
-      → Coming d total (frame.Map v2 after ∷ fs) x.value (w ++ (comma others ++ key_json x.key.now)) n
-  entry_comes x ys after others w n v2 [] outside e a ends pushed = absurd cc
-  entry_comes x ys after others w n v2 (k ∷ ks) outside e a ends pushed =
+      → ((js : json.Members) → AreMembersJson (map (λ k. k.member) known) js → Behind d total fs after.rest.now after.containers.now (w ++ members_tokens js) outside) → v2.items ≡ ys
+      → Coming d total (frame.Map v2 after ∷ fs) x.value (w ++ key x.key.now ∷ []) n
+  entry_comes x ys after w n v2 [] outside e a ends pushed = absurd cc
+  entry_comes x ys after w n v2 (k ∷ ks) outside e a ends pushed =
       let first : k.entry ≡ x = cc e in
       let more : map (λ (j : KnownEntry d total). j.entry) ks ≡ reverse ys = cc e in
-      let key : x.key.now ≡ k.member.0 = ap (λ (y : Entry). y.key.now) (sym first) ∙ k.key in
-      let before : List ℕ = key_json x.key.now in
+      let same_key : x.key.now ≡ k.member.0 = ap (λ (y : Entry). y.key.now) (sym first) ∙ k.key in
+      let before : List Token = key x.key.now ∷ [] in
       let sum = sum_by-cons (λ (m : Member). items_in m.1) k.member (map (λ (j : KnownEntry d total). j.member) ks) in
-      let texts : (t u : List ℕ) → w ++ (comma others ++ (key_json k.member.0 ++ (t ++ u))) ≡ ((w ++ (comma others ++ before)) ++ t) ++ u = λ t u.
-      ap (λ (s : List ℕ). w ++ (comma others ++ (key_json s ++ (t ++ u)))) (sym key)
-      ∙ ap (λ (s : List ℕ). w ++ s) (three (comma others) before (t ++ u))
-      ∙ four w (comma others ++ before) t u in
+      let tokens : (t u : List Token) → w ++ key k.member.0 ∷ (t ++ u) ≡ ((w ++ before) ++ t) ++ u = λ t u.
+      ap (λ (s : List ℕ). w ++ key s ∷ (t ++ u)) (sym same_key) ∙ three w before (t ++ u) ∙ three (w ++ before) t u in
       record {
         value = k.member.1;
         part = subst (λ (y : Entry). HoldsPart d total k.member.1 y.value) first k.value;
         outside = items_in_members (map (λ (j : KnownEntry d total). j.member) ks) + outside;
         all = omega arith;
-        ends = λ t is. record {
+        ends = λ j is. record {
           known = ks;
           outside = outside;
           are = pushed ∙ sym (reverse-reverse ys) ∙ ap reverse (sym more);
           all = refl;
-          ends = λ u us. subst (λ xs. Behind d total fs after.rest.now after.containers.now true xs outside) (texts t u)
-              (ends (comma others ++ (key_json k.member.0 ++ (t ++ u))) (member_json others k.member (map (λ (j : KnownEntry d total). j.member) ks) t u is us));
+          ends = λ js us. subst (λ xs. Behind d total fs after.rest.now after.containers.now xs outside) (tokens (json_tokens j) (members_tokens js))
+              (ends (json.member k.member.0 j js) (member_json k.member (map (λ (i : KnownEntry d total). i.member) ks) j js is us));
         };
       }
 
-  pub next_entry_comes : (v v2 : Vec Entry Global) (x : Entry) (after : Place) (rest : List ℕ) (listed : List Extent) (others : Bool) (w : List ℕ) (n : ℕ) → Behind d total (frame.Map v after ∷ fs) rest listed others w n
-      → v.items ≡ v2.items ++ x ∷ [] → Coming d total (frame.Map v2 after ∷ fs) x.value (w ++ (comma others ++ key_json x.key.now)) n
-  next_entry_comes v v2 x after rest listed others w n b popped =
+  pub next_entry_comes : (v v2 : Vec Entry Global) (x : Entry) (after : Place) (rest : List ℕ) (listed : List Extent) (w : List Token) (n : ℕ) → Behind d total (frame.Map v after ∷ fs) rest listed w n
+      → v.items ≡ v2.items ++ x ∷ [] → Coming d total (frame.Map v2 after ∷ fs) x.value (w ++ key x.key.now ∷ []) n
+  next_entry_comes v v2 x after rest listed w n b popped =
       let are : map (λ (j : KnownEntry d total). j.entry) b.known ≡ x ∷ reverse v2.items =
       sym (reverse-reverse (map (λ (j : KnownEntry d total). j.entry) b.known)) ∙ ap reverse (sym b.are) ∙ reverse_pop v.items v2.items x popped in
-      entry_comes x v2.items after others w n v2 b.known b.outside are b.all b.ends refl
+      entry_comes x v2.items after w n v2 b.known b.outside are b.all b.ends refl
 
-  no_entry_comes : (after : Place) (others : Bool) (w : List ℕ) (n : ℕ) (known : List (KnownEntry d total)) (outside : ℕ) → length (map (λ k. k.entry) known) ≡ 0
+  no_entry_comes : (after : Place) (w : List Token) (n : ℕ) (known : List (KnownEntry d total)) (outside : ℕ) → length (map (λ k. k.entry) known) ≡ 0
       → n ≡ items_in_members (map (λ k. k.member) known) + outside
-      → ((t : List ℕ) → AreMembersJson others (map (λ k. k.member) known) t → Behind d total fs after.rest.now after.containers.now true (w ++ t) outside)
-      → Behind d total fs after.rest.now after.containers.now true (w ++ codes "}") n
-  no_entry_comes after others w n [] outside none a ends =
+      → ((js : json.Members) → AreMembersJson (map (λ k. k.member) known) js → Behind d total fs after.rest.now after.containers.now (w ++ members_tokens js) outside)
+      → Behind d total fs after.rest.now after.containers.now (w ++ end_object ∷ []) n
+  no_entry_comes after w n [] outside none a ends =
       let same : outside ≡ n = omega arith in
-      subst (λ (k : ℕ). Behind d total fs after.rest.now after.containers.now true (w ++ codes "}") k) same (ends (codes "}") (no_more_members others))
-  no_entry_comes after others w n (k ∷ ks) outside none a ends = absurd (omega arith)
+      subst (λ (k : ℕ). Behind d total fs after.rest.now after.containers.now (w ++ end_object ∷ []) k) same (ends json.no_members no_more_members)
+  no_entry_comes after w n (k ∷ ks) outside none a ends = absurd (omega arith)
 
-  pub map_ends : (v : Vec Entry Global) (after : Place) (rest : List ℕ) (listed : List Extent) (others : Bool) (w : List ℕ) (n : ℕ) → Behind d total (frame.Map v after ∷ fs) rest listed others w n → v.items ≡ []
-      → Behind d total fs after.rest.now after.containers.now true (w ++ codes "}") n
-  map_ends v after rest listed others w n b none =
+  pub map_ends : (v : Vec Entry Global) (after : Place) (rest : List ℕ) (listed : List Extent) (w : List Token) (n : ℕ) → Behind d total (frame.Map v after ∷ fs) rest listed w n → v.items ≡ []
+      → Behind d total fs after.rest.now after.containers.now (w ++ end_object ∷ []) n
+  map_ends v after rest listed w n b none =
       let empty : map (λ (j : KnownEntry d total). j.entry) b.known ≡ [] = sym (reverse-reverse (map (λ (j : KnownEntry d total). j.entry) b.known)) ∙ ap reverse (sym b.are ∙ none) in
-      no_entry_comes after others w n b.known b.outside (ap length empty) b.all b.ends
+      no_entry_comes after w n b.known b.outside (ap length empty) b.all b.ends
 
 -- ---- what comes next
 
-module _ (d : DataItem) (total : ℕ) (fs : List Frame) (w t : List ℕ) (n : ℕ) (old mid new : Option (List ℕ)) (a : Appends old mid t) where
+module _ (d : DataItem) (total : ℕ) (fs : List Frame) (w t : List Token) (n : ℕ) (old mid new : Written) (a : Wrote old mid t) where
   pub step_leads : (next : Place) → Steps d total fs (Value next) (w ++ t) n mid new → Leads d total fs (Some next) w n old new
   step_leads next s = record {
-    text = t ++ s.text;
-    appended = Appends-trans old mid new t s.text a s.appended;
-    to = subst (λ xs. Coming d total fs next xs n) (append_assoc w t s.text) s.to;
+    tokens = t ++ s.tokens;
+    wrote = Wrote-trans old mid new t s.tokens a s.wrote;
+    to = subst (λ xs. Coming d total fs next xs n) (append_assoc w t s.tokens) s.to;
   }
 
-  pub step_ends : (after : Place) → Steps d total fs (End after) (w ++ t) n mid new → (text : List ℕ) × Appends old new text × Behind d total fs after.rest.now after.containers.now true (w ++ text) n
+  pub step_ends : (after : Place) → Steps d total fs (End after) (w ++ t) n mid new → (ts : List Token) × Wrote old new ts × Behind d total fs after.rest.now after.containers.now (w ++ ts) n
   step_ends after s = (
-    t ++ s.text,
-    Appends-trans old mid new t s.text a s.appended,
-    subst (λ xs. Behind d total fs after.rest.now after.containers.now true xs n) (append_assoc w t s.text) s.to,
+    t ++ s.tokens,
+    Wrote-trans old mid new t s.tokens a s.wrote,
+    subst (λ xs. Behind d total fs after.rest.now after.containers.now xs n) (append_assoc w t s.tokens) s.to,
   )
 
 -- ---- the loop
 
--- a value is to come, so many were written, and this text of the whole
-pub record Running (d : DataItem) (total : ℕ) (fs : List Frame) (place : Place) (old new : Option (List ℕ)) (done : ℕ) : Type 0 where
-  pub text : List ℕ
-  pub written : Appends old new text
+-- a value is to come, so many were written, and these tokens of the whole
+pub record Running (d : DataItem) (total : ℕ) (fs : List Frame) (place : Place) (old new : Written) (done : ℕ) : Type 0 where
+  pub tokens : List Token
+  pub wrote : Wrote old new tokens
   pub left : ℕ
-  pub coming : Coming d total fs place text left
+  pub coming : Coming d total fs place tokens left
   pub count : done + left ≡ items_in d
 
-pub running_first : (d : DataItem) (value behind : List ℕ) (fs : List Frame) (place : Place) (old : Option (List ℕ)) → BeginsWithItem d value behind → fs ≡ [] → place.rest.now ≡ value
+pub running_first : (d : DataItem) (value behind : List ℕ) (fs : List Frame) (place : Place) (old : Written) → BeginsWithItem d value behind → fs ≡ [] → place.rest.now ≡ value
     → place.containers.now ≡ extents d → Running d (length value) fs place old old 0
 running_first d value behind fs place old b none r l =
     let first : Coming d (length value) [] place [] (items_in d) = record {
@@ -346,38 +347,39 @@ running_first d value behind fs place old b none r l =
       };
       outside = 0;
       all = omega arith;
-      ends = λ t is. is;
+      ends = λ j is. (j, is, refl);
     } in
     record {
-      text = [];
-      written = Appends-nil old;
+      tokens = [];
+      wrote = Wrote-nil old;
       left = items_in d;
       coming = subst (λ ls. Coming d (length value) ls place [] (items_in d)) (sym none) first;
       count = omega arith;
     }
 
-pub running_next : (d : DataItem) (total : ℕ) (fs fs2 fs3 : List Frame) (place behind next : Place) (others : Bool) (old cur mid new : Option (List ℕ)) (done more : ℕ) (r : Running d total fs place old cur done)
-    (w : Wrote d total fs2 behind others r.text r.left cur mid) (l : Leads d total fs3 (Some next) (r.text ++ w.text) w.left mid new) → more ≡ suc done → Running d total fs3 next old new more
-running_next d total fs fs2 fs3 place behind next others old cur mid new done more r w l n =
+pub running_next : (d : DataItem) (total : ℕ) (fs fs2 fs3 : List Frame) (place behind next : Place) (old cur mid new : Written) (done more : ℕ) (r : Running d total fs place old cur done)
+    (w : Begun d total fs2 behind r.tokens r.left cur mid) (l : Leads d total fs3 (Some next) (r.tokens ++ w.tokens) w.left mid new) → more ≡ suc done → Running d total fs3 next old new more
+running_next d total fs fs2 fs3 place behind next old cur mid new done more r w l n =
     record {
-      text = (r.text ++ w.text) ++ l.text;
-      written = Appends-trans old mid new (r.text ++ w.text) l.text (Appends-trans old cur mid r.text w.text r.written w.appended) l.appended;
+      tokens = (r.tokens ++ w.tokens) ++ l.tokens;
+      wrote = Wrote-trans old mid new (r.tokens ++ w.tokens) l.tokens (Wrote-trans old cur mid r.tokens w.tokens r.wrote w.wrote) l.wrote;
       left = w.left;
       coming = l.to;
       count = omega (arith, r.count, w.fewer);
     }
 
-pub running_last : (d : DataItem) (total : ℕ) (fs fs2 fs3 : List Frame) (place behind : Place) (others : Bool) (old cur mid new : Option (List ℕ)) (done : ℕ) (r : Running d total fs place old cur done)
-    (w : Wrote d total fs2 behind others r.text r.left cur mid) (l : Leads d total fs3 None (r.text ++ w.text) w.left mid new) → (t : List ℕ) × IsJson d t × Appends old new t
-running_last d total fs fs2 fs3 place behind others old cur mid new done r w l =
-    ((r.text ++ w.text) ++ l.text, l.to, Appends-trans old mid new (r.text ++ w.text) l.text (Appends-trans old cur mid r.text w.text r.written w.appended) l.appended)
+pub running_last : (d : DataItem) (total : ℕ) (fs fs2 fs3 : List Frame) (place behind : Place) (old cur mid new : Written) (done : ℕ) (r : Running d total fs place old cur done)
+    (w : Begun d total fs2 behind r.tokens r.left cur mid) (l : Leads d total fs3 None (r.tokens ++ w.tokens) w.left mid new) → (j : Json) × IsItemJson d j × Wrote old new (json_tokens j)
+running_last d total fs fs2 fs3 place behind old cur mid new done r w l =
+    let wrote = Wrote-trans old mid new (r.tokens ++ w.tokens) l.tokens (Wrote-trans old cur mid r.tokens w.tokens r.wrote w.wrote) l.wrote in
+    (l.to.0, l.to.1, subst (Wrote old new) l.to.2 wrote)
 
 -- there are no more values than bytes
-pub not_running : (d : DataItem) (value behind : List ℕ) (fs : List Frame) (place : Place) (old new : Option (List ℕ)) (done : ℕ) → BeginsWithItem d value behind → length value ≤ done
+pub not_running : (d : DataItem) (value behind : List ℕ) (fs : List Frame) (place : Place) (old new : Written) (done : ℕ) → BeginsWithItem d value behind → length value ≤ done
     → Running d (length value) fs place old new done → ⊥
 not_running d value behind fs place old new done b enough r =
     omega (arith, r.count, r.coming.all, some_items r.coming.value, few_items d, ap length b.encoded, length-append (encoding d) behind)
 
-pub output_error : (d : DataItem) (e : ShowError) → IsOutputError e → IsJsonError d e
-output_error d (Reserved n) h = absurd h
-output_error d e h = h
+pub memory_error : (d : DataItem) (e : ShowError) → IsMemory e → IsJsonError d e
+memory_error d (Reserved n) h = absurd h
+memory_error d e h = h

@@ -1,17 +1,17 @@
 -- The lists and maps of a value, listed as it is read.
-use Rattle.std.proofs.Common.{◌≡◌, ◌⊎◌, inl, inr, ℕ, suc, ◌+◌, ◌-◌, ◌^◌, ◌<◌, List, [], ◌∷◌, ◌++◌, length, reverse, refl, sym, ap, ap₂, subst, ◌∙◌, append_assoc, append-nil, length-append, arith}
+use Rattle.std.proofs.Common.{◌≡◌, ◌⊎◌, inl, inr, ℕ, suc, ◌+◌, ◌-◌, ◌^◌, ◌<◌, List, [], ◌∷◌, ◌++◌, length, reverse, refl, sym, ap, subst, ◌∙◌, append_assoc, append-nil, length-append, arith}
 use Rattle.std.specs.Prelude.{slice_set}
 use Rattle.std.proofs.Math.Seq.{set-append_seam}
 use Rattle.dag_cbor_format.specs.declared.item.ItemHead.{ItemHead}
 use Rattle.dag_cbor_format.specs.declared.item.ItemHead.TheVariants as begin
-use Rattle.ipld_show.specs.DataItem.{DataItem, null, boolean, integer, float, text_string, byte_string, link, list, map, encoding, IsDataItem, BeginsWithItem}
+use Rattle.ipld_show.specs.DataItem.{DataItem, encoding, BeginsWithItem}
 use Rattle.ipld_show.specs.Extents.{extents, extent_before}
 use Rattle.ipld_show.specs.ExtentsToCome.{encodings, all_extents, AllItems, ended, InOpen, PendingIn, Pending, ItemPending, Following}
 use Rattle.ipld_show.specs.Heads.{IsHeadOf}
 use Rattle.ipld_show.specs.Skipping.{items_within}
 use Rattle.ipld_show.specs.declared.containers.Extent.{Extent}
 use Rattle.ipld_show.specs.declared.containers.Open.{Open}
-use Rattle.ipld_show.proofs.Skips.{long, Opens, Inside, inside}
+use Rattle.ipld_show.proofs.Skips.{long, Opens, Inside}
 use Rattle.ipld_show.proofs.Trees.{reverse_pop}
 
 -- ---- what begins

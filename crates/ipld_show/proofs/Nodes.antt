@@ -9,7 +9,7 @@ use Rattle.ipld_cid.specs.Cid.{Link}
 use Rattle.dag_cbor_format.specs.Writing.{Adds}
 use Rattle.dag_cbor_format.specs.Canonical.{canonical, canonical_items, written_text, written_link, written_map, written_with, headed, joined, item_count}
 use Rattle.dag_cbor_format.specs.Head.{head}
-use Rattle.dag_cbor_format.specs.declared.major.Major.TheVariants.{Unsigned, Map, List as Array}
+use Rattle.dag_cbor_format.specs.declared.major.Major.TheVariants.{Map, List as Array}
 use Rattle.dag_pb.specs.declared.error.PbError.{PbError}
 use Rattle.dag_pb.specs.Node.{LinkParts, NodeParts}
 use Rattle.dag_pb.specs.NodeReading.{read_node, links_found}
@@ -21,7 +21,7 @@ use Rattle.ipld_block.specs.declared.error.CheckError.{CheckError}
 use Rattle.ipld_block.specs.declared.error.CheckError.TheVariants.{Memory, Invalid}
 use Rattle.ipld_show.specs.declared.error.ShowError.{ShowError}
 use Rattle.ipld_show.specs.Blocks.{IsNoNode, IsShown}
-use Rattle.ipld_tree.specs.Tree.{Tree, integer, text, bytes, link}
+use Rattle.ipld_tree.specs.Tree.{integer, text, bytes, link}
 use Rattle.ipld_show.specs.Entries.{written_entry}
 use Rattle.ipld_show.specs.Node.{link_tree, link_trees, node_tree}
 

@@ -1,5 +1,5 @@
 -- The values in a block, reached in any order.
-use Rattle.std.proofs.Common.{◌≡◌, inl, inr, ℕ, zero, suc, ◌+◌, ◌-◌, ◌<◌, ◌≤◌, Bool, true, false, List, [], ◌∷◌, ◌++◌, length, map, take, drop, get_or, Bor, nat_cmp, is_lt, Option, Some, None, Result, Ok, Err, refl, sym, ap, ap₂, subst, ◌∙◌, append_assoc, append-nil, length-append, bytes_eq, arith}
+use Rattle.std.proofs.Common.{◌≡◌, inl, inr, ℕ, suc, ◌+◌, ◌-◌, ◌<◌, ◌≤◌, Bool, true, false, List, [], ◌∷◌, ◌++◌, length, map, take, drop, get_or, Bor, nat_cmp, is_lt, Option, Some, None, Result, Ok, Err, refl, sym, ap, ap₂, subst, ◌∙◌, append_assoc, append-nil, length-append, bytes_eq, arith}
 use Rattle.std.specs.Prelude.{◌&&◌, codes, MatchResult}
 use Rattle.std.specs.Cmp.Lexicographic.{slice_cmp}
 use Rattle.std.specs.List.Sorted.{IsPermutation, IsSortedBy}
@@ -7,22 +7,21 @@ use Rattle.std.proofs.lemmas.List.{length-map, map-append, get_or-map, drop_at, 
 use Rattle.std.proofs.lemmas.List.Sorted.{IsPermutation-map}
 use Rattle.dag_cbor_format.specs.Canonical.{is_before}
 use Rattle.dag_cbor_format.proofs.Permuting.{lifted}
-use Rattle.dag_cbor_format.specs.ItemHeads.{BeginsWithKey}
-use Rattle.dag_cbor_format.specs.declared.major.Major.TheVariants.{List as Array, Map}
+use Rattle.dag_cbor_format.specs.declared.major.Major.TheVariants.{Map}
 use Rattle.dag_cbor_format.specs.Head.{head}
 use Rattle.dag_cbor_format.specs.declared.item.ItemHead.{ItemHead}
 use Rattle.dag_cbor_format.specs.declared.item.ItemHead.TheVariants as begin
-use Rattle.ipld_show.specs.DataItem.{DataItem, null, boolean, integer, float, text_string, byte_string, link, list, map as of_entries, DataItems, DataEntries, no_entries, entry, entry_count, string_encoding, encoding, items_encoding, entries_encoding, IsDataItem, AreDataEntries, BeginsWithItem}
+use Rattle.ipld_show.specs.DataItem.{DataItem, list, map as of_entries, DataEntries, no_entries, entry, entry_count, string_encoding, encoding, entries_encoding, IsDataItem, BeginsWithItem}
 use Rattle.ipld_show.specs.Extents.{extents, items_extents, entries_extents}
 use Rattle.ipld_show.specs.Heads.{IsHeadOf}
-use Rattle.ipld_show.specs.JsonText.{Member, members_of, AreInKeyOrder, IsInKeyOrder, is_text, begin_with_bytes, ReadsAsContent, AreReserved, IsValueAt, StandsIn, in_map}
-use Rattle.ipld_show.specs.Places.{IsContainer, HoldsItem, IsBehind, StandsBefore, HoldsPart, ValuesStand, HoldsEntries, KnownEntry, AreEntriesOf}
+use Rattle.ipld_show.specs.JsonText.{Member, members_of, AreInKeyOrder, is_text, begin_with_bytes, ReadsAsContent, AreReserved, StandsIn, in_map}
+use Rattle.ipld_show.specs.Places.{IsContainer, HoldsItem, IsBehind, HoldsPart, HoldsEntries, KnownEntry, AreEntriesOf}
 use Rattle.ipld_show.specs.declared.containers.Extent.{Extent}
 use Rattle.ipld_show.specs.declared.places.Place.{Place}
 use Rattle.ipld_show.specs.declared.places.Entry.{Entry}
-use Rattle.ipld_show.specs.Scalars.{IsOutputError}
+use Rattle.ipld_show.specs.Scalars.{IsMemory}
 use Rattle.ipld_show.specs.declared.error.ShowError.{ShowError}
-use Rattle.ipld_show.proofs.Items.{key_is, apart}
+use Rattle.ipld_show.proofs.Items.{apart}
 
 -- ---- lists and maps
 
@@ -301,14 +300,14 @@ begins_otherwise whole total known x same f key e =
     let eq : false ≡ bytes_eq f.member.0 (codes "bytes") = sym e ∙ key ∙ ap (λ (k : List ℕ). bytes_eq k (codes "bytes")) f.key in
     e ∙ ap (λ (b : Bool). b && is_text f.member.1) eq ∙ ap begin_with_bytes (sym f.are)
 
-reserved_as : (r : Result Bool ShowError) (m : Member) (ms : List Member) → bytes_eq m.0 (codes "/") ≡ true → MatchResult r (ReadsAsContent m.1) IsOutputError → MatchResult r (AreReserved (m ∷ ms)) IsOutputError
+reserved_as : (r : Result Bool ShowError) (m : Member) (ms : List Member) → bytes_eq m.0 (codes "/") ≡ true → MatchResult r (ReadsAsContent m.1) IsMemory → MatchResult r (AreReserved (m ∷ ms)) IsMemory
 reserved_as (Ok is) m ms e h = inl (e, h)
 reserved_as (Err error) m ms e h = h
 
 pub reserved_so : (whole : DataItem) (total : ℕ) (known : List (KnownEntry whole total)) (x : Entry) (same : Bool) (r : Result Bool ShowError) → FirstEntry whole total known x → same ≡ bytes_eq x.key.now (codes "/")
-    → ((d : DataItem) → HoldsPart whole total d x.value → MatchResult r (ReadsAsContent d) IsOutputError) → same ≡ true → MatchResult r (AreReserved (map (λ k. k.member) known)) IsOutputError
+    → ((d : DataItem) → HoldsPart whole total d x.value → MatchResult r (ReadsAsContent d) IsMemory) → same ≡ true → MatchResult r (AreReserved (map (λ k. k.member) known)) IsMemory
 reserved_so whole total known x same r f key c e =
-    subst (λ ms. MatchResult r (AreReserved ms) IsOutputError) (sym f.are)
+    subst (λ ms. MatchResult r (AreReserved ms) IsMemory) (sym f.are)
     (reserved_as r f.member f.others (ap (λ (k : List ℕ). bytes_eq k (codes "/")) (sym f.key) ∙ sym key ∙ e) (c f.member.1 f.value))
 
 pub not_reserved : (whole : DataItem) (total : ℕ) (known : List (KnownEntry whole total)) (x : Entry) (same : Bool) → FirstEntry whole total known x → same ≡ bytes_eq x.key.now (codes "/")

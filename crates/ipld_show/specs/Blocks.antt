@@ -1,4 +1,4 @@
--- Blocks of DAG-CBOR that stand for those of other codecs.
+-- Blocks of DAG-CBOR that represent blocks of other codecs.
 use Rattle.std.specs.Prelude.{◌≡◌, ◌≢◌, ℕ, true, List, [], ◌++◌, Option, Some, None, Result, Ok, Err, codes}
 use Rattle.std.specs.Io.KnownBytes.{Appends}
 use Rattle.std.specs.declared.io.ErrorKind.TheVariants.{OutOfMemory as NoMemory}
@@ -30,66 +30,73 @@ use Rattle.ipld_show.specs.TreeText.{IsTreeText}
 use Rattle.ipld_show.specs.declared.error.ShowError.{ShowError}
 use Rattle.ipld_show.specs.declared.error.ShowError.TheVariants.{Memory, Write, Invalid, Reserved}
 
--- the bytes are a node, and the block encodes its tree
+-- True if the bytes are a node of DAG-PB, and the block is the canonical encoding of its tree.
 pub record StandsForNode (bytes block : List ℕ) : Type 0 where
   pub node : NodeParts
   pub is_node : IsNode node bytes
   pub encodes : canonical (node_tree node) ≡ Some block
 
--- The bytes are DAG-JSON that encodes a tree, with floats or without, and the block is the canonical
--- one of the item that the tape of this tree describes.
+-- True if the bytes are DAG-JSON of a tree, with or without floats, and the block is the canonical
+-- block of the item that the tape of this tree describes. The block is valid, with floats allowed.
 pub record StandsForJson (bytes block : List ℕ) : Type 0 where
   pub tree : Tree
   pub encodes : EncodesTreeIn true tree bytes
-  -- its tape, over these contents
+  -- the tape of the tree, over these contents
   pub contents : List ℕ
   pub entries : List TapeEntry
   pub tape : IsTape contents tree entries
-  -- the item of the tape, and its bytes in the order of the tape
+  -- the item that the tape describes, and its bytes in the order of the tape
   pub item : Item 64
   pub in_turn : List ℕ
   pub describes : Describes contents item entries in_turn
   pub orders : Orders item in_turn block
   pub is_block : error_in true block ≡ None
 
--- an allocation failed, or this is what is wrong with the bytes, which are no block of the codec, and where
+-- True if the error is that of a failed allocation, or the bytes are not a block of the codec and
+-- it is their error, with its offset.
 abbrev pub IsNoBlock : BlockCodec → List ℕ → ShowError → Type 0
 IsNoBlock codec bytes Memory = Unit {0}
 IsNoBlock codec bytes (Invalid why) = IsInvalid codec bytes why
 IsNoBlock codec bytes _ = ⊥
 
--- the same of a node
+-- True if the error is that of a failed allocation, or the bytes are not a block of DAG-PB and it
+-- is their error.
 abbrev pub IsNoNode : List ℕ → ShowError → Type 0
 IsNoNode bytes error = IsNoBlock DagPb bytes error
 
--- This block of DAG-CBOR has the tree of these bytes, a block of the codec: it is the bytes themselves, or the canonical block of the tree of a node of DAG-PB, of that
--- of DAG-JSON, or of plain bytes.
+-- True if `block` is a block of DAG-CBOR with the tree of `bytes`, a block of the codec. For
+-- DAG-CBOR it is the bytes themselves, if they are valid. For DAG-PB and DAG-JSON it is the
+-- canonical block of their tree, and for raw that of the bytes as a byte string.
 abbrev pub IsCborOf : BlockCodec → List ℕ → List ℕ → Type 0
 IsCborOf DagCbor bytes block = (block ≡ bytes) × (error_in true bytes ≡ None)
 IsCborOf DagPb bytes block = StandsForNode bytes block
 IsCborOf DagJson bytes block = StandsForJson bytes block
 IsCborOf Raw bytes block = canonical (tree.bytes bytes) ≡ Some block
 
--- the data item of these bytes, a block of the codec: that of such a block
+-- True if a block of DAG-CBOR that represents `bytes`, a block of the codec, is the encoding of the
+-- data item `d`.
 abbrev pub IsItemOf : BlockCodec → List ℕ → DataItem → Type 0
 IsItemOf codec bytes d = (block : List ℕ) × IsCborOf codec bytes block × BeginsWithItem d block []
 
--- of the item of a block, unless the bytes are no block, or an allocation failed
+-- True if `P` holds for the data item of the block, or an allocation failed, or the bytes are not a
+-- block of the codec and the result is their error.
 abbrev pub OfBlock : {T : Type 0} → BlockCodec → List ℕ → Result T ShowError → (DataItem → Type 0) → Type 0
 OfBlock codec bytes (Err Memory) P = Unit {0}
 OfBlock codec bytes (Err (Invalid why)) P = IsInvalid codec bytes why
 OfBlock codec bytes r P = (d : DataItem) × IsItemOf codec bytes d × P d
 
--- the text of the tree of what stands at a path in an item was written; or the path leads to nothing, at the segment that the error says, or the writer or an
--- allocation failed
+-- True if the text of the tree of the item at the path was appended, or the error is that of the
+-- writer or of a failed allocation. Also true if the path leads to nothing at the segment in the
+-- error.
 abbrev pub IsTreeAt : DataItem → List ℕ → Result (Unit {0}) ShowError → Option (List ℕ) → Option (List ℕ) → Type 0
 IsTreeAt d path (Ok _) old new = (e : DataItem) × (at_segments 0 (segments path) d ≡ found e) × (t : List ℕ) × IsTreeText e t × Appends old new t
 IsTreeAt d path (Err Memory) old new = Unit {0}
 IsTreeAt d path (Err (Write kind)) old new = kind ≢ NoMemory
 IsTreeAt d path (Err error) old new = LeadsTo (at_segments 0 (segments path) d) (Err error)
 
--- The DAG-JSON of what stands at a path in an item was written, and a line feed; or the path leads to nothing, at the segment that the error says, or a map in what
--- stands there is reserved, or the writer or an allocation failed.
+-- True if the DAG-JSON of the item at the path and a line feed were appended, or the error is that
+-- of the writer or of a failed allocation. Also true if the path leads to nothing at the segment in
+-- the error, or the error has the offset of a reserved map in the item at the path.
 abbrev pub IsJsonAt : DataItem → List ℕ → Result (Unit {0}) ShowError → Option (List ℕ) → Option (List ℕ) → Type 0
 IsJsonAt d path (Ok _) old new = (e : DataItem) × (at_segments 0 (segments path) d ≡ found e) × (t : List ℕ) × IsJson e t × Appends old new (t ++ codes "\n")
 IsJsonAt d path (Err Memory) old new = Unit {0}
@@ -97,24 +104,32 @@ IsJsonAt d path (Err (Write kind)) old new = kind ≢ NoMemory
 IsJsonAt d path (Err (Reserved n)) old new = (e : DataItem) × (at_segments 0 (segments path) d ≡ found e) × IsJsonError e (Reserved n)
 IsJsonAt d path (Err error) old new = LeadsTo (at_segments 0 (segments path) d) (Err error)
 
--- nothing was written, where this error is one of the block or of the path
+-- True if the error is the reason that the DAG-JSON of an item and a line feed weren't written.
+-- Either a map in the item is reserved and nothing was written, or the writer or an allocation
+-- failed.
+abbrev pub IsLineError : DataItem → ShowError → Option (List ℕ) → Option (List ℕ) → Type 0
+IsLineError d (Write kind) old new = kind ≢ NoMemory
+IsLineError d (Reserved n) old new = IsJsonError d (Reserved n) × (new ≡ old)
+IsLineError d error old new = IsJsonError d error
+
+-- True if nothing was written, or the error is that of the writer or of a failed allocation.
 abbrev pub IsUnwritten : ShowError → Option (List ℕ) → Option (List ℕ) → Type 0
 IsUnwritten Memory old new = Unit {0}
 IsUnwritten (Write kind) old new = Unit {0}
-IsUnwritten (Reserved n) old new = Unit {0}
 IsUnwritten _ old new = new ≡ old
 
--- True if the error reports a failed allocation just if the checking did, and otherwise the error
--- in the block.
+-- True if `made` is the error for the error of the check: `Memory` if an allocation failed, and
+-- otherwise the same error in the block.
 abbrev pub IsShown : CheckError → ShowError → Type 0
 IsShown OutOfMemory made = made ≡ Memory
 IsShown (IsInvalidBlock why) made = made ≡ Invalid why
 
--- the CID of a block of the codec of this code: of version 1, with the SHA2-256 digest of the bytes
+-- the CID of a block of the codec with this code: version 1, with the SHA2-256 digest of the bytes
 abbrev pub cid_of_block : ℕ → List ℕ → Link
 cid_of_block code bytes = record { version = V1; codec = code; code = 0x12; digest = sha256 bytes }
 
--- the bytes are no block, this is what is wrong with them, and nothing was written; or the writer or an allocation failed
+-- True if the bytes are not a block of the codec, the error is theirs, and nothing was written.
+-- Also true if the error is that of the writer or of a failed allocation.
 abbrev pub IsCidError : BlockCodec → List ℕ → ShowError → Option (List ℕ) → Option (List ℕ) → Type 0
 IsCidError codec bytes Memory old new = Unit {0}
 IsCidError codec bytes (Write kind) old new = kind ≢ NoMemory

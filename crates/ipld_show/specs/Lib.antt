@@ -12,7 +12,6 @@ pub mod Blocks
 pub mod CidParts
 pub mod Extents
 pub mod ExtentsToCome
-pub mod JsonScalars
 pub mod JsonText
 pub mod Places
 pub mod JsonFrames

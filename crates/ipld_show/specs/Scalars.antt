@@ -1,6 +1,6 @@
--- Scalars as people read them: strings as JSON writes them (RFC 8259, section 7), with every control character escaped, bytes in hexadecimal digits, floats
--- in decimal.
-use Rattle.std.specs.Prelude.{◌≡◌, ◌≢◌, ℕ, ◌/◌, ◌%◌, ◌==◌, ◌&&◌, nat_lt, Bool, true, if◌then◌else◌, List, [], ◌∷◌, ◌++◌, codes, flat_map, encode_utf8, Some}
+-- The texts of scalars for people. Strings are as in JSON (RFC 8259, section 7), with every control
+-- character escaped, bytes are in hexadecimal digits, and floats in decimal.
+use Rattle.std.specs.Prelude.{◌≡◌, ◌≢◌, ℕ, ◌/◌, ◌%◌, ◌==◌, ◌&&◌, nat_lt, true, if◌then◌else◌, List, [], ◌∷◌, ◌++◌, codes, flat_map, encode_utf8, Some}
 use Rattle.std.specs.Char.{digit_char}
 use Rattle.std.specs.Float.{binary64, float_is_finite}
 use Rattle.std.specs.Prelude.{from_bits}
@@ -12,20 +12,21 @@ use Rattle.ryu.specs.Plain.{IsPlainNumber}
 use Rattle.ipld_show.specs.declared.error.ShowError.{ShowError}
 use Rattle.ipld_show.specs.declared.error.ShowError.TheVariants.{Memory, Write}
 
--- two hexadecimal digits
+-- the two hexadecimal digits of a byte
 abbrev pub hex_pair : ℕ → List ℕ
 hex_pair b = digit_char (b / 16) ∷ digit_char (b % 16) ∷ []
 
 abbrev pub hex_text : List ℕ → List ℕ
 hex_text bytes = flat_map hex_pair bytes
 
--- a control character by its code
+-- the escape of a control character by its code
 abbrev pub by_code : ℕ → List ℕ
 by_code c = codes "\\u00" ++ hex_pair c
 
--- a character of a string, where asked for with the control characters escaped that JSON doesn't escape
-unfoldable pub character : Bool → ℕ → List ℕ
-character every_control c =
+-- the text of a character in a string: JSON's short escapes, and other control characters by their
+-- codes
+unfoldable pub character : ℕ → List ℕ
+character c =
     if c == 34 then codes "\\\""
     else if c == 92 then codes "\\\\"
     else if c == 10 then codes "\\n"
@@ -34,27 +35,32 @@ character every_control c =
     else if c == 8 then codes "\\b"
     else if c == 12 then codes "\\f"
     else if nat_lt c 32 then by_code c
-    else if every_control && (nat_lt 126 c && nat_lt c 160) then by_code c
+    else if nat_lt 126 c && nat_lt c 160 then by_code c
     else encode_utf8 c
 
--- The string as JSON writes it, with every control character escaped if `every_control` is true
--- (RFC 8259, section 7).
-abbrev pub quoted : Bool → List ℕ → List ℕ
-quoted every_control s = 34 ∷ (flat_map (character every_control) (chars s) ++ 34 ∷ [])
+-- The string as JSON writes it (RFC 8259, section 7), with every control character escaped.
+abbrev pub quoted : List ℕ → List ℕ
+quoted s = 34 ∷ (flat_map character (chars s) ++ 34 ∷ [])
 
 -- True if the text is a number with a point or an exponent that reads as the float of these bits,
 -- if that is finite (IEEE 754, binary64).
 abbrev pub IsFloatText : ℕ → List ℕ → Type 0
 IsFloatText bits t = float_is_finite (from_bits binary64 bits) ≡ true → IsPlainNumber t × (parse_float binary64 t ≡ Some (from_bits binary64 bits))
 
--- True if an allocation or the writer failed. If the writer found no memory, the error is that of
+-- True if an allocation failed.
+abbrev pub IsMemory : ShowError → Type 0
+IsMemory Memory = Unit {0}
+IsMemory _ = ⊥
+
+-- True if an allocation or the writer failed. If the writer ran out of memory, the error is that of
 -- an allocation.
 abbrev pub IsOutputError : ShowError → Type 0
 IsOutputError Memory = Unit {0}
 IsOutputError (Write kind) = kind ≢ NoMemory
 IsOutputError _ = ⊥
 
--- the error of a writer is made this one, by its kind
+-- True if the error is made from a writer's error of this kind: `Memory` if the writer ran out of
+-- memory, and otherwise `Write` with the kind.
 abbrev pub IsErrorOfWriter : ErrorKind → ShowError → Type 0
 IsErrorOfWriter kind Memory = kind ≡ NoMemory
 IsErrorOfWriter kind (Write same) = (same ≡ kind) × (kind ≢ NoMemory)

@@ -1,22 +1,23 @@
-//! Blocks of any codec, shown.
+//! The printing of blocks of any codec.
 
 ghost use Rattle.std.specs.Prelude.{◌≡◌, ◌++◌, ℕ, true, false, List, [], codes, IfOk, IfErr, MatchOption, MatchResult};
 ghost use Rattle.std.specs.Io.KnownBytes.{Appends};
-ghost use Rattle.ipld_show.specs.Blocks.{IsNoBlock, IsCborOf, OfBlock, IsTreeAt, IsJsonAt, IsUnwritten};
+ghost use Rattle.ipld_show.specs.Blocks.{IsNoBlock, IsCborOf, OfBlock, IsTreeAt, IsJsonAt, IsLineError, IsUnwritten};
 ghost use Rattle.ipld_show.specs.DataItem.{DataItem, BeginsWithItem};
-ghost use Rattle.ipld_show.specs.JsonText.{IsJson, IsJsonError};
+ghost use Rattle.ipld_show.specs.JsonText.{IsJson};
 ghost use Rattle.ipld_show.specs.OnPath.{IsLinkOnPath};
 
 use crate::as_cbor::{bytes_as_cbor, json_as_cbor, node_as_cbor};
 use crate::error::ShowError;
-use crate::json_text::write_json;
+use crate::json_text::to_json;
 use crate::path::{LinkOnPath, link_before_end, value_at};
 use crate::tree_text::write_tree;
 use ipld_block::{BlockCodec, check};
 use std::alloc::Global;
 use std::io::Write;
 
-// The tree of a block of this codec as a valid block of DAG-CBOR, unless it is one itself.
+// Converts the tree of a block of this codec to a valid block of DAG-CBOR, unless it is one
+// already.
 fn as_cbor(alloc: Global, codec: BlockCodec, bytes: &[u8]) -> Result<Option<Vec<u8>>, ShowError>
     ensures made { IfOk result (λ made. MatchOption made (IsCborOf codec bytes.now bytes.now)
         (λ block. IsCborOf codec bytes.now block.items)) }
@@ -42,7 +43,7 @@ fn as_cbor(alloc: Global, codec: BlockCodec, bytes: &[u8]) -> Result<Option<Vec<
     }
 }
 
-// What was made, or the bytes themselves.
+// Returns the block that was made, or the bytes themselves.
 fn cbor_or<'a>(made: &'a Option<Vec<u8>>, bytes: &'a [u8]) -> &'a [u8]
     ensures { MatchOption made.now (result.now ≡ bytes.now) (λ block. result.now ≡ block.items) }
 {
@@ -52,21 +53,23 @@ fn cbor_or<'a>(made: &'a Option<Vec<u8>>, bytes: &'a [u8]) -> &'a [u8]
     }
 }
 
+// Writes a value as DAG-JSON and a line feed, in one call of the writer.
 fn write_json_line<W: Write>(alloc: Global, value: &[u8], writer: &mut W) -> Result<(), ShowError>
     ensures { (d : DataItem) (behind : List ℕ) → BeginsWithItem d value.now behind
         → MatchResult result (λ _. (t : List ℕ) × IsJson d t × Appends (W.contents writer.old)
-        (W.contents writer.new) (t ++ codes "\n")) (IsJsonError d) }
+        (W.contents writer.new) (t ++ codes "\n")) (λ error. IsLineError d error
+        (W.contents writer.old) (W.contents writer.new)) }
 {
-    match write_json(alloc, value, writer) {
-        Ok(()) => {
-            writer.write_all(b"\n")?;
-            Ok(())
-        }
-        Err(error) => Err(error),
-    }
+    let mut line = match to_json(alloc, value) {
+        Ok(text) => text,
+        Err(error) => return Err(error),
+    };
+    line.push(b'\n')?;
+    writer.write_all(&line)?;
+    Ok(())
 }
 
-// Writes what stands at a path in a valid block of DAG-CBOR.
+// Writes the value at a path in a valid block of DAG-CBOR.
 fn show_at<W: Write>(
     alloc: Global,
     block: &[u8],
@@ -92,14 +95,15 @@ fn show_at<W: Write>(
     write_tree(alloc, value, writer)
 }
 
-/// Writes what stands at a path in a block of this codec: as a tree for people, or as DAG-JSON and a line feed.
+/// Writes the value at a path in a block of this codec. The form is a tree for people, or DAG-JSON
+/// and a line feed.
 ///
 /// # Errors
 ///
-/// - `Invalid` where the bytes are no block; nothing was written then.
-/// - `NoSegment` and `NotAContainer` where the path leads to nothing; nothing was written then.
-/// - `Reserved` of a value that DAG-JSON has no form for.
-/// - `Write` where the writer failed.
+/// - `Invalid` if the bytes are not a block of this codec. Nothing was written then.
+/// - `NoSegment` or `NotAContainer` if the path leads to nothing. Nothing was written then.
+/// - `Reserved` if DAG-JSON has no form for the value. Nothing was written then.
+/// - `Write` if the writer fails, and `Memory` if an allocation fails.
 pub fn show<W: Write>(
     alloc: Global,
     codec: BlockCodec,
@@ -121,15 +125,17 @@ pub fn show<W: Write>(
     }
 }
 
-/// The first link that a path leads through in a block of this codec, or `None` where each link that it meets stands at its end.
+/// Returns the first link that a path leads through in a block of this codec. Returns `None` if the
+/// path leads through no link, or only to one at its end.
 ///
-/// What stands behind the link isn't in the block: it is in the block that the link names.
+/// The value after the link is not in this block. It is in the block that the link names.
 ///
 /// # Errors
 ///
-/// - `Invalid` where the bytes are no block.
-/// - `NoSegment` and `NotAContainer` where the path leads to nothing in the block.
-/// - `Memory` where an allocation failed: a block of DAG-PB, of DAG-JSON or of plain bytes is made one of DAG-CBOR first.
+/// - `Invalid` if the bytes are not a block of this codec.
+/// - `NoSegment` or `NotAContainer` if the path leads to nothing in the block.
+/// - `Memory` if an allocation fails. A block of DAG-PB, DAG-JSON or plain bytes is converted to
+///   DAG-CBOR first.
 pub fn link_on_path(
     alloc: Global,
     codec: BlockCodec,

@@ -1,11 +1,11 @@
-//! Where the lists and maps of a block end.
+//! The extents of the lists and maps of a block.
 
 ghost use Rattle.std.specs.Prelude.{◌≡◌, ℕ, ◌+◌, ◌≤◌, List, ◌++◌, length, OnOk, MatchResult};
 ghost use Rattle.ipld_show.specs.DataItem.{DataItem, encoding, IsDataItem, BeginsWithItem};
 ghost use Rattle.ipld_show.specs.Extents.{extents};
 ghost use Rattle.ipld_show.specs.ExtentsToCome.{ended, Pending, Following};
 ghost use Rattle.ipld_show.specs.Heads.{IsHeadOf};
-ghost use Rattle.ipld_show.specs.Scalars.{IsOutputError};
+ghost use Rattle.ipld_show.specs.Scalars.{IsMemory};
 ghost use Rattle.ipld_show.specs.Skipping.{items_within};
 
 use crate::error::{ShowError, unchecked_error};
@@ -13,14 +13,16 @@ use crate::path::items_in;
 use dag_cbor_format::item::{ItemHead, read_item};
 use std::alloc::{AllocError, Global};
 
-// A list or a map: how many bytes it has, and how many lists and maps are in it, itself counted too.
+// The extent of a list or a map: the number of its bytes, and the number of lists and maps in it,
+// including itself.
 #[derive(Clone, Copy)]
 pub(crate) struct Extent {
     pub(crate) size: usize,
     pub(crate) count: usize,
 }
 
-// An open list or map: which it is, how many bytes were left where it begins, and how many items are to come, keys counted too.
+// An open list or map: its index, the number of bytes that were left at its beginning, and the
+// number of items to come, including keys.
 #[derive(Clone, Copy)]
 struct Open {
     index: usize,
@@ -28,7 +30,8 @@ struct Open {
     items: u64,
 }
 
-// Lists what begins with a head, where so many bytes were left, if it is a list or a map.
+// Adds the item with this head to the open ones if it is a list or a map. `left` bytes are left
+// from the head on.
 fn begin_item(
     opened: &mut Vec<Open>,
     containers: &mut Vec<Extent>,
@@ -55,7 +58,7 @@ fn begin_item(
     }
 }
 
-// Notes that a list or a map ends where so many bytes are left.
+// Records that a list or a map ends before the last `left` bytes.
 fn end_container(containers: &mut Vec<Extent>, innermost: Open, left: usize)
     ensures { containers.new.items ≡ ended innermost left containers.old.items }
 {
@@ -67,7 +70,8 @@ fn end_container(containers: &mut Vec<Extent>, innermost: Open, left: usize)
     }
 }
 
-// Ends what has no more items to come, where so many bytes are left, and takes the next item from what is open then.
+// Ends the lists and maps that have no more items to come, before the last `left` bytes. Then takes
+// the next item from the one that is still open.
 fn end_finished(
     opened: &mut Vec<Open>,
     containers: &mut Vec<Extent>,
@@ -91,10 +95,10 @@ fn end_finished(
     Ok(())
 }
 
-// The lists and maps of the value at the front, in the order in which they begin.
+// Returns the lists and maps of the value at the front, in the order in which they begin.
 pub(crate) fn containers_of(alloc: Global, value: &[u8]) -> Result<Vec<Extent>, ShowError>
     ensures { (d : DataItem) (behind : List ℕ) → BeginsWithItem d value.now behind
-        → MatchResult result (λ containers. containers.items ≡ extents d) IsOutputError }
+        → MatchResult result (λ containers. containers.items ≡ extents d) IsMemory }
 {
     let mut containers = Vec::new(alloc);
     let mut opened = Vec::new(alloc);

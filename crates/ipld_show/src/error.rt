@@ -1,4 +1,4 @@
-//! Why a block or a CID isn't shown.
+//! The errors of printing a block or a CID.
 
 ghost use Rattle.std.specs.Prelude.{◌++◌};
 ghost use Rattle.std.specs.Fmt.{WritesOnOk, WritesStyledOnOk, decimal};
@@ -12,26 +12,29 @@ use std::alloc::{AllocError, AllocFailed};
 use std::io::ErrorKind;
 use std::{error, fmt, io};
 
-/// Why a block or a CID isn't shown: what is wrong with the block, with what is asked of it, or with the output.
+/// An error of printing a block or a CID: in the block, in the request, or in the output.
 ///
-/// Its `Display` is a sentence, with the offset in the block where there is one.
+/// Its `Display` is a sentence, with the offset in the block if there is one.
 #[derive(Clone, Copy, Debug, PartialEq, Eq)]
 pub enum ShowError {
     /// An allocation failed.
     Memory,
-    /// The writer failed, in this way.
+    /// The writer failed with this kind of error.
     Write(ErrorKind),
-    /// The bytes are no block of their codec.
+    /// The bytes are not a block of their codec.
     Invalid(InvalidBlock),
-    /// The path leads to nothing: of its segments this one, counted from 1, is no key of the map, or no index of the list, that the
-    /// segments before it lead to.
+    /// The path leads to nothing at the segment with this number, counted from 1. The segments
+    /// before it lead to a map that doesn't have it as a key, or to a list that doesn't have it as
+    /// an index.
     NoSegment(usize),
-    /// The path goes on at this segment, counted from 1, and what the segments before it lead to is neither a list nor a map.
+    /// The path leads to nothing at the segment with this number, counted from 1. The segments
+    /// before it lead to a value that is neither a list nor a map.
     NotAContainer(usize),
-    /// A map has no form in DAG-JSON: its first key is `/`, and its value would be read as a link or as bytes. The byte at which the
-    /// map begins, counted from where the value does that is written.
+    /// A map has no form in DAG-JSON: its first key is `/`, and its value would be read as a link
+    /// or as bytes. The number is the byte at which the map begins, counted from the beginning of
+    /// the value that is written.
     Reserved(usize),
-    /// A link is no CID of a digest of at most 64 bytes.
+    /// A link is not a CID with a digest of at most 64 bytes.
     Cid(CidError),
 }
 
@@ -71,7 +74,7 @@ impl fmt::Display for ShowError {
     }
 }
 
-// Writes a number between two texts.
+// Writes a number between two strings.
 fn write_number<W: fmt::Write>(
     f: &mut fmt::Formatter<W>,
     before: &str,
@@ -92,10 +95,10 @@ impl error::Error for ShowError {}
 
 impl From<AllocError> for ShowError {
     ghost use Rattle.std.specs.Prelude.{◌≡◌};
-    ghost use Rattle.ipld_show.specs.Scalars.{IsOutputError};
+    ghost use Rattle.ipld_show.specs.Scalars.{IsMemory, IsOutputError};
     ghost use Rattle.ipld_show.specs.declared.error.ShowError.TheVariants.{Memory};
 
-    ghost from_gives = { λ _ error. (error ≡ Memory) × IsOutputError error };
+    ghost from_gives = { λ _ error. (error ≡ Memory) × IsOutputError error × IsMemory error };
 
     fn from(_error: AllocError) -> Self {
         ShowError::Memory
@@ -104,10 +107,10 @@ impl From<AllocError> for ShowError {
 
 impl<T: Drop> From<AllocFailed<T>> for ShowError {
     ghost use Rattle.std.specs.Prelude.{◌≡◌};
-    ghost use Rattle.ipld_show.specs.Scalars.{IsOutputError};
+    ghost use Rattle.ipld_show.specs.Scalars.{IsMemory, IsOutputError};
     ghost use Rattle.ipld_show.specs.declared.error.ShowError.TheVariants.{Memory};
 
-    ghost from_gives = { λ _ error. (error ≡ Memory) × IsOutputError error };
+    ghost from_gives = { λ _ error. (error ≡ Memory) × IsOutputError error × IsMemory error };
 
     fn from(_error: AllocFailed<T>) -> Self {
         ShowError::Memory
@@ -141,7 +144,7 @@ impl From<CheckError> for ShowError {
     }
 }
 
-// The error of bytes that were to be a valid block and aren't.
+// The error of bytes that should be a valid block and are not.
 pub(crate) fn unchecked_error() -> ShowError {
     ShowError::Invalid(InvalidBlock::Cbor(BlockError {
         kind: BlockErrorKind::Cbor(CborError::End),

@@ -1,4 +1,5 @@
-//! What blocks and CIDs look like: the tree of a block of any codec, what stands in it at a path, and its DAG-JSON; the parts of a CID.
+//! The printed forms of blocks and CIDs: the tree of a block of any codec, the value at a path in
+//! it, its DAG-JSON, and the parts of a CID.
 #![tactic(auto)]
 
 mod as_cbor;
@@ -16,7 +17,7 @@ mod tree_text;
 pub use blocks::{link_on_path, show};
 pub use cid_parts::{write_cid_of_block, write_cid_parts};
 pub use error::ShowError;
-pub use json_text::write_json;
+pub use json_text::to_json;
 pub use laws::item_law;
 pub use path::{LinkOnPath, value_at};
 pub use tree_text::write_tree;

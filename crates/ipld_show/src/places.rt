@@ -1,17 +1,18 @@
-//! Where the values in a block stand, reached in any order.
+//! The places of the values in a block, for any order of access.
 
 ghost use Rattle.std.specs.Prelude.{◌≡◌, ℕ, List, ◌∷◌, ◌++◌, length, map, MatchResult};
 ghost use Rattle.ipld_show.specs.DataItem.{DataItem, DataEntries, entry_count, BeginsWithItem};
 ghost use Rattle.ipld_show.specs.JsonText.{is_text, begin_with_bytes, ReadsAsContent, AreReserved};
 ghost use Rattle.ipld_show.specs.Places.{IsContainer, HoldsItem, IsBehind, HoldsPart, HoldsEntries, KnownEntry, AreEntriesOf};
-ghost use Rattle.ipld_show.specs.Scalars.{IsOutputError};
+ghost use Rattle.ipld_show.specs.Scalars.{IsMemory};
 
 use crate::containers::Extent;
 use crate::error::{ShowError, unchecked_error};
 use dag_cbor_format::item::{ItemHead, read_item, read_key};
 use std::alloc::Global;
 
-// Where a value begins: the bytes from there on, and the lists and maps that begin there or later.
+// The place of a value: the bytes from its beginning on, and the lists and maps that begin there or
+// later.
 #[derive(Clone, Copy)]
 pub(crate) struct Place<'a> {
     pub(crate) rest: &'a [u8],
@@ -25,7 +26,7 @@ pub(crate) struct Entry<'a> {
     pub(crate) value: Place<'a>,
 }
 
-// Where the first value in the list or the map at a place begins, behind its head.
+// Returns the place of the first value in the list or the map at a place, after its head.
 #[inline(always)]
 pub(crate) fn first_place<'a>(place: Place<'a>, rest: &'a [u8]) -> Place<'a>
     ensures rest { result.rest.now ≡ rest.now }
@@ -39,7 +40,7 @@ pub(crate) fn first_place<'a>(place: Place<'a>, rest: &'a [u8]) -> Place<'a>
     Place { rest, containers }
 }
 
-// What follows the list or the map at a place.
+// Returns the place after the list or the map at a place.
 pub(crate) fn after_container(place: Place<'_>) -> Option<Place<'_>>
     ensures { (d : DataItem) (mid : List ℕ) (post : List Extent) → HoldsItem d place.entry mid post
         → IsContainer d → IsBehind result mid post }
@@ -56,7 +57,7 @@ pub(crate) fn after_container(place: Place<'_>) -> Option<Place<'_>>
     })
 }
 
-// What follows the value at a place.
+// Returns the place after the value at a place.
 fn after_item(place: Place<'_>) -> Option<Place<'_>>
     ensures { (d : DataItem) (mid : List ℕ) (post : List Extent) → HoldsItem d place.entry mid post
         → IsBehind result mid post }
@@ -74,7 +75,8 @@ fn after_item(place: Place<'_>) -> Option<Place<'_>>
     }
 }
 
-// So many entries of a map, the first of them at a place, in the order of the bytes of their keys.
+// Returns `count` entries of a map, the first of them at a place, in the order of the bytes of
+// their keys.
 pub(crate) fn entries_at<'a>(
     alloc: Global,
     count: u64,
@@ -82,7 +84,7 @@ pub(crate) fn entries_at<'a>(
 ) -> Result<Vec<Entry<'a>>, ShowError>
     ensures { (whole : DataItem) (total : ℕ) (es : DataEntries)
         → HoldsEntries whole total es first.entry → count ≡ entry_count es
-        → MatchResult result (λ entries. AreEntriesOf whole total es entries.items) IsOutputError }
+        → MatchResult result (λ entries. AreEntriesOf whole total es entries.items) IsMemory }
 {
     let mut entries = Vec::new(alloc);
     let mut place = first;
@@ -117,7 +119,8 @@ fn is_text(value: &[u8]) -> bool
     }
 }
 
-// Whether the first of these entries, in the order of their keys, has the key `bytes` and a string behind it.
+// Returns whether the first of these entries, in the order of their keys, has the key `bytes` and a
+// string as its value.
 fn begin_with_bytes(entries: &[Entry<'_>]) -> bool
     ensures { (whole : DataItem) (total : ℕ) (known : List (KnownEntry whole total))
         → entries.now ≡ map (λ k. k.entry) known
@@ -129,10 +132,11 @@ fn begin_with_bytes(entries: &[Entry<'_>]) -> bool
     }
 }
 
-// Whether the value at a place would be read as the content of a link or of bytes behind the key `/`.
+// Returns whether the value at a place, after the key `/`, would be read as the content of a link
+// or of bytes.
 fn reads_as_content(alloc: Global, place: Place<'_>) -> Result<bool, ShowError>
     ensures { (whole : DataItem) (total : ℕ) (d : DataItem) → HoldsPart whole total d place.entry
-        → MatchResult result (ReadsAsContent d) IsOutputError }
+        → MatchResult result (ReadsAsContent d) IsMemory }
 {
     let Ok((head, rest)) = read_item(place.rest) else {
         return Err(unchecked_error());
@@ -147,11 +151,12 @@ fn reads_as_content(alloc: Global, place: Place<'_>) -> Result<bool, ShowError>
     }
 }
 
-// Whether a map of these entries, in the order of their keys, would be read as a link or as bytes.
+// Returns whether a map of these entries, in the order of their keys, would be read as a link or as
+// bytes.
 pub(crate) fn are_reserved(alloc: Global, entries: &[Entry<'_>]) -> Result<bool, ShowError>
     ensures { (whole : DataItem) (total : ℕ) (known : List (KnownEntry whole total))
         → entries.now ≡ map (λ k. k.entry) known
-        → MatchResult result (AreReserved (map (λ k. k.member) known)) IsOutputError }
+        → MatchResult result (AreReserved (map (λ k. k.member) known)) IsMemory }
 {
     match entries {
         [first, ..] if first.key == "/" => reads_as_content(alloc, first.value),

@@ -1,4 +1,4 @@
-//! Values that are neither lists nor maps, written.
+//! The writing of values that are neither lists nor maps.
 
 ghost use Rattle.std.specs.Prelude.{◌≡◌, ℕ, ◌<◌, List, codes, from_bits, true, Some, None, MatchOption, MatchResult};
 ghost use Rattle.std.specs.Char.{digit_char};
@@ -17,13 +17,13 @@ use ryu::Buffer;
 use std::alloc::Global;
 use std::io::Write;
 
-// The bits of the sign, and of the exponent of infinities and of what is no number.
+// The bit of the sign, and the bits of the exponent of infinities and NaN.
 const SIGN: u64 = 1 << 63;
 
 const EXPONENT: u64 = 0x7ff << 52;
 
-// The finite float of these bits.
-fn float_of(bits: u64) -> Option<f64>
+// Returns the float of these bits, unless they are NaN.
+pub(crate) fn float_of(bits: u64) -> Option<f64>
     ensures { MatchOption result (nan_bits binary64 bits ≡ true) (λ float.
         float ≡ from_bits binary64 bits) }
 {
@@ -34,7 +34,7 @@ fn float_of(bits: u64) -> Option<f64>
     }
 }
 
-// A finite float as a number with a point or an exponent, which no integer has.
+// Writes a finite float as a number with a point or an exponent, which an integer doesn't have.
 pub(crate) fn write_float<W: Write>(writer: &mut W, bits: u64) -> Result<(), ShowError>
     ensures { MatchResult result (λ _. (t : List ℕ) × IsFloatText bits t
         × Appends (W.contents writer.old) (W.contents writer.new) t) IsOutputError }
@@ -52,7 +52,7 @@ pub(crate) fn write_float<W: Write>(writer: &mut W, bits: u64) -> Result<(), Sho
     Ok(())
 }
 
-// A hexadecimal digit in lower case.
+// Returns a hexadecimal digit in lower case.
 fn hex_digit(digit: u8) -> u8
     requires { digit < 16 }
     ensures { result ≡ digit_char digit }
@@ -64,7 +64,7 @@ fn hex_digit(digit: u8) -> u8
     }
 }
 
-// Two hexadecimal digits.
+// Writes two hexadecimal digits.
 fn write_hex_pair<W: Write>(writer: &mut W, byte: u8) -> Result<(), ShowError>
     ensures { MatchResult result (λ _. Appends (W.contents writer.old) (W.contents writer.new)
         (hex_pair byte)) IsOutputError }
@@ -74,7 +74,7 @@ fn write_hex_pair<W: Write>(writer: &mut W, byte: u8) -> Result<(), ShowError>
     Ok(())
 }
 
-// Bytes as hexadecimal digits in lower case.
+// Writes bytes as hexadecimal digits in lower case.
 pub(crate) fn write_hex<W: Write>(writer: &mut W, bytes: &[u8]) -> Result<(), ShowError>
     ensures { MatchResult result (λ _. Appends (W.contents writer.old) (W.contents writer.new)
         (hex_text bytes.now)) IsOutputError }
@@ -85,7 +85,7 @@ pub(crate) fn write_hex<W: Write>(writer: &mut W, bytes: &[u8]) -> Result<(), Sh
     Ok(())
 }
 
-// The escape of a character by its code.
+// Writes the escape of a character by its code.
 fn write_escape<W: Write>(writer: &mut W, code: u8) -> Result<(), ShowError>
     ensures { MatchResult result (λ _. Appends (W.contents writer.old) (W.contents writer.new)
         (by_code code)) IsOutputError }
@@ -95,11 +95,11 @@ fn write_escape<W: Write>(writer: &mut W, code: u8) -> Result<(), ShowError>
     Ok(())
 }
 
-// A character of a string: those that JSON escapes, and if so asked the other control characters too.
+// Writes a character of a string. It is escaped if JSON does that or if it is a control character.
 #[tactic(auto, unfolding(crate::specs::Scalars::character))]
-fn write_char<W: Write>(writer: &mut W, c: char, for_terminal: bool) -> Result<(), ShowError>
+fn write_char<W: Write>(writer: &mut W, c: char) -> Result<(), ShowError>
     ensures { MatchResult result (λ _. Appends (W.contents writer.old) (W.contents writer.new)
-        (character for_terminal c)) IsOutputError }
+        (character c)) IsOutputError }
 {
     match c {
         '"' => writer.write_all(b"\\\"")?,
@@ -109,31 +109,27 @@ fn write_char<W: Write>(writer: &mut W, c: char, for_terminal: bool) -> Result<(
         '\t' => writer.write_all(b"\\t")?,
         '\u{8}' => writer.write_all(b"\\b")?,
         '\u{c}' => writer.write_all(b"\\f")?,
-        '\0'..='\u{1f}' => write_escape(writer, c as u8)?,
-        '\u{7f}'..='\u{9f}' if for_terminal => write_escape(writer, c as u8)?,
+        '\0'..='\u{1f}' | '\u{7f}'..='\u{9f}' => write_escape(writer, c as u8)?,
         _ => write!(writer, "{c}")?,
     }
     Ok(())
 }
 
-// A string as JSON writes it, between quotation marks. For a terminal all control characters are escaped.
-pub(crate) fn write_string<W: Write>(
-    writer: &mut W,
-    text: &str,
-    for_terminal: bool,
-) -> Result<(), ShowError>
+// Writes a string between quotation marks, as JSON does. All control characters are escaped, since
+// a terminal obeys them.
+pub(crate) fn write_string<W: Write>(writer: &mut W, text: &str) -> Result<(), ShowError>
     ensures { MatchResult result (λ _. Appends (W.contents writer.old) (W.contents writer.new)
-        (quoted for_terminal text.now)) IsOutputError }
+        (quoted text.now)) IsOutputError }
 {
     writer.write_all(b"\"")?;
     for c in text.chars() {
-        write_char(writer, c, for_terminal)?;
+        write_char(writer, c)?;
     }
     writer.write_all(b"\"")?;
     Ok(())
 }
 
-// The text of the CID that the bytes are.
+// Writes the text of the CID with these bytes.
 pub(crate) fn write_cid_bytes<W: Write>(
     alloc: Global,
     writer: &mut W,

@@ -13,17 +13,18 @@ use dag_cbor_format::item::{ItemHead, read_item, read_key};
 use std::alloc::Global;
 use std::io::Write;
 
-// As many levels are indented. Where values stand deeper, their lines say how deep, so that the text stays in proportion to the block.
+// The number of levels that are indented. Deeper lines have the number of their level, so that the
+// text stays in proportion to the block.
 const INDENTED: usize = 40;
 
-// An open list or map, and how many items or entries are to come.
+// An open list or map, and the number of items or entries to come.
 #[derive(Clone, Copy)]
 struct Level {
     is_map: bool,
     left: u64,
 }
 
-// So many times two spaces.
+// Writes two spaces `count` times.
 fn write_spaces<W: Write>(writer: &mut W, count: usize) -> Result<(), ShowError>
     ensures { MatchResult result (λ _. Appends (W.contents writer.old) (W.contents writer.new)
         (spaces count)) IsOutputError }
@@ -36,7 +37,7 @@ fn write_spaces<W: Write>(writer: &mut W, count: usize) -> Result<(), ShowError>
     Ok(())
 }
 
-// What a line begins with.
+// Writes the beginning of a line.
 fn write_indent<W: Write>(writer: &mut W, level: usize) -> Result<(), ShowError>
     ensures { MatchResult result (λ _. Appends (W.contents writer.old) (W.contents writer.new)
         (indent level)) IsOutputError }
@@ -48,14 +49,14 @@ fn write_indent<W: Write>(writer: &mut W, level: usize) -> Result<(), ShowError>
     Ok(())
 }
 
-// The key of a value, if it has one.
+// Writes the key of a value, if it has one.
 fn write_key_label<W: Write>(writer: &mut W, key: Option<&str>) -> Result<(), ShowError>
     ensures { MatchResult result (λ _. Appends (W.contents writer.old) (W.contents writer.new)
         (key_text (option_map (λ k. k.now) key.entry))) IsOutputError }
 {
     match key {
         Some(key) => {
-            write_string(writer, key, true)?;
+            write_string(writer, key)?;
             writer.write_all(b": ")?;
             Ok(())
         }
@@ -73,7 +74,7 @@ fn write_bytes_text<W: Write>(writer: &mut W, bytes: &[u8]) -> Result<(), ShowEr
     Ok(())
 }
 
-// A value that is neither a list nor a map, or the beginning of one.
+// Writes a value that is neither a list nor a map, or the beginning of one.
 fn write_head<W: Write>(alloc: Global, writer: &mut W, head: &ItemHead<'_>) -> Result<(), ShowError>
     ensures { HasCid head.now → MatchResult result (λ _. (t : List ℕ) × IsHeadText head.now t
         × Appends (W.contents writer.old) (W.contents writer.new) t) IsOutputError }
@@ -84,7 +85,7 @@ fn write_head<W: Write>(alloc: Global, writer: &mut W, head: &ItemHead<'_>) -> R
         ItemHead::Bool(false) => writer.write_all(b"false")?,
         ItemHead::Integer(number) => write!(writer, "{number}")?,
         ItemHead::Float(bits) => return write_float(writer, *bits),
-        ItemHead::Str(text) => return write_string(writer, text, true),
+        ItemHead::Str(text) => return write_string(writer, text),
         ItemHead::Bytes(bytes) => return write_bytes_text(writer, bytes),
         ItemHead::Link(cid) => return write_cid_bytes(alloc, writer, cid),
         ItemHead::List(0) => writer.write_all(b"[]")?,
@@ -95,7 +96,7 @@ fn write_head<W: Write>(alloc: Global, writer: &mut W, head: &ItemHead<'_>) -> R
     Ok(())
 }
 
-// The line on which a value begins, at a level.
+// Writes the line on which a value begins, at a level.
 fn write_line<W: Write>(
     alloc: Global,
     writer: &mut W,
@@ -115,7 +116,7 @@ fn write_line<W: Write>(
     Ok(())
 }
 
-// The line on which a map or a list ends.
+// Writes the line on which a map or a list ends.
 fn write_end<W: Write>(writer: &mut W, level: usize, is_map: bool) -> Result<(), ShowError>
     ensures { MatchResult result (λ _. Appends (W.contents writer.old) (W.contents writer.new)
         (indent level ++ end_text is_map)) IsOutputError }
@@ -129,7 +130,7 @@ fn write_end<W: Write>(writer: &mut W, level: usize, is_map: bool) -> Result<(),
     Ok(())
 }
 
-// The level that a list or a map opens, where it has anything in it.
+// Returns the level that a list or a map opens, if it isn't empty.
 #[inline(always)]
 fn opened(head: &ItemHead<'_>) -> Option<Level>
     ensures { result ≡ opens head.now }
@@ -148,7 +149,7 @@ fn opened(head: &ItemHead<'_>) -> Option<Level>
     }
 }
 
-// Goes on in what is in a list or a map, if there is anything.
+// Enters a list or a map, if it isn't empty.
 fn enter(levels: &mut Vec<Level>, head: &ItemHead<'_>) -> Result<(), ShowError>
     ensures { MatchResult result (λ _. reverse levels.new.items ≡ with_level (opens head.now)
         (reverse levels.old.items)) IsOutputError }
@@ -162,7 +163,8 @@ fn enter(levels: &mut Vec<Level>, head: &ItemHead<'_>) -> Result<(), ShowError>
     }
 }
 
-// Ends the lists and maps of which nothing is to come, and returns what the next value stands in, one less to come.
+// Ends the lists and maps with nothing to come. Returns the one that has the next value, with one
+// less to come.
 fn leave<W: Write>(levels: &mut Vec<Level>, writer: &mut W) -> Result<Option<Level>, ShowError>
     ensures { (bytes : List ℕ) (lines : List Line) → Open (reverse levels.old.items) bytes lines
         → MatchResult result (λ next. Leaves bytes lines levels.new.items next
@@ -182,7 +184,8 @@ fn leave<W: Write>(levels: &mut Vec<Level>, writer: &mut W) -> Result<Option<Lev
     Ok(None)
 }
 
-// Where the next value begins in a list or a map, and its key if it has one.
+// Returns the key of the next value in a list or a map, if it has one, and the bytes from the value
+// on.
 fn next_line_place(level: Level, bytes: &[u8]) -> Result<(Option<&str>, &[u8]), ShowError>
     ensures within { IfOk result (λ place. length place.1.now ≤ length bytes.now) }
     ensures exact { (n : ℕ) (own : List Line) (mid : List ℕ)
@@ -198,17 +201,22 @@ fn next_line_place(level: Level, bytes: &[u8]) -> Result<(Option<&str>, &[u8]), 
     }
 }
 
-/// Writes the tree of a value of a block that is known to be valid, a line for each value, and for each end of a list or a map that isn't
-/// empty. `value` begins where the value does; what follows the value isn't looked at.
+/// Writes the tree of a value of a block that is known to be valid. It has a line for every value,
+/// and for every end of a list or a map that isn't empty. `value` begins with the value, and the
+/// bytes after it are not read.
 ///
-/// Lines are indented by the level at which the value stands; a value of a map stands behind its key. Strings and keys are written as JSON
-/// writes them, with every control character escaped; bytes as hexadecimal digits between `h'` and `'`; links as the text of the CID.
+/// Lines are indented by the level of the value. A value of a map comes after its key. Strings and
+/// keys are written as in JSON, with every control character escaped. Bytes are written as
+/// hexadecimal digits between `h'` and `'`, and links as the text of the CID.
 ///
-/// It doesn't recurse. It allocates for the lists and maps that are open, and for the text of a CID of version 0.
+/// It doesn't recurse. It allocates for the lists and maps that are open, and for the text of a CID
+/// of version 0.
 ///
 /// # Errors
 ///
-/// `Write` where the writer failed, `Memory` where an allocation did. Of bytes that are no valid block it may be `Invalid` or `Cid`.
+/// - `Write` if the writer fails.
+/// - `Memory` if an allocation fails.
+/// - Possibly `Invalid` or `Cid` if the bytes are not a valid block.
 pub fn write_tree<W: Write>(alloc: Global, value: &[u8], writer: &mut W) -> Result<(), ShowError>
     ensures { (d : DataItem) (behind : List ℕ) → BeginsWithItem d value.now behind
         → MatchResult result (λ _. (t : List ℕ) × IsTreeText d t × Appends (W.contents writer.old)

@@ -13,10 +13,10 @@ use Rattle.dag_json.specs.Written.{written, IsReserved}
 use Rattle.dag_json.specs.declared.read_error.ReadError.{ReadError}
 use Rattle.dag_json.specs.declared.read_error.ReadErrorKind.TheVariants as error
 use Rattle.dag_json.proofs.RoundTrip.{written_encodes}
-use Rattle.dag_json.specs.Codec.{decoded, links_found, is_decoded, if_decoded, codec_text, codec_failure, IsBlockError, IsErrorOfText, IsTextError, IsTextErrorOf}
+use Rattle.dag_json.specs.Codec.{decoded, links_found, is_decoded, if_decoded, codec_text, codec_failure, IsBlockError, IsErrorOfText, IsTextError}
 use Rattle.dag_json.specs.Lemmas.CodecLaws.{encoded_decodes}
 use Rattle.dag_json.specs.declared.error.DagJsonError.{DagJsonError}
-use Rattle.dag_json.specs.declared.error.DagJsonError.TheVariants.{Memory, Read, Text, Reserved}
+use Rattle.dag_json.specs.declared.error.DagJsonError.TheVariants.{Memory, Reserved}
 use Rattle.dag_json.proofs.BlockErrors.{none_decoded, no_links_found}
 
 -- what an error says of a block that isn't read

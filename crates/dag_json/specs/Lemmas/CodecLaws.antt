@@ -1,15 +1,14 @@
 -- The laws of DAG-JSON as a codec.
-use Rattle.std.proofs.Common.{◌≡◌, ◌≤◌, ◌<◌, ◌+◌, ◌⊎◌, inl, inr, ℕ, suc, Bool, true, false, List, [], ◌∷◌, ◌++◌, length, length-append, Option, Some, None, option_map, option_and_then, Result, Ok, Err, refl, sym, ap, subst, ◌∙◌, arith}
-use Rattle.std.specs.Prelude.{if◌then◌else◌, max}
+use Rattle.std.proofs.Common.{◌≡◌, ◌≤◌, ◌<◌, ℕ, Bool, true, false, List, length, length-append, Option, Some, None, option_map, option_and_then, Result, Ok, Err, refl, sym, ap, subst, ◌∙◌, arith}
+use Rattle.std.specs.Prelude.{if◌then◌else◌}
 use Rattle.std.specs.Result.{result_ok}
-use Rattle.std.specs.Str.{is_utf8, IsUtf8}
+use Rattle.std.specs.Str.{is_utf8}
 use Rattle.std.proofs.lemmas.Str.{is_utf8-from_IsUtf8, IsUtf8-from_is_utf8}
 use Rattle.ipld_cid.specs.Cid.{Link}
 use Rattle.ipld_codec.specs.CodecLaws.{EncodedOnce, DecodesEncoded, WritesEncoded}
 use Rattle.ipld_codec.specs.TreeCodec.{SameTrees, LinksWhereDecoded, LinksOfTree}
 use Rattle.ipld_tree.specs.LinkTimes.{times}
 use Rattle.ipld_tree.specs.Lemmas.EqualLaws.{tree_decides}
-use Rattle.ipld_tree.specs.Equal.{tree_eq}
 use Rattle.ipld_tree.specs.Tree.{Tree}
 use Rattle.ipld_tree.specs.TreeOf.{tree_of}
 use Rattle.ipld_tree.specs.Walk.{links_of}
@@ -64,7 +63,7 @@ mutual
   members_count_tokens (json.member k j os) =
       let first = count_tokens j in let more = members_count_tokens os in let all = length-append (json_tokens j) (members_tokens os) in omega arith
 
--- so it passes no limits that its text doesn't
+-- A text that encodes a tree does so within `no_limits`.
 within_tokens : (floats : Bool) (t : Tree) (s : List ℕ) → EncodesTreeIn floats t s → EncodesWithinIn floats (no_limits s) t s
 within_tokens floats t s e =
     let long = ap length e.is_json in
@@ -72,7 +71,7 @@ within_tokens floats t s e =
     let values = count_tokens e.json in
     record { tree = e; within = record { levels = omega arith; values = omega arith } }
 
--- ---- what a block decodes to
+-- ---- the tree that a block decodes to
 
 from_ok : (r : Result Tree ReadErrorKind) (t : Tree) → result_ok r ≡ Some t → r ≡ Ok t
 from_ok (Ok u) t e = ap Ok cc
@@ -100,7 +99,7 @@ json_encoded_once t u s e f = encoded_once t u s e f
 pub json_decodes_encoded : DecodesEncoded EncodesTree decoded
 json_decodes_encoded t s = (decoded_encodes false t s, encoded_decodes false t s)
 
--- ---- what is written
+-- ---- the text that is written
 
 decoded_is : (t : Tree) (s : List ℕ) (o : Option Tree) → decoded s ≡ o → is_decoded t o ≡ true → EncodesTree t s
 decoded_is t s None e is = absurd cc

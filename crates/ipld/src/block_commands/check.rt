@@ -5,12 +5,12 @@ use crate::block_commands::links::report_not_valid;
 use clap::ArgMatches;
 use ipld_block::{BlockCodec, check, check_canonical};
 use ipld_cli::{
-    Outcome, PerWord, json, read_file, report_unreadable, report_wrong_arguments, run_to_end,
+    Outcome, PerWord, json_lines, read_file, report_unreadable, report_wrong_arguments, run_to_end,
 };
 use ipld_show::ShowError;
 use std::io::Write;
 
-// Checks each file, and says on standard output which are valid.
+// The check of files, which prints the valid ones on standard output.
 #[derive(Clone, Copy)]
 struct Check {
     codec: BlockCodec,
@@ -35,7 +35,7 @@ impl PerWord for Check {
             check(rt.alloc(), self.codec, &bytes)
         };
         match checked {
-            Ok(()) if self.json => json::write_valid(rt.alloc(), file, writer)?,
+            Ok(()) if self.json => json_lines::write_valid(rt.alloc(), file, writer)?,
             Ok(()) => writeln!(writer, "{file}: valid")?,
             Err(error) => {
                 return report_not_valid(rt, file, self.codec, self.json, &bytes, error, writer);
@@ -45,7 +45,7 @@ impl PerWord for Check {
     }
 }
 
-/// Runs `ipld check`. Each file is checked, also where nobody reads any more which are valid.
+/// Runs `ipld check`. It checks every file, even if nobody reads the output any more.
 pub fn run_check(rt: &HostRuntime, matches: &ArgMatches<'_>) -> Outcome {
     let check = Check {
         codec: codec_of(matches),

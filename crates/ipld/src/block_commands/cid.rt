@@ -7,7 +7,7 @@ use ipld_block::{BlockCodec, check, cid_of};
 use ipld_cid::{Cid, DAG_PB, Version};
 use ipld_cid_text::{Base, parse_any, to_string_of_base, usual_text};
 use ipld_cli::{
-    NoCid, Outcome, PerWord, json, parse_cid_argument, read_file, report, report_unreadable,
+    NoCid, Outcome, PerWord, json_lines, parse_cid_argument, read_file, report, report_unreadable,
     run_over,
 };
 use ipld_show::{ShowError, write_cid_parts};
@@ -15,7 +15,7 @@ use std::alloc::Global;
 use std::io::{ErrorKind, Write};
 use std::str;
 
-/// The names of the bases of texts.
+/// The names of the bases of a CID's text.
 pub const BASES: &[&str] = &[
     "base16",
     "base32",
@@ -25,19 +25,19 @@ pub const BASES: &[&str] = &[
     "base64url",
 ];
 
-// What is asked of CIDs.
+// The options for CIDs.
 #[derive(Clone, Copy)]
 struct CidOptions {
     codec: BlockCodec,
     // Whether the codec was named.
     names_codec: bool,
-    // The base of the text that is printed, and the version, where they are asked for.
+    // The base and the version of the text that is printed, if they are given.
     base: Option<Base>,
     version: Option<Version>,
     json: bool,
 }
 
-// The base of a name.
+// Returns the base of a name.
 fn base_of(name: &str) -> Option<Base> {
     match name {
         "base16" => Some(Base::Base16Lower),
@@ -50,7 +50,7 @@ fn base_of(name: &str) -> Option<Base> {
     }
 }
 
-// The version that is asked for.
+// Returns the version that is asked for.
 fn version_of(matches: &ArgMatches<'_>) -> Option<Version> {
     if matches.get_flag("v0") {
         Some(Version::V0)
@@ -72,7 +72,7 @@ impl CidOptions {
         }
     }
 
-    // A CID in the version that is asked for, where it has that.
+    // Returns a CID in the version that is asked for, or `None` if it has no such version.
     fn in_version(&self, cid: &Cid) -> Option<Cid> {
         match self.version {
             None => Some(*cid),
@@ -83,7 +83,7 @@ impl CidOptions {
     }
 }
 
-// Writes a CID, of a file's block or of a text, as is asked for.
+// Writes a CID, of a file's block or of a text, in the form that is asked for.
 fn write_cid<W: Write>(
     alloc: Global,
     options: &CidOptions,
@@ -103,7 +103,8 @@ fn write_cid<W: Write>(
         None => usual_text(alloc, cid)?,
     };
     if options.json {
-        return json::write_cid_object(alloc, file, cid, &text, writer);
+        json_lines::write_cid_object(alloc, file, cid, &text, writer)?;
+        return Ok(());
     }
     writeln!(writer, "{text}")?;
     Ok(())
@@ -159,7 +160,7 @@ fn print_lines<W: Write>(
     for line in lines.lines() {
         match print_text(rt, options, line, writer) {
             Ok(outcome) => worst = worst.worse(outcome),
-            // Nobody reads the rest, and what is no CID stays none.
+            // Nobody reads the rest, but an invalid CID was found all the same.
             Err(ShowError::Write(ErrorKind::BrokenPipe)) => return Ok(worst),
             Err(error) => return Err(error),
         }
@@ -182,7 +183,7 @@ fn print_file<W: Write>(
     print_one(rt, options, file, Some(file), &cid, writer)
 }
 
-// Prints the CID that a word is, or else that of the block of the file that it names.
+// Prints the CID that a word is. Otherwise prints the CID of the block in the file that it names.
 fn print_word<W: Write>(
     rt: &HostRuntime,
     options: &CidOptions,
@@ -208,7 +209,7 @@ fn print_word<W: Write>(
     }
 }
 
-// Prints the CIDs of texts; `-` is standard input, with a text on each line.
+// Prints the CIDs of texts. `-` is standard input, with a text on each line.
 #[derive(Clone, Copy)]
 struct Texts {
     options: CidOptions,
@@ -231,7 +232,7 @@ impl PerWord for Texts {
     }
 }
 
-// Prints the CIDs that words are, or else those of the blocks of the files that they name.
+// Prints the CIDs that words are, or those of the blocks in the files that they name.
 #[derive(Clone, Copy)]
 struct Words {
     options: CidOptions,

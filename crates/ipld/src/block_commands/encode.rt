@@ -1,4 +1,4 @@
-//! The command that makes a block of DAG-JSON.
+//! The command that encodes DAG-JSON as a block.
 
 use clap::ArgMatches;
 use dag_cbor_tape::{EncodeErrorKind, encode_tape};
@@ -10,7 +10,7 @@ use ipld_cli::{
     report_out_of_memory, report_unreadable, report_unwritable, write,
 };
 use ipld_codec::{Codec, RawCodec, RawError};
-use ipld_show::write_json;
+use ipld_show::to_json;
 use ipld_tree::{Ipld, Limits};
 use std::alloc::Global;
 use std::fmt;
@@ -28,7 +28,7 @@ pub fn run_encode(rt: &HostRuntime, matches: &ArgMatches<'_>) -> Outcome {
     }
 }
 
-// Makes a block of a file's text, and writes it.
+// Encodes a file's text as a block, and writes it.
 fn encode_file(
     rt: &HostRuntime,
     matches: &ArgMatches<'_>,
@@ -54,7 +54,7 @@ fn write_encoded(rt: &HostRuntime, name: &str, output: Output, block: Block) -> 
     }
 }
 
-// What a block is made as.
+// The format of the block.
 #[derive(Clone, Copy)]
 enum Format {
     DagCbor,
@@ -62,7 +62,7 @@ enum Format {
     Raw,
 }
 
-// The format that `--codec` names, DAG-CBOR where it isn't given.
+// Returns the format that `--codec` names. DAG-CBOR is the default.
 fn format_of(matches: &ArgMatches<'_>) -> Format {
     match matches.get_str("codec") {
         Some("dag-json") => Format::DagJson,
@@ -86,7 +86,7 @@ impl Content for Block {
     }
 }
 
-// Why no block is made.
+// The reason why a block can't be encoded.
 #[derive(Clone, Copy, Drop)]
 enum EncodeError {
     Text(ReadError),
@@ -95,7 +95,7 @@ enum EncodeError {
     Memory,
 }
 
-// The block of a text.
+// Encodes a text as a block.
 fn block_of(
     alloc: Global,
     text: &[u8],
@@ -119,7 +119,7 @@ fn block_of(
     }
 }
 
-// The block of DAG-CBOR of a text, which may have floats.
+// Encodes a text, which may have floats, as a block of DAG-CBOR.
 fn cbor_of(alloc: Global, text: &[u8], canonical: bool) -> Result<Vec<u8>, EncodeError> {
     let tape = match tape_from_slice(alloc, text, &Limits::default()) {
         Ok(tape) => tape,
@@ -135,7 +135,7 @@ fn cbor_of(alloc: Global, text: &[u8], canonical: bool) -> Result<Vec<u8>, Encod
     Ok(block)
 }
 
-// How many bytes two texts have in common, from the first on.
+// Returns the number of leading bytes that two texts have in common.
 fn common_len(a: &[u8], b: &[u8]) -> usize {
     for (i, (x, y)) in a.iter().zip(b.iter()).enumerate() {
         if x != y {
@@ -145,12 +145,11 @@ fn common_len(a: &[u8], b: &[u8]) -> usize {
     a.len().min(b.len())
 }
 
-// Whether a text is the one that is written of the block that was made of it.
+// Checks that a text is the one that is written for its own block.
 fn check_canonical(alloc: Global, text: &[u8], block: &[u8]) -> Result<(), EncodeError> {
-    let mut written = Vec::new(alloc);
-    if write_json(alloc, block, &mut written).is_err() {
+    let Ok(written) = to_json(alloc, block) else {
         return Err(EncodeError::Memory);
-    }
+    };
     if written.as_slice() == text {
         return Ok(());
     }
@@ -160,7 +159,7 @@ fn check_canonical(alloc: Global, text: &[u8], block: &[u8]) -> Result<(), Encod
     }))
 }
 
-// The tree of a text.
+// Reads the tree of a text.
 fn tree_of(alloc: Global, text: &[u8], canonical: bool) -> Result<Ipld, EncodeError> {
     let limits = Limits::default();
     let read = if canonical {
@@ -174,7 +173,7 @@ fn tree_of(alloc: Global, text: &[u8], canonical: bool) -> Result<Ipld, EncodeEr
     }
 }
 
-// The block of DAG-JSON of a tree.
+// Encodes a tree as a block of DAG-JSON.
 fn json_of(alloc: Global, tree: &Ipld) -> Result<Vec<u8>, EncodeError> {
     match to_vec(alloc, tree) {
         Ok(text) => Ok(text),
@@ -182,7 +181,7 @@ fn json_of(alloc: Global, tree: &Ipld) -> Result<Vec<u8>, EncodeError> {
     }
 }
 
-// The block of plain bytes of a tree.
+// Encodes a tree as a block of plain bytes.
 fn bytes_of(alloc: Global, tree: &Ipld) -> Result<Vec<u8>, EncodeError> {
     match RawCodec::encode_to_vec(alloc, tree) {
         Ok(bytes) => Ok(bytes),
@@ -191,7 +190,7 @@ fn bytes_of(alloc: Global, tree: &Ipld) -> Result<Vec<u8>, EncodeError> {
     }
 }
 
-// What is wrong with a text, in the words of the format that was asked for.
+// The error of a text, in the words of the format that was asked for.
 #[derive(Clone, Copy, Drop)]
 struct Wrong {
     error: ReadError,
@@ -210,7 +209,7 @@ impl fmt::Display for Wrong {
     }
 }
 
-// Says why no block is made.
+// Reports why a block can't be encoded.
 fn report_error(
     rt: &HostRuntime,
     file: &str,

@@ -4,13 +4,14 @@ use crate::arguments::codec_of;
 use clap::ArgMatches;
 use ipld_block::{BlockCodec, CheckError, links_of, write_links};
 use ipld_cli::{
-    Outcome, PerWord, json, read_file, report_invalid_block, report_show_error, report_unreadable,
-    run_over,
+    Outcome, PerWord, json_lines, read_file, report_invalid_block, report_show_error,
+    report_unreadable, run_over,
 };
 use ipld_show::ShowError;
 use std::io::Write;
 
-/// Says that a file is no valid block of this codec: with `--json` on standard output.
+/// Reports that a file is not a valid block of this codec. With `--json`, the report is on standard
+/// output.
 pub(crate) fn report_not_valid<W: Write>(
     rt: &HostRuntime,
     file: &str,
@@ -22,7 +23,7 @@ pub(crate) fn report_not_valid<W: Write>(
 ) -> Result<Outcome, ShowError> {
     match error {
         CheckError::Invalid(why) if json => {
-            json::write_invalid(rt.alloc(), file, bytes, why, writer)?;
+            json_lines::write_invalid(rt.alloc(), file, bytes, why, writer)?;
             Ok(Outcome::NotSo)
         }
         CheckError::Invalid(why) => Ok(report_invalid_block(rt, file, codec, bytes, why)),
@@ -30,7 +31,7 @@ pub(crate) fn report_not_valid<W: Write>(
     }
 }
 
-// Lists the links of each file's block.
+// The listing of the links in each file's block.
 #[derive(Clone, Copy)]
 struct Links {
     codec: BlockCodec,
@@ -49,7 +50,7 @@ impl PerWord for Links {
             Err(error) => return Ok(report_unreadable(rt, file, &error)),
         };
         match links_of(rt.alloc(), self.codec, &bytes) {
-            Ok(links) if self.json => json::write_links(rt.alloc(), file, &links, writer)?,
+            Ok(links) if self.json => json_lines::write_links(rt.alloc(), file, &links, writer)?,
             Ok(links) => write_links(rt.alloc(), &links, writer)?,
             Err(error) => {
                 return report_not_valid(rt, file, self.codec, self.json, &bytes, error, writer);

@@ -1,4 +1,4 @@
-//! Which blocks CAR files name and lack.
+//! The blocks that CAR files name and lack.
 
 use crate::arguments::limit_of;
 use car_files::{CarFileError, MissingBlocks, Seen, add_car};
@@ -6,7 +6,7 @@ use clap::ArgMatches;
 use ipld_block::write_links;
 use ipld_cid::Cid;
 use ipld_cli::{
-    BUFFER, Complaints, Outcome, end_writer, hasher_of, json, open_car, reads_twice,
+    BUFFER, Complaints, Outcome, end_writer, hasher_of, json_lines, open_car, reads_twice,
     report_car_error, report_out_of_memory,
 };
 use std::io::{self, BufWriter, Write};
@@ -29,18 +29,18 @@ pub fn run_missing(rt: &HostRuntime, matches: &ArgMatches<'_>, files: &[&str]) -
     write_result(rt, matches.get_flag("json"), &index, added)
 }
 
-// What was found in files beside what they have and lack.
+// Findings in files, other than the blocks that they have and lack.
 #[derive(Clone, Copy)]
 struct Added {
-    // How it ended.
+    // The outcome.
     outcome: Outcome,
-    // Of how many blocks the links are not known.
+    // The number of blocks whose links are not known.
     unknown: u64,
     // Whether each file was read to its end.
     is_whole: bool,
 }
 
-// Adds what these CARs have, and says what is at fault in them.
+// Adds the blocks of these CARs, and reports their errors.
 fn add_files(
     rt: &HostRuntime,
     files: &[&str],
@@ -70,7 +70,7 @@ fn add_files(
     added
 }
 
-// Says what the files lack that were read. What one lacks that wasn't read to its end isn't known.
+// Writes the blocks that the files lack. If a file was not read to its end, they are not known.
 fn write_result(rt: &HostRuntime, json: bool, index: &MissingBlocks, added: Added) -> Outcome {
     if !added.is_whole {
         return added.outcome;
@@ -82,7 +82,7 @@ fn write_result(rt: &HostRuntime, json: bool, index: &MissingBlocks, added: Adde
     added.outcome.worse(written)
 }
 
-// Adds what a CAR has, and says what is at fault in it.
+// Adds the blocks of a CAR, and reports its errors.
 fn add_file(
     rt: &HostRuntime,
     file: &str,
@@ -106,7 +106,7 @@ fn add_file(
     }
 }
 
-// Writes the CIDs whose block didn't come.
+// Writes the CIDs whose block is missing.
 fn write_missing(rt: &HostRuntime, json: bool, index: &MissingBlocks) -> Outcome {
     let Ok(missing) = index.missing(rt.alloc()) else {
         return report_out_of_memory(rt, "standard output");
@@ -116,7 +116,7 @@ fn write_missing(rt: &HostRuntime, json: bool, index: &MissingBlocks) -> Outcome
     } else {
         Outcome::NotSo
     };
-    // Where nobody reads them any more, some are missing all the same.
+    // If nobody reads them any more, blocks are missing all the same.
     match write_cids(rt, json, &missing) {
         Ok(()) => found,
         Err(error) => found.worse(report_car_error(rt, "standard output", &error)),
@@ -126,7 +126,7 @@ fn write_missing(rt: &HostRuntime, json: bool, index: &MissingBlocks) -> Outcome
 fn write_cids(rt: &HostRuntime, json: bool, cids: &[Cid]) -> Result<(), CarFileError> {
     let mut writer = BufWriter::with_capacity(rt.alloc(), BUFFER, io::writer(rt))?;
     let written = if json {
-        json::write_missing_objects(rt.alloc(), cids, &mut writer)
+        json_lines::write_missing_objects(rt.alloc(), cids, &mut writer)
     } else {
         write_links(rt.alloc(), cids, &mut writer)
     };

@@ -11,6 +11,6 @@ pub returns : goal.returns
 returns g c =
     let end = YieldsList-end (YieldsList-from_chars c.args.text.now c.utf8.text cc) c.loop-c.yielded _ c.loop-c.yielded_by _ _ c.in-None.is c.next.ensures.steps in
     let all : c.loop-c.yielded ≡ chars c.args.text.now = sym (map-id c.loop-c.yielded) ∙ end.0 in
-    subst (λ cs. Appends (g.W.Write.contents c.args.writer.now) (g.W.Write.contents c.write_all-2.new.self) (34 ∷ (flat_map (character c.args.for_terminal) cs ++ 34 ∷ []))) all
+    subst (λ cs. Appends (g.W.Write.contents c.args.writer.now) (g.W.Write.contents c.write_all-2.new.self) (34 ∷ (flat_map character cs ++ 34 ∷ []))) all
     (Appends-trans (g.W.Write.contents c.args.writer.now) (g.W.Write.contents c.loop-c.writer) (g.W.Write.contents c.write_all-2.new.self)
-    (34 ∷ flat_map (character c.args.for_terminal) c.loop-c.yielded) (34 ∷ []) c.loop-c.invariant c.in_ok-write_all-2.ensures.bytes)
+    (34 ∷ flat_map character c.loop-c.yielded) (34 ∷ []) c.loop-c.invariant c.in_ok-write_all-2.ensures.bytes)
