@@ -8,13 +8,13 @@ use std::str::FromStr;
 use crate::error::Error;
 use crate::ffi;
 
-/// As many characters as a CID's text has at most, in any base.
+/// The most characters of a CID's text, in any base.
 const LONGEST_TEXT: usize = 173;
 
 /// The version of a CID.
 #[derive(Clone, Copy, Debug, PartialEq, Eq, PartialOrd, Ord, Hash)]
 pub enum Version {
-    /// A SHA2-256 hash of a DAG-PB block, and nothing else.
+    /// The SHA2-256 hash of a DAG-PB block, without a codec.
     V0,
     /// Any codec with any hash.
     V1,
@@ -41,17 +41,16 @@ pub enum Base {
 /// A content identifier with a digest of at most 64 bytes.
 ///
 /// Each value is a valid CID. It is `Copy`, and holds the CID's bytes in place. `Display` writes
-/// the text that most programs show: base32 of version 1, and `Qm..`, base58btc, of version 0;
-/// [`FromStr`] reads a text in any [`Base`], also after `/ipfs/`.
+/// base32 for version 1, and base58btc (`Qm..`) for version 0. [`FromStr`] reads a text in any
+/// [`Base`], with or without `/ipfs/` before it.
 ///
-/// CIDs are ordered by version, then codec, then hash code, then the digest's length, then its
-/// bytes.
+/// CIDs are ordered by version, codec, hash code, length of the digest, and digest.
 #[derive(Clone, Copy)]
 #[repr(transparent)]
 pub struct Cid(ffi::CidBytes);
 
 impl Cid {
-    /// The CID of a block: version 1 with this codec and the block's SHA2-256 digest.
+    /// Returns the CID of a block: version 1 with this codec and the block's SHA2-256 digest.
     ///
     /// ```
     /// let cid = kombilad::Cid::of_block(kombilad::DAG_CBOR, b"\xa0");
@@ -61,7 +60,7 @@ impl Cid {
         Cid(ffi::cid_of_block(codec, block))
     }
 
-    /// Checks that a block is the one that this CID names.
+    /// Checks that a block has the digest of this CID.
     ///
     /// ```
     /// use kombilad::{Cid, Error, DAG_CBOR};
@@ -73,13 +72,13 @@ impl Cid {
     ///
     /// # Errors
     ///
-    /// [`Error::WrongDigest`], and [`Error::UnknownHash`] where the hash function is neither
-    /// SHA2-256, SHA2-512 nor identity.
+    /// [`Error::WrongDigest`] if it has another, and [`Error::UnknownHash`] if the hash function is
+    /// not SHA2-256, SHA2-512 or identity.
     pub fn verify(&self, block: &[u8]) -> Result<(), Error> {
         ffi::verify(self.as_bytes(), block).map_err(Error::of_digest)
     }
 
-    /// The CID of bytes that the library says are one.
+    /// Returns the CID of bytes that the library has checked.
     #[inline]
     pub(crate) fn of_valid(bytes: &[u8]) -> Self {
         let mut cid = ffi::NO_CID;
@@ -89,16 +88,21 @@ impl Cid {
         Cid(cid)
     }
 
-    /// The CID's bytes, at most 86.
+    /// Returns the CID's bytes, at most 86.
     pub fn as_bytes(&self) -> &[u8] {
         &self.0.bytes[..usize::from(self.0.len)]
+    }
+
+    /// Returns a copy of the CID's bytes.
+    pub fn to_bytes(&self) -> Vec<u8> {
+        self.as_bytes().to_vec()
     }
 
     fn parts(&self) -> ffi::CidParts {
         ffi::cid_parts(self.as_bytes()).expect("the bytes of a CID are one")
     }
 
-    /// The version.
+    /// Returns the version.
     pub fn version(&self) -> Version {
         match self.parts().version {
             0 => Version::V0,
@@ -106,23 +110,28 @@ impl Cid {
         }
     }
 
-    /// The codec of the content, as in the table of multicodecs.
+    /// Returns the codec of the block, as in the multicodec table.
     pub fn codec(&self) -> u64 {
         self.parts().codec
     }
 
-    /// The code of the hash function, as in the table of multicodecs.
+    /// Returns the code of the hash function, as in the multicodec table.
     pub fn hash_code(&self) -> u64 {
         self.parts().hash
     }
 
-    /// The digest.
+    /// Returns the digest.
     pub fn digest(&self) -> &[u8] {
-        let bytes = self.as_bytes();
-        &bytes[bytes.len() - self.parts().digest_len as usize..]
+        self.last(self.parts().digest_len as usize)
     }
 
-    /// The text in a base: of version 1 with the multibase prefix, of version 0 without one.
+    /// Returns the last `len` of the CID's bytes.
+    fn last(&self, len: usize) -> &[u8] {
+        let bytes = self.as_bytes();
+        &bytes[bytes.len() - len..]
+    }
+
+    /// Returns the text in a base. For version 1 it begins with the multibase prefix.
     ///
     /// ```
     /// use kombilad::{Base, Cid};
@@ -134,7 +143,7 @@ impl Cid {
     ///
     /// # Errors
     ///
-    /// [`Error::V0Base`] where the CID is of version 0 and the base another than base58btc, and
+    /// [`Error::V0Base`] if the CID has version 0 and the base isn't base58btc, and
     /// [`Error::OutOfMemory`].
     pub fn to_string_of_base(&self, base: Base) -> Result<String, Error> {
         let mut buffer = [0; LONGEST_TEXT];
@@ -149,10 +158,18 @@ impl Cid {
 impl TryFrom<&[u8]> for Cid {
     type Error = Error;
 
-    /// The CID that the bytes are, all of them.
+    /// Returns the CID of these bytes, with nothing after it.
     fn try_from(bytes: &[u8]) -> Result<Self, Error> {
         ffi::cid_check(bytes).map_err(Error::of_bytes)?;
         Ok(Cid::of_valid(bytes))
+    }
+}
+
+impl TryFrom<Vec<u8>> for Cid {
+    type Error = Error;
+
+    fn try_from(bytes: Vec<u8>) -> Result<Self, Error> {
+        Cid::try_from(&bytes[..])
     }
 }
 
@@ -194,7 +211,7 @@ impl AsRef<[u8]> for Cid {
 
 impl From<Cid> for Vec<u8> {
     fn from(cid: Cid) -> Vec<u8> {
-        cid.as_bytes().to_vec()
+        cid.to_bytes()
     }
 }
 
@@ -214,11 +231,22 @@ impl Hash for Cid {
 
 impl Ord for Cid {
     fn cmp(&self, other: &Self) -> Ordering {
+        if have_one_head(self.as_bytes(), other.as_bytes()) {
+            return self.as_bytes().cmp(other.as_bytes());
+        }
         let (a, b) = (self.parts(), other.parts());
         (a.version, a.codec, a.hash, a.digest_len)
             .cmp(&(b.version, b.codec, b.hash, b.digest_len))
-            .then_with(|| self.digest().cmp(other.digest()))
+            .then_with(|| self.last(a.digest_len as usize).cmp(other.last(b.digest_len as usize)))
     }
+}
+
+/// Returns whether two CIDs begin with the same bytes before their digests, if that can be seen
+/// without parsing them: both have version 0, or the same four varints of one byte each. Most CIDs
+/// that a program compares do, so sorting them doesn't parse them.
+fn have_one_head(a: &[u8], b: &[u8]) -> bool {
+    // 0x12 is the code of SHA2-256, with which only version 0 begins.
+    a[0] == 0x12 && b[0] == 0x12 || a[..4] == b[..4] && a[..4].iter().all(|&byte| byte < 0x80)
 }
 
 impl PartialOrd for Cid {

@@ -45,6 +45,43 @@ fn a_cid_has_parts() {
     assert_eq!(v0.digest(), cid(VERSION_0_AS_1).digest());
 }
 
+/// The bytes of a number as an unsigned varint of multiformats.
+fn varint(mut number: u64) -> Vec<u8> {
+    let mut bytes = Vec::new();
+    while number > 127 {
+        bytes.push(number as u8 | 128);
+        number >>= 7;
+    }
+    bytes.push(number as u8);
+    bytes
+}
+
+#[test]
+fn cids_sort_as_their_parts_do() {
+    let digests = [vec![], vec![0], vec![255], vec![0, 1], vec![127; 64], vec![128; 64]];
+    let mut all = vec![];
+    for codec in [0u64, 0x55, 0x71, 127, 128, 300, 1 << 63] {
+        for hash in [0u64, 0x12, 127, 128, 0x1000] {
+            for digest in &digests {
+                let head =
+                    [vec![1], varint(codec), varint(hash), varint(digest.len() as u64)].concat();
+                let cid = Cid::try_from([head, digest.clone()].concat()).unwrap();
+                all.push(((1, codec, hash, digest.len(), digest.clone()), cid));
+            }
+        }
+    }
+    for first in [0, 0x12, 255] {
+        let digest = vec![first; 32];
+        let cid = Cid::try_from([vec![0x12, 32], digest.clone()].concat()).unwrap();
+        all.push(((0, 0x70, 0x12, 32, digest), cid));
+    }
+    for (parts, cid) in &all {
+        for (others, other) in &all {
+            assert_eq!(cid.cmp(other), parts.cmp(others), "{cid} {other}");
+        }
+    }
+}
+
 #[test]
 fn bytes_are_read_exactly() {
     let bytes = cid(EMPTY_MAP).as_bytes().to_vec();
