@@ -252,12 +252,16 @@ def install(found):
             os.unlink(log.name)
             return
         log.seek(0)
-        if NO_NETWORK.search(log.read()):
+        output = log.read()
+        if NO_NETWORK.search(output):
             raise NotInstalled(
                 f"apt-get can't reach the network, so nothing was installed: connect the machine and try again (the output of apt-get is in {log.name})"
             )
+        # What apt-get can't install, and the packages that it names before that.
+        reasons = re.findall(r"^(?:E: .*| \S+ : .*)", output, re.M)
         raise NotInstalled(
-            f"apt-get failed, so not all was installed: its output in {log.name} has the reason"
+            f"apt-get failed, so not all was installed (its output is in {log.name}):"
+            + "".join(f"\n  {it.strip()}" for it in reasons[:20])
         )
 
 

@@ -67,13 +67,14 @@ package=$out/js/package
 rm -rf "$out/js" "$out/inspector"
 mkdir -p "$package" "$out/inspector"
 cp -r js/package.json js/README.md js/src ../LICENSE-APACHE ../LICENSE-MIT "$package"
-cp "$made/kombilad.wasm" "$package/src"
+# The module is text in the package, so that every bundler takes it along and no server has to know its type.
+printf "export const base64 =\n  '%s'\n" "$(base64 -w 0 "$made/kombilad.wasm")" > "$package/src/module.js"
 # Without comments: the declarations have what a caller has to know.
 sed -i -E '/^ *\/\*\*.*\*\/$/d; /^ *\/\*\*/,/\*\/$/d; /^ *\/\//d' "$package"/src/*.js
 version=$(cat ../VERSION)$mark
 [ -z "$mark" ] || sed -i "s/^  \"version\": \".*\"/  \"version\": \"$version\"/; s/^  \"description\": \"/&UNPROVED: /" "$package/package.json"
 tar -C "$out/js" --sort=name --owner=0 --group=0 --numeric-owner --mode='u=rwX,go=rX' --mtime='1980-01-01 00:00Z' -cf - package | gzip -9n > "$out/kombilad-$version.tgz"
-cp js/inspector/* js/src/*.js "$made/kombilad.wasm" "$out/inspector"
+cp js/inspector/* js/src/*.js "$package/src/module.js" "$out/inspector"
 echo "$made/kombilad.wasm"
 echo "$out/kombilad-$version.tgz"
 echo "$out/inspector"

@@ -270,5 +270,5 @@ worker.addEventListener('message', ({ data }) => {
   answers[data.type](data)
 })
 worker.addEventListener('error', (event) => {
-  showFailure({ what: `The page's worker does not run: ${event.message ?? 'is kombilad.wasm beside it?'}` })
+  showFailure({ what: `The page's worker does not run: ${event.message ?? 'it has no message'}` })
 })

@@ -12,20 +12,29 @@ const OLD = Symbol.for('@ipld/js-cid/CID')
 export const bases = Object.keys(PREFIXES)
 
 /**
- * A varint of bytes that were checked, and where it ends. Those of 2^53 and more are rounded, as
- * all numbers are.
+ * Returns the number of a varint in bytes that were checked, and where it ends. A number that
+ * isn't a safe integer is a BigInt.
  */
 function varint (bytes, at) {
+  const begins = at
   let number = 0
   let unit = 1
-  for (;;) {
-    const byte = bytes[at++]
-    number += (byte & 127) * unit
+  let byte
+  do {
     // The end of the bytes ends the varint too: a caller can replace the bytes of a CID, or detach
     // them.
-    if ((byte & 128) === 0) return [number, at]
+    byte = bytes[at++]
+    number += (byte & 127) * unit
     unit *= 128
-  }
+  } while ((byte & 128) !== 0)
+  return [Number.isSafeInteger(number) ? number : wideVarint(bytes, begins, at), at]
+}
+
+/** Returns the number of a varint between two places as a BigInt. */
+function wideVarint (bytes, begins, ends) {
+  let number = 0n
+  for (let at = ends - 1; at >= begins; at--) number = number << 7n | BigInt(bytes[at] & 127)
+  return number
 }
 
 function equal (a, b) {
@@ -238,8 +247,9 @@ export class CID {
    * `multiformats/bases`.
    */
   static parse (text, base) {
+    if (typeof text !== 'string') throw ofName('INPUT', undefined, ': the text of a CID')
     if (base !== undefined && base.prefix === text[0]) return CID.decode(base.decode(text))
-    return new CID(CHECKED, run(readText, String(text)))
+    return new CID(CHECKED, run(readText, text))
   }
 
   /** The CID of a block: version 1, by its SHA2-256 digest. */
@@ -277,7 +287,7 @@ export function firstLength (bytes) {
     if (at >= bytes.length) return bytes.length
     ;[number, at] = bytes[at] > 127 ? [0, at + 1] : varint(bytes, begins)
   }
-  return Math.min(at + Math.min(number, 65), bytes.length)
+  return Math.min(at + Math.min(Number(number), 65), bytes.length)
 }
 
 /** The hash function SHA2-256 of the core, as `multiformats/hashes` has one. */

@@ -1,16 +1,35 @@
 // The instance of the core and its memory: [stack, constants][record][room][heap]. A call writes
 // numbers and a CID to the record, and reads and writes the rest in the room.
 import { ofName, ofStatus, startBy, useSentences } from './errors.js'
+import { base64 } from './module.js'
 
 let module
 let instance
 let bound = 0xffff0000
 let started = 0
 
-/** Says which compiled module the core is. */
-export function useModule (compiled) {
-  module = compiled
-  instance = undefined
+/** Returns the bytes of the core's module, which wasm.sh writes into the package as text. */
+function moduleBytes () { return Uint8Array.from(atob(base64), (letter) => letter.charCodeAt(0)) }
+
+/** Returns an instance of the core's module, which is compiled if no call has done so. */
+function instantiated () {
+  try {
+    if (module === undefined) module = new WebAssembly.Module(moduleBytes())
+    return new WebAssembly.Instance(module, {})
+  } catch (cause) {
+    throw Object.assign(ofName('NOT_STARTED', undefined, `: ${cause.message}`), { cause })
+  }
+}
+
+/**
+ * Compiles and starts the core without blocking, if no call has done so. Without it the first call
+ * does that, which takes some milliseconds; older browsers refuse it on a page's thread.
+ */
+export async function init () {
+  if (instance !== undefined) return
+  if (module === undefined) module = await WebAssembly.compile(moduleBytes())
+  const made = await WebAssembly.instantiate(module, {})
+  if (instance === undefined) instance = new Core(made)
 }
 
 /**
@@ -39,8 +58,7 @@ const LARGEST = 0x7f000000
 const RECORD = 96
 
 class Core {
-  constructor () {
-    const made = new WebAssembly.Instance(module, {})
+  constructor (made = instantiated()) {
     started++
     this.calls = made.exports
     this.memory = made.exports.memory
@@ -110,7 +128,7 @@ class Core {
 
 startBy(() => {
   try {
-    if (module !== undefined) run(() => {})
+    run(() => {})
   } catch {
     // The core can't be started: the error then has its name for a sentence.
   }

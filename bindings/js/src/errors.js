@@ -86,6 +86,7 @@ const OTHERS = {
   CAR_READ_ONCE: 'the blocks of an iterator were asked for a second time',
   NO_TAPE: 'this build of the core has no tapes',
   INPUT: 'the input is not of the type that the call takes',
+  NOT_STARTED: 'the core can\'t be started here; in a browser call `await init()` first',
   TRAP: 'the core stopped, and is started anew with the next call'
 }
 

@@ -23,7 +23,7 @@ export type ErrorCode =
   | 'LINK_END' | 'LINK_NOT_SHORTEST' | 'LINK_VARINT_TOO_LARGE' | 'LINK_EXPLICIT_VERSION_0' | 'LINK_UNKNOWN_VERSION' | 'LINK_DIGEST_TOO_LONG' | 'LINK_TRAILING_BYTES'
   | 'CAR_UNEXPECTED_END' | 'CAR_LENGTH_NOT_SHORTEST' | 'CAR_LENGTH_TOO_LARGE' | 'CAR_EMPTY' | 'CAR_TOO_LONG' | 'CAR_NOT_A_HEADER' | 'CAR_PAYLOAD' | 'CAR_SHORT_PAYLOAD' | 'CAR_READ_ONCE'
   | 'PB_END' | 'PB_VARINT_TOO_LARGE' | 'PB_UNKNOWN_FIELD' | 'PB_FIELD_ORDER' | 'PB_NO_HASH' | 'PB_UTF8'
-  | 'ENCODE_UNSUPPORTED' | 'ENCODE_NUMBER' | 'ENCODE_STRING' | 'ENCODE_TOO_DEEP' | 'WRONG_VERSION' | 'INPUT' | 'NO_TAPE' | 'TRAP'
+  | 'ENCODE_UNSUPPORTED' | 'ENCODE_NUMBER' | 'ENCODE_STRING' | 'ENCODE_TOO_DEEP' | 'WRONG_VERSION' | 'INPUT' | 'NO_TAPE' | 'NOT_STARTED' | 'TRAP'
 
 /** Why a call failed. */
 export class KombiladError extends Error {
@@ -37,8 +37,8 @@ export class KombiladError extends Error {
 
 /** A multihash. */
 export interface Multihash {
-  /** The code of the hash function. */
-  readonly code: number
+  /** The code of the hash function: a `bigint` if it isn't a safe integer. */
+  readonly code: number | bigint
   /** The length of the digest. */
   readonly size: number
   readonly digest: Uint8Array
@@ -57,10 +57,10 @@ export const bases: BaseName[]
 
 /** A content identifier, with the shape and names of the class of `multiformats/cid`. */
 export class CID {
-  constructor(version: 0 | 1, code: number, multihash: { readonly bytes: Uint8Array }, bytes: Uint8Array)
+  constructor(version: 0 | 1, code: number | bigint, multihash: { readonly bytes: Uint8Array }, bytes: Uint8Array)
   readonly version: 0 | 1
-  /** The code of the codec. */
-  readonly code: number
+  /** The code of the codec: a `bigint` if it isn't a safe integer. */
+  readonly code: number | bigint
   readonly multihash: Multihash
   readonly bytes: Uint8Array
   readonly '/': Uint8Array
@@ -76,9 +76,9 @@ export class CID {
   toV1(): CID
 
   static asCID(value: unknown): CID | null
-  static create(version: 0 | 1, code: number, digest: { readonly bytes: Uint8Array }): CID
+  static create(version: 0 | 1, code: number | bigint, digest: { readonly bytes: Uint8Array }): CID
   static createV0(digest: { readonly bytes: Uint8Array }): CID
-  static createV1(code: number, digest: { readonly bytes: Uint8Array }): CID
+  static createV1(code: number | bigint, digest: { readonly bytes: Uint8Array }): CID
   /** The CID that the bytes are, all of them. */
   static decode(bytes: Bytes): CID
   /** The CID that the bytes begin with, and the bytes behind it. */
@@ -112,6 +112,13 @@ export const code: 0x71
 export function encode(value: unknown): Uint8Array
 /** The value of a block. Integers that a number doesn't hold are of type `bigint`. */
 export function decode<T = any>(bytes: Bytes, limits?: Limits): T
+/** The codec DAG-CBOR as one object: a `BlockCodec` of `multiformats`, as Helia takes it. */
+export const dagCbor: {
+  readonly name: 'dag-cbor'
+  readonly code: 0x71
+  encode(value: unknown): Uint8Array
+  decode<T = any>(bytes: Bytes, limits?: Limits): T
+}
 
 /** A link of a node of DAG-PB. */
 export interface PBLink { Hash: CID, Name?: string, Tsize?: number | bigint }
@@ -156,6 +163,11 @@ export interface TapeEntry {
 /** The entries of a block in their order: a value or a key each. */
 export function tape(bytes: Bytes, limits?: Limits): TapeEntry[]
 
+/**
+ * Compiles and starts the core without blocking. Without it the first call does that, which takes
+ * some milliseconds; older browsers refuse it on a page's thread (`NOT_STARTED`).
+ */
+export function init(): Promise<void>
 /** How many bytes of memory the core may have. It is started anew. */
 export function setMemoryLimit(bytes: number): void
 

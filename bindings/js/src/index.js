@@ -1,18 +1,18 @@
-// For browsers, workers and bundlers: the module is fetched and compiled while this module is
-// imported.
-import { useModule } from './core.js'
+// The package for browsers, workers and bundlers, and all but files for Node.
+import { decode } from './block.js'
+import { encode } from './writer.js'
 
-const url = new URL('./kombilad.wasm', import.meta.url)
+export { CID, bases, sha256, verify } from './cid.js'
+export { canonicalize, check, countLinks, decode, isCanonical, linkPositions, links, tape } from './block.js'
+export { encode } from './writer.js'
+export { dagPb } from './pb.js'
+export { CarBlockIterator, CarCIDIterator, CarIndexer, CarReader } from './car.js'
+export { KombiladError } from './errors.js'
+export { init, setMemoryLimit } from './core.js'
 
-async function compiled () {
-  const response = await fetch(url)
-  if (!response.ok) throw new Error(`${url}: ${response.status} ${response.statusText}`)
-  // A server that doesn't know the type of .wasm still serves its bytes.
-  return response.headers.get('content-type') === 'application/wasm' && WebAssembly.compileStreaming !== undefined
-    ? WebAssembly.compileStreaming(response)
-    : WebAssembly.compile(await response.arrayBuffer())
-}
+/** The name and the code of the codec DAG-CBOR, as in `@ipld/dag-cbor`. */
+export const name = 'dag-cbor'
+export const code = 0x71
 
-useModule(await compiled())
-
-export * from './api.js'
+/** The codec DAG-CBOR as one object: a `BlockCodec` of `multiformats`, as Helia takes it. */
+export const dagCbor = { name, code, encode, decode }

@@ -6,7 +6,7 @@ import { createHash } from 'node:crypto'
 import { describe, test } from 'node:test'
 import { inspect, types } from 'node:util'
 import { runInNewContext } from 'node:vm'
-import { core, errors, kombilad, needsTape } from './package.mjs'
+import { core, errors, fresh, kombilad, needsTape } from './package.mjs'
 
 const { CID, KombiladError, check, canonicalize, countLinks, decode, encode, isCanonical, linkPositions, links, setMemoryLimit, sha256, tape, verify } = kombilad
 const hex = (text) => Uint8Array.from(Buffer.from(text, 'hex'))
@@ -49,6 +49,7 @@ describe('CID', () => {
     assert.deepEqual(raw.toJSON(), { '/': EMPTY_RAW })
     fails(() => raw.toString('base1'), 'UNKNOWN_BASE')
     fails(() => old.toString('base32'), 'V0_BASE')
+    for (const text of [undefined, null, 7, {}, hex('01550000')]) fails(() => CID.parse(text), 'INPUT')
     fails(() => CID.parse(''), 'TEXT_UNKNOWN_BASE')
     fails(() => CID.parse('bafkqaa1'), 'TEXT_INVALID_LETTER', 7)
     fails(() => CID.parse('bafkqäaa'), 'TEXT_INVALID_LETTER', 5)
@@ -86,6 +87,12 @@ describe('CID', () => {
       assert.equal(CID.create(1, code, digest).code, code)
       assert.deepEqual(CID.create(1, code, digest), CID.ofBlock(BigInt(code), new Uint8Array()))
     }
+    for (const code of [2n ** 53n, 2n ** 53n + 1n, 2n ** 64n - 1n]) {
+      const cid = CID.create(1, code, digest)
+      assert.equal(cid.code, code)
+      assert.ok(CID.decodeFirst(Uint8Array.from([...cid.bytes, 0]))[0].equals(cid))
+    }
+    assert.equal(CID.decode(hex('0155' + '8180808080808010' + '0107')).multihash.code, 2n ** 53n + 1n)
     fails(() => CID.create(1, 0x55, { bytes: hex('1220ff') }), 'CID_END')
     fails(() => CID.create(0, 0x55, digest), 'WRONG_VERSION')
     fails(() => CID.create(2, 0x55, digest), 'CID_UNKNOWN_VERSION')
@@ -373,6 +380,26 @@ describe('the instance', () => {
     assert.equal(core.starts(), before + 1)
     assert.deepEqual(decode(block), { a: [1, 2, 3] })
     assert.equal(core.starts(), before + 1)
+  })
+
+  test('is started by init, and not again by the first call', async () => {
+    setMemoryLimit(0xffff0000)
+    const before = core.starts()
+    await Promise.all([kombilad.init(), kombilad.init()])
+    check(hex('a0'))
+    await kombilad.init()
+    assert.equal(core.starts(), before + 1)
+  })
+
+  test('is an error if the module can not be compiled at once', async () => {
+    const { Module } = WebAssembly
+    WebAssembly.Module = function () { throw new RangeError('the buffer is larger than 4KB') }
+    try {
+      const { run } = await fresh('core.js')
+      fails(() => run(() => {}), 'NOT_STARTED')
+    } finally {
+      WebAssembly.Module = Module
+    }
   })
 
   test('keeps to a limit of memory, and goes on after it', needsTape, () => {

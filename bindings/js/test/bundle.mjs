@@ -1,19 +1,31 @@
-// A bundle for a browser, in Chromium.
+// Bundles of bundled.js as bundlers make them: three for a browser, in Chromium, and one for Node.
 //
-//     node bundle.mjs FOLDER     (with bundled.js as a bundler made it, and kombilad.wasm)
+//     node bundle.mjs FOLDER     (with the files below)
 import assert from 'node:assert/strict'
 import { writeFileSync } from 'node:fs'
+import { createRequire } from 'node:module'
+import { resolve } from 'node:path'
 import { browse, serve } from './chromium.mjs'
 
-const folder = process.argv[2]
-writeFileSync(`${folder}/index.html`, '<!doctype html><link rel="icon" href="data:,"><script type="module" src="bundled.js"></script>')
+const FOUND = { name: 'a record', size: '9007199254740992', links: ['bafyreiftoih67acderu7ozytqwpf5ftf7fr3r6r5dmquwy46nqp77cwohi'], code: 'BLOCK_UTF8' }
+const folder = resolve(process.argv[2])
+
+createRequire(import.meta.url)(`${folder}/node.cjs`)
+assert.deepEqual(globalThis.found, FOUND)
+
 const server = await serve(folder)
-const page = await browse(server.url)
 try {
-  await page.until('window.found !== undefined')
-  assert.deepEqual(await page.value('window.found'), { name: 'a record', size: '9007199254740992', links: ['bafyreiftoih67acderu7ozytqwpf5ftf7fr3r6r5dmquwy46nqp77cwohi'], code: 'BLOCK_UTF8' })
-  assert.deepEqual(page.problems, [])
+  for (const [script, type] of [['esm.js', 'module'], ['iife.js', 'text/javascript'], ['rollup.js', 'text/javascript']]) {
+    writeFileSync(`${folder}/${script}.html`, `<!doctype html><link rel="icon" href="data:,"><script type="${type}" src="${script}"></script>`)
+    const page = await browse(`${server.url}${script}.html`)
+    try {
+      await page.until('window.found !== undefined')
+      assert.deepEqual(await page.value('window.found'), FOUND, script)
+      assert.deepEqual(page.problems, [], script)
+    } finally {
+      await page.close()
+    }
+  }
 } finally {
-  await page.close()
   server.close()
 }

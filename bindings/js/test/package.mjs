@@ -3,7 +3,11 @@ import { resolve } from 'node:path'
 import { pathToFileURL } from 'node:url'
 
 const folder = resolve(process.env.PACKAGE ?? new URL('..', import.meta.url).pathname)
-const load = (file) => import(pathToFileURL(`${folder}/src/${file}`))
+const urlOf = (file) => pathToFileURL(`${folder}/src/${file}`)
+const load = (file) => import(urlOf(file))
+
+/** Loads a file of the package once more, with a state of its own. */
+export const fresh = (file) => import(`${urlOf(file)}?fresh`)
 
 export const kombilad = await load('node.js')
 export const core = await load('core.js')

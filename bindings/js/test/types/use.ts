@@ -1,4 +1,4 @@
-import { CID, CarBlockIterator, CarIndexedReader, CarIndexer, CarReader, KombiladError, check, code, countLinks, decode, encode, isCanonical, linkPositions, links, name, setMemoryLimit, sha256, tape, verify, dagPb } from 'kombilad'
+import { CID, CarBlockIterator, CarIndexedReader, CarIndexer, CarReader, KombiladError, check, code, countLinks, decode, encode, isCanonical, linkPositions, links, name, setMemoryLimit, sha256, tape, verify, dagCbor, dagPb } from 'kombilad'
 
 const cid: CID = CID.parse('bafkqaaa')
 const version: 0 | 1 = cid.version
@@ -14,7 +14,7 @@ setMemoryLimit(1e8)
 
 // A codec as multiformats takes one.
 interface Codec<Code extends number, T> { name: string, code: Code, encode(value: T): Uint8Array, decode(bytes: Uint8Array): T }
-const codec: Codec<0x71, unknown> = { name, code, encode, decode }
+const codecs: Array<Codec<0x71, unknown>> = [{ name, code, encode, decode }, dagCbor]
 
 export async function blocks (car: Uint8Array): Promise<CID[]> {
   const found: CID[] = []
@@ -49,4 +49,4 @@ export function rejected (): void {
   void (new KombiladError().code === 'UTF8')
 }
 
-export default [version, text, value, all, first, rest, count, same, codec]
+export default [version, text, value, all, first, rest, count, same, codecs]
