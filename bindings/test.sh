@@ -113,6 +113,12 @@ said "Rust, over a shared library: ok"
 PYTHONPATH=/usr/lib/python3/dist-packages "$tests/venv/bin/python" test/values.py "$blocks"
 PYTHONPATH=/usr/lib/python3/dist-packages "$tests/venv/bin/python" test/missing_blocks.py "$tests/missing"
 
+for module in "-p kombilad" test/typed.py; do
+    # shellcheck disable=SC2086
+    MYPYPATH=python/src mypy --strict --no-error-summary --cache-dir="$tests/mypy" $module
+done
+said "the types of the package: ok"
+
 # The package with other extension modules: one that looks at the interpreter's lock at some calls, one whose allocations in libkombilad are
 # refused, and both of its C code under the sanitizers.
 installed=$("$tests/venv/bin/python" -c 'import kombilad, pathlib; print(pathlib.Path(kombilad.__file__).parent)')

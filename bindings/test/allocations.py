@@ -25,9 +25,16 @@ CAR = bytes.fromhex("19a265726f6f747381d82a4500015500006776657273696f6e01 040155
 LINKED = bytes.fromhex("120b0a0401550000 120161 1801")
 NODES = [LINKED + bytes.fromhex("0a026869"), LINKED * 100]
 BLOCKS = [kombilad.encode_dag_cbor(value) for value in (NESTED, DEEP, ["x"] * 300)]
+LINKS = kombilad.encode_dag_cbor([{"b": LINK, "a": LINK}] * 200)
 
 
 def works():
+    yield lambda: [Cid(str(LINK)), Cid(bytes(LINK)), Cid.of_block(CAR)]
+    yield lambda: [LINK.to_text("base36"), LINK.version, LINK.codec, LINK.hash_code, LINK.digest]
+    yield lambda: sorted([LINK, Cid("bafyqaaa"), LINK])
+    yield lambda: [kombilad.check(LINKS), kombilad.count_links(LINKS)]
+    yield lambda: [kombilad.links(LINKS), kombilad.link_positions(LINKS)]
+    yield lambda: [kombilad.canonicalize(LINKS), kombilad.is_canonical(LINKS)]
     for block in BLOCKS:
         for cids in (Cid, str, bytes):
             yield lambda: kombilad.decode_dag_cbor(block, cids=cids)

@@ -89,9 +89,54 @@ class Cids(unittest.TestCase):
         self.assertEqual(pickle.loads(pickle.dumps(EMPTY_MAP)), EMPTY_MAP)
         self.assertEqual(copy.deepcopy([EMPTY_MAP]), [EMPTY_MAP])
         self.assertEqual(eval(repr(EMPTY_MAP)), EMPTY_MAP)
+        self.assertEqual(Cid(EMPTY_MAP), EMPTY_MAP)
+        self.assertEqual(f"{SHORT} {SHORT:base16}", "bafkqaaa f01550000")
+        self.assertRaises(kombilad.BaseError, format, SHORT, ">20")
         self.assertRaises(AttributeError, setattr, EMPTY_MAP, "version", 0)
         self.assertRaises(OverflowError, Cid.of_block, b"", codec=1 << 64)
         self.assertEqual(Cid.of_block(b"", codec=(1 << 64) - 1).codec, (1 << 64) - 1)
+
+    def test_they_sort_as_their_parts_do(self):
+        def varint(number):
+            low = [number >> 7 * at & 127 for at in range((max(number.bit_length(), 1) + 6) // 7)]
+            return bytes([it | 128 for it in low[:-1]] + low[-1:])
+
+        def v1(codec, code, digest):
+            return b"\x01" + varint(codec) + varint(code) + varint(len(digest)) + digest
+
+        parts = [
+            (1, codec, code, len(digest), digest)
+            for codec in (0, 0x55, 0x71, 300, 1 << 63)
+            for code in (0, 0x12, 0x1000)
+            for digest in (b"", b"\x00", b"\xff", b"\x00\x01", b"\x7f" * 64, b"\x80" * 64)
+        ]
+        cids = {Cid(v1(*part[1:3], part[4])): part for part in parts}
+        cids[Cid(b"\x12\x20" + bytes(32))] = (0, 0x70, 0x12, 32, bytes(32))
+        self.assertEqual([cids[cid] for cid in sorted(cids)], sorted(cids.values()))
+        for cid, part in cids.items():
+            self.assertEqual(
+                (cid.version, cid.codec, cid.hash_code, len(cid.digest), cid.digest), part
+            )
+        first, last = min(cids), max(cids)
+        self.assertTrue(first < last and first <= last and last > first and last >= first)
+        self.assertTrue(first <= first and first >= first and not first < first)
+        for other in (bytes(first), str(first), 1, None):
+            self.assertFalse(first == other)
+            with self.assertRaises(TypeError):
+                first < other
+
+    def test_a_subclass_makes_its_own(self):
+        class Named(Cid):
+            pass
+
+        named, cid = Named("bafkqaaa"), Cid("bafkqaaa")
+        self.assertIs(type(named), Named)
+        self.assertIs(type(Named(bytes(cid))), Named)
+        self.assertIs(type(Named.of_block(b"\xa0")), Named)
+        self.assertIs(type(Named(cid)), Named)
+        self.assertIs(type(Cid(named)), Cid)
+        self.assertEqual((named, hash(named)), (cid, hash(cid)))
+        self.assertFalse(named < cid or named > cid)
 
     def test_errors_say_what_and_where(self):
         for text, name, place in (

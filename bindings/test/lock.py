@@ -76,9 +76,10 @@ class Lock(unittest.TestCase):
         )
 
     def test_calls_that_make_no_value(self):
-        for block in (b"\x01", LARGE, bytearray(LARGE)):
+        for block, without, with_lock in ((SMALL, 0, 2), (LARGE, 2, 0), (bytearray(LARGE), 0, 2)):
             self.assertEqual(
-                calls(lambda: (kombilad.check(block), kombilad.is_canonical(block))), (2, 0)
+                calls(lambda: (kombilad.check(block), kombilad.is_canonical(block))),
+                (without, with_lock),
             )
 
     def test_two_threads_are_in_the_library_at_once(self):
@@ -86,7 +87,7 @@ class Lock(unittest.TestCase):
             lambda: self.assertEqual(kombilad.decode_dag_cbor(LARGE), VALUES[1]),
             lambda: self.assertEqual(kombilad.encode_dag_cbor(VALUES[1]), LARGE),
             lambda: kombilad.verify(Cid.of_block(LARGE), LARGE),
-            lambda: kombilad.check(b"\x01"),
+            lambda: kombilad.check(LARGE),
         ):
             threads = [threading.Thread(target=work) for _ in range(2)]
             library.kombilad_test_watch(HOLDS, 2)

@@ -4,7 +4,8 @@ were made of, and beside `ipld car --missing` of the files merged where the prog
 usage: python missing_blocks.py FOLDER [FILES [BLOCKS [SEED]]]
 
 It writes the files to the folder, which is a new one. BLOCKS is how many a file has. It also tests
-that the processes listen on this machine alone, end by themselves, and say which file is wrong.
+that the processes listen only on the loopback address and end by themselves, and that files that
+can't be read are reported.
 """
 
 import hashlib
@@ -255,11 +256,19 @@ def main():
         assert sorted(ran.stdout.splitlines()) == expected, (ran.stdout, ran.stderr)
         assert ran.returncode == 1, ran
 
-    cut = folder / "cut.car"
+    # Files that can't be read don't end the run, and the blocks before the error count.
+    _, alone, _, _ = run("--workers", "2", names[0])
+    cut, absent = folder / "cut.car", folder / "absent.car"
     cut.write_bytes(names[0].read_bytes()[:-1])
-    status, written, said, _ = run("--workers", "2", names[0], cut)
-    assert status == 1 and written == "", (status, written)
-    assert said.splitlines()[-1].startswith(f"missing_blocks: {cut}: "), said
+    status, written, said, _ = run("--workers", "2", cut, absent, names[0])
+    assert status == 1 and sorted(written.splitlines()) == sorted(alone.splitlines()), (
+        status,
+        written,
+    )
+    for name in (cut, absent):
+        assert (
+            sum(it.startswith(f"missing_blocks: {name}: ") for it in said.splitlines()) == 1
+        ), said
     print(f"missing blocks of {files} files by two processes, {beside}: ok")
 
 

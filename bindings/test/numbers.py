@@ -58,7 +58,7 @@ def main():
         r"^pub const KOMBILAD_(\w+): u32 = (\d+);",
     )
     rust.pop("BASE_USUAL", None)
-    python = found(BINDINGS / "python" / "src" / "kombilad" / "_library.py", r"^    (\w+) = (\d+)$")
+    python = found(BINDINGS / "python" / "src" / "kombilad" / "_status.py", r"^    (\w+) = (\d+)$")
     for name, numbers in (("kombilad-sys", rust), ("the Python package", python)):
         if numbers != header:
             sys.exit(

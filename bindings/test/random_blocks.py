@@ -298,9 +298,7 @@ def compare_cid(source):
 def main():
     count = int(sys.argv[1]) if len(sys.argv) > 1 else 10_000
     seed = int(sys.argv[2]) if len(sys.argv) > 2 else 1
-    library = ctypes.CDLL(
-        sys.argv[3] if len(sys.argv) > 3 else sys.modules["kombilad._library"].library._name
-    )
+    library = ctypes.CDLL(sys.argv[3] if len(sys.argv) > 3 else kombilad._native.__file__)
     source, fine = Source(seed), 0
     for number in range(count):
         source.floats = 0.3 if number % 3 == 0 else 0.0

@@ -6,18 +6,17 @@ usage: python random_cars.py [COUNT [SEED]]
 
 import ctypes
 import hashlib
-import importlib
 import struct
 import sys
 from ctypes import byref, c_size_t, c_uint32, c_uint64
 
 import car_reader
+import kombilad
 import random_blocks
+import raw
 import reader
 
-# The package has another thing under this name.
-_library = importlib.import_module("kombilad._library")
-NAMES = {status.value: status.name for status in _library.Status}
+NAMES = {status.value: status.name for status in kombilad.Status}
 NONE = 2**64 - 7
 
 
@@ -30,7 +29,7 @@ class Span(ctypes.Structure):
 
 
 def declared(name, *arguments):
-    function = _library.library[name]
+    function = raw.library[name]
     function.argtypes, function.restype = arguments, c_uint32
     return function
 
@@ -63,7 +62,7 @@ def opened(data, limit):
     """What kombilad_car_open says, first with a buffer that is too short."""
     car, roots, needed, offset = (
         Car(7, 7, 7),
-        (_library.CidBytes * 300)(),
+        (raw.CidBytes * 300)(),
         c_size_t(NONE),
         c_size_t(NONE),
     )

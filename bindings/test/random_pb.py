@@ -165,9 +165,7 @@ def compare_node(source, block, library):
 def main():
     count = int(sys.argv[1]) if len(sys.argv) > 1 else 10_000
     seed = int(sys.argv[2]) if len(sys.argv) > 2 else 1
-    library = ctypes.CDLL(
-        sys.argv[3] if len(sys.argv) > 3 else sys.modules["kombilad._library"].library._name
-    )
+    library = ctypes.CDLL(sys.argv[3] if len(sys.argv) > 3 else kombilad._native.__file__)
     source, fine = PbSource(seed), 0
     for number in range(count):
         node = source.node()

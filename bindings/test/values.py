@@ -9,6 +9,7 @@ import concurrent.futures
 import enum
 import gc
 import math
+import pickle
 import random
 import struct
 import sys
@@ -408,10 +409,26 @@ class Encoding(unittest.TestCase):
             (Cid, "TYPE"),
         ]
         for value, name in rows:
-            for whole in (value, [value], {"a": [0, value]}):
+            for whole, path in (
+                (value, ()),
+                ([value], (0,)),
+                ((1, [], {"bb": {}, "a": [0, value], "c": 1}), (2, "a", 1)),
+            ):
                 with self.assertRaises(kombilad.EncodeError) as raised:
                     kombilad.encode_dag_cbor(whole)
-                self.assertEqual(raised.exception.name, name)
+                error = raised.exception
+                self.assertEqual((error.name, error.path), (name, path))
+                at = f", at {'/'.join(map(str, path))}" if path else ""
+                self.assertTrue(str(error).endswith(at) and (at or ", at" not in str(error)))
+                copied = pickle.loads(pickle.dumps(error))
+                self.assertEqual((copied.path, str(copied)), (path, str(error)))
+        deep = math.nan
+        for _ in range(500):
+            deep = {"a long key": deep}
+        with self.assertRaises(kombilad.EncodeError) as raised:
+            kombilad.encode_dag_cbor(deep)
+        self.assertEqual(raised.exception.path, ("a long key",) * 500)
+        self.assertLess(len(str(raised.exception)), 300)
         self.assertRaises(UnicodeEncodeError, kombilad.encode_dag_cbor, ["\ud800"])
         self.assertRaises(UnicodeEncodeError, kombilad.encode_dag_cbor, {"\ud800": 1})
         self.assertRaises(TypeError, kombilad.encode_dag_cbor, 1, cids=int)

@@ -19,11 +19,12 @@ sys.dont_write_bytecode = True
 sys.path.insert(0, str(TOP / "test"))
 
 # The tests of the Python package make the random input. They are imported without the package.
-_library = types.SimpleNamespace(
-    Status=[], library=collections.defaultdict(types.SimpleNamespace), CidBytes=None
+_package = types.ModuleType("kombilad")
+_package.Status = []
+sys.modules["kombilad"] = _package
+sys.modules["raw"] = types.SimpleNamespace(
+    library=collections.defaultdict(types.SimpleNamespace), CidBytes=None
 )
-sys.modules["kombilad"] = types.ModuleType("kombilad")
-sys.modules["kombilad._library"] = _library
 
 import car_reader  # noqa: E402
 import random_blocks  # noqa: E402

@@ -1,18 +1,21 @@
 #!/usr/bin/env python3
-"""Prints the CIDs of the blocks that many CAR files together don't have, by workers on one machine
-or on several: of each root and of each link in a block whose block stands in none of the files, as
-`ipld car --missing` finds them in one file.
+"""Prints the CIDs of the blocks that many CAR files together lack, by workers on one machine or on
+several: the roots and links whose block is in none of the files. `ipld car --missing` does the same
+for one file.
 
 usage: missing_blocks.py [--workers N | --scheduler ADDRESS] [--parts N] [--report] FILE..
 
-Each CID stands on a line, once; the lines come in no order. A CID with the identity hash carries
-its block: it is never missing, and the links of that block count. The status is 1 where a block is
-missing or a file is wrong, and else 0.
+Each CID is printed once, on a line of its own, in any order. A CID with the identity hash contains
+its block: it is never missing, and the links of that block count.
 
-A worker reads a file block by block, and sorts the CIDs of blocks and links by a hash of their
-bytes into as many parts as are wanted. Then a part of all files comes to one worker, which takes
-the blocks away from the links. The files have to be found by their names on each worker. It needs
-the packages `kombilad` and `distributed`, which Debian has as python3-distributed.
+If a file can't be read to its end, its name and the error are printed to standard error, and the
+blocks before the error count. The status is 1 if a block is missing or a file can't be read, and
+otherwise 0.
+
+A worker reads a file one block at a time, and sorts the CIDs of blocks and links into parts, by a
+hash of their bytes. Then one worker gets a part of all files, and removes its blocks from its
+links. Each worker opens the files by the names that you give. The program needs the packages
+`kombilad` and `distributed` (in Debian python3-distributed).
 """
 
 import argparse
@@ -25,72 +28,27 @@ import kombilad
 from distributed import Client, LocalCluster, as_completed
 
 IDENTITY = 0
-# A port of this machine alone, any that is free.
+# Any free port, on the loopback address.
 HERE = "127.0.0.1:0"
-# After so many CIDs, those of a file are sorted into parts, so that it doesn't matter how large it
-# is.
+# The most CIDs of a file that wait to be sorted into parts, so that memory doesn't grow with the
+# file.
 CIDS_AT_ONCE = 1 << 20
 
 
 # ---- The links of a block
 
 
-def varint(data, at):
-    """The number at a place, and the place behind it."""
-    number = 0
-    for place in range(at, min(at + 10, len(data))):
-        number |= (data[place] & 127) << 7 * (place - at)
-        if data[place] < 128 and number < 1 << 64:
-            return number, place + 1
-    raise ValueError("no block of DAG-PB")
-
-
-def fields(data):
-    """The key of each field of a message, and its content, bytes or a number."""
-    at = 0
-    while at < len(data):
-        key, at = varint(data, at)
-        content, at = varint(data, at)
-        if key & 7 == 2:
-            content, at = data[at : at + content], at + content
-        if at > len(data):
-            raise ValueError("no block of DAG-PB")
-        yield key, content
-
-
-def hash_of_link(message):
-    """The CID of a link: field 1, the hash; then it may have a name and a size."""
-    found = list(fields(message))
-    if [key for key, _ in found] not in ([10], [10, 18], [10, 24], [10, 18, 24]):
-        raise ValueError("no block of DAG-PB")
-    if len(found) > 1 and found[1][0] == 18:
-        found[1][1].decode("utf-8")
-    return kombilad.Cid(found[0][1])
-
-
-def links_of_node(block):
-    """
-    The links of a block of DAG-PB: field 2 is a link; the data, field 1, come once, before all
-    links or after them.
-    """
-    found = list(fields(block))
-    keys = [key for key, _ in found]
-    if set(keys) - {10, 18} or keys.count(10) > 1 or 10 in keys[1:-1]:
-        raise ValueError("no block of DAG-PB")
-    return [hash_of_link(content) for key, content in found if key == 18]
-
-
 def links_of_block(codec, block):
-    """The links of a block, or None where the codec is another one."""
+    """Returns the links of a block, or None for a codec that isn't known here."""
     if codec == kombilad.DAG_CBOR:
         return kombilad.links(block)
     if codec == kombilad.DAG_PB:
-        return links_of_node(block)
+        return [link["Hash"] for link in kombilad.decode_dag_pb(block)["Links"]]
     return [] if codec == kombilad.RAW else None
 
 
 def add_links(into, links):
-    """Adds the bytes of links, and of those that are reached through the blocks that CIDs carry."""
+    """Adds the bytes of links, and of the links of blocks that such CIDs contain."""
     links = list(links)
     while links:
         cid = links.pop()
@@ -104,7 +62,7 @@ def add_links(into, links):
 
 
 def packed(cids):
-    """CIDs as bytes, the length of each before it."""
+    """Returns CIDs as bytes, each after its length."""
     return b"".join(bytes([len(cid)]) + cid for cid in cids)
 
 
@@ -119,8 +77,8 @@ def unpacked(pieces):
 
 class Sorter:
     """
-    CIDs of blocks and of links by parts. `key` is one that who made the files doesn't know, so that
-    they can't choose the part.
+    Sorts CIDs of blocks and of links into parts. The key is secret, so that nobody can make a file
+    whose CIDs are all in one part.
     """
 
     def __init__(self, parts, key):
@@ -131,7 +89,7 @@ class Sorter:
         return int.from_bytes(digest, "big") * len(self.parts) >> 64
 
     def add(self, blocks, links):
-        """Sorts them, and empties both. What is a block here is no missing link."""
+        """Sorts the CIDs, and empties both sets. Links to these blocks are left out."""
         links -= blocks
         for kind, cids in enumerate((blocks, links)):
             sorted_out = [[] for _ in self.parts]
@@ -145,38 +103,40 @@ class Sorter:
 
 def read_file(path, sorter):
     """
-    Sorts the CIDs of a file; how many blocks it has, and how many of these are of codecs whose
-    links aren't known.
+    Sorts the CIDs of a file. Returns how many blocks were read, how many of these are of codecs
+    whose links aren't known, and the error that ended it, or None.
     """
-    blocks, links, count, unknown = set(), set(), 0, 0
-    with open(path, "rb") as file:
-        reader = kombilad.CarReader(file)
-        add_links(links, reader.roots)
-        for cid, block in reader:
-            found = links_of_block(cid.codec, block)
-            add_links(links, found or [])
-            blocks.add(bytes(cid))
-            count, unknown = count + 1, unknown + (found is None)
-            if len(blocks) + len(links) >= CIDS_AT_ONCE:
-                sorter.add(blocks, links)
+    blocks, links, count, unknown, failure = set(), set(), 0, 0, None
+    try:
+        with open(path, "rb") as file:
+            reader = kombilad.CarReader(file)
+            add_links(links, reader.roots)
+            for cid, block in reader:
+                found = links_of_block(cid.codec, block)
+                add_links(links, found or [])
+                blocks.add(bytes(cid))
+                count, unknown = count + 1, unknown + (found is None)
+                if len(blocks) + len(links) >= CIDS_AT_ONCE:
+                    sorter.add(blocks, links)
+    except (OSError, ValueError) as error:
+        failure = f"{path}: {error}"
     sorter.add(blocks, links)
-    return count, unknown
+    return count, unknown, failure
 
 
 def read_files(paths, parts, key):
     """
-    The parts, and how many blocks there are, how many of unknown codecs, and how many bytes the
-    parts have.
+    Returns the parts; how many blocks were read, how many of these are of unknown codecs, and the
+    bytes of the parts; and the errors of files.
     """
-    sorter, count, unknown = Sorter(parts, key), 0, 0
-    for path in paths:
-        try:
-            more, more_unknown = read_file(path, sorter)
-        except (OSError, ValueError) as error:
-            raise ValueError(f"{path}: {error}") from None
-        count, unknown = count + more, unknown + more_unknown
+    sorter = Sorter(parts, key)
+    counts, unknowns, failures = zip(*(read_file(path, sorter) for path in paths))
     size = sum(len(piece) for part in sorter.parts for kind in part for piece in kind)
-    return {"parts": sorter.parts, "counts": (count, unknown, size)}
+    return {
+        "parts": sorter.parts,
+        "counts": (sum(counts), sum(unknowns), size),
+        "failures": [failure for failure in failures if failure],
+    }
 
 
 def item_of(mapping, name):
@@ -188,7 +148,7 @@ def part_of(read, part):
 
 
 def missing_in(pieces):
-    """The links of a part without the blocks of it."""
+    """Returns the links of a part without its blocks."""
     links = {cid for _, links in pieces for cid in unpacked(links)}
     for blocks, _ in pieces:
         links.difference_update(unpacked(blocks))
@@ -200,26 +160,26 @@ def missing_in(pieces):
 
 def missing_blocks(client, paths, tasks, parts):
     """
-    Yields what is known of the files, and then the missing CIDs of one part after the other,
-    packed.
+    Yields the counts and the errors of all files, and then the missing CIDs of each part, packed.
     """
     key = os.urandom(16)
     groups = [paths[at::tasks] for at in range(min(tasks, len(paths)))]
     read = [client.submit(read_files, group, parts, key, pure=False) for group in groups]
     counts = [client.submit(item_of, it, "counts") for it in read]
+    failures = [client.submit(item_of, it, "failures") for it in read]
     found = [
         client.submit(missing_in, [client.submit(part_of, it, part) for it in read])
         for part in range(parts)
     ]
     del read
-    yield [sum(column) for column in zip(*client.gather(counts))]
+    yield [sum(column) for column in zip(*client.gather(counts))], sum(client.gather(failures), [])
     for future, missing in as_completed(found, with_results=True):
         future.release()
         yield missing
 
 
 def taken(dask_worker):
-    """How many bytes a worker had of others, and the most memory that it took, in KiB."""
+    """Returns the bytes that a worker got from others, and the most memory that it took, in KiB."""
     with open("/proc/self/status", encoding="ascii") as status:
         most = next(line for line in status if line.startswith("VmHWM:"))
     return sum(it["total"] for it in dask_worker.transfer_incoming_log), int(most.split()[1])
@@ -240,7 +200,10 @@ def print_missing(client, arguments):
     workers = max(1, len(client.scheduler_info()["workers"]))
     at_first = client.run(taken) if arguments.report else {}
     results = missing_blocks(client, arguments.files, 4 * workers, arguments.parts or 2 * workers)
-    counts, status = next(results), 0
+    counts, failures = next(results)
+    for failure in failures:
+        sys.stderr.write(f"missing_blocks: {failure}\n")
+    status = 1 if failures else 0
     for missing in results:
         for cid in unpacked([missing]):
             print(kombilad.Cid(cid))
@@ -259,39 +222,37 @@ def main():
     parser.add_argument(
         "--workers", type=int, default=os.cpu_count(), help="how many processes on this machine"
     )
-    parser.add_argument("--scheduler", help="the address of a scheduler of Dask, in place of those")
+    parser.add_argument(
+        "--scheduler", help="the address of a Dask scheduler, instead of local processes"
+    )
     parser.add_argument(
         "--parts",
         type=int,
-        help="in how many parts the CIDs are exchanged: twice as many as workers, if left out",
+        help="the number of parts of the CIDs (default: twice the number of workers)",
     )
     parser.add_argument(
         "--report",
         action="store_true",
-        help="say how many bytes were exchanged, and how much memory was taken",
+        help="print the bytes that were exchanged and the memory that was taken",
     )
     parser.add_argument("files", nargs="+", metavar="FILE")
     arguments = parser.parse_args()
-    try:
-        if arguments.scheduler:
-            with Client(arguments.scheduler) as client:
-                return print_missing(client, arguments)
-        with tempfile.TemporaryDirectory() as folder:
-            # Processes with a thread each, that listen on this machine alone, and put to the folder
-            # what memory has no room for.
-            options = {
-                "host": "127.0.0.1",
-                "dashboard_address": HERE,
-                "worker_dashboard_address": HERE,
-                "local_directory": folder,
-            }
-            with LocalCluster(
-                n_workers=arguments.workers, threads_per_worker=1, **options
-            ) as cluster, Client(cluster) as client:
-                return print_missing(client, arguments)
-    except ValueError as error:
-        sys.stderr.write(f"missing_blocks: {error}\n")
-        return 1
+    if arguments.scheduler:
+        with Client(arguments.scheduler) as client:
+            return print_missing(client, arguments)
+    with tempfile.TemporaryDirectory() as folder:
+        # Processes of one thread that listen on the loopback address, and write to the folder if
+        # memory is short.
+        options = {
+            "host": "127.0.0.1",
+            "dashboard_address": HERE,
+            "worker_dashboard_address": HERE,
+            "local_directory": folder,
+        }
+        with LocalCluster(
+            n_workers=arguments.workers, threads_per_worker=1, **options
+        ) as cluster, Client(cluster) as client:
+            return print_missing(client, arguments)
 
 
 if __name__ == "__main__":

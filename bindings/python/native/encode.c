@@ -96,12 +96,39 @@ static int write_link(struct writer *writer, const void *bytes, size_t len) {
     return 0;
 }
 
-/* Sets an EncodeError with this name. */
-static int rejected(const struct writer *writer, const char *name, PyObject *object) {
-    PyObject *error = PyObject_CallFunction(writer->state->encode_error, "sO", name, object);
+/* Returns the keys and indexes that lead through the first `depth` open containers to the value
+ * that is being written, as a tuple. NULL with an exception. */
+static PyObject *path_of(const struct writer *writer, size_t depth) {
+    PyObject *path = PyTuple_New((Py_ssize_t)depth);
+    for (size_t at = 0; path != NULL && at < depth; at++) {
+        const struct open *open = &writer->open[at];
+        PyObject *segment;
+        if (open->item != NULL) {
+            segment = PyLong_FromSize_t(open->at - 1);
+        } else {
+            segment = writer->pairs[open->at - 1].text;
+            Py_INCREF(segment);
+        }
+        if (segment == NULL || PyTuple_SetItem(path, (Py_ssize_t)at, segment) < 0) Py_CLEAR(path);
+    }
+    return path;
+}
+
+/* Sets an EncodeError with this name, of an object at this depth. */
+static int rejected_at(const struct writer *writer, size_t depth, const char *name,
+                       PyObject *object) {
+    PyObject *path = path_of(writer, depth);
+    if (path == NULL) return -1;
+    PyObject *error = PyObject_CallFunction(writer->state->encode_error, "sOO", name, object, path);
+    Py_DECREF(path);
     if (error != NULL) PyErr_SetObject((PyObject *)Py_TYPE(error), error);
     Py_XDECREF(error);
     return -1;
+}
+
+/* Sets an EncodeError with this name, of the value that is being written. */
+static int rejected(const struct writer *writer, const char *name, PyObject *object) {
+    return rejected_at(writer, writer->opened, name, object);
 }
 
 static int write_unsigned(struct writer *writer, uint8_t major, PyObject *number, PyObject *given) {
@@ -211,7 +238,8 @@ static int open_dict(struct writer *writer, PyObject *object) {
     Py_ssize_t place = 0;
     bool in_order = true;
     while (writer->paired - first < count && PyDict_Next(object, &place, &key, &value)) {
-        if (!PyUnicode_Check(key)) return rejected(writer, "KEY_NOT_TEXT", key);
+        if (!PyUnicode_Check(key))
+            return rejected_at(writer, writer->opened - 1, "KEY_NOT_TEXT", key);
         Py_ssize_t len;
         const char *bytes = PyUnicode_AsUTF8AndSize(key, &len);
         if (bytes == NULL) return -1;

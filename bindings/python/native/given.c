@@ -33,10 +33,18 @@ int limit_of(PyObject *given, size_t *limit) {
     return negative < 0 ? -1 : 0;
 }
 
-void set_failed(const struct state *state, uint32_t status, size_t offset) {
-    PyObject *error = PyObject_CallFunction(state->failed, "IOn", (unsigned)status, Py_None,
-                                            (Py_ssize_t)offset);
+/* Raises an exception that was made, or the one of making it. */
+static void set_made(PyObject *error) {
     if (error == NULL) return;
     PyErr_SetObject((PyObject *)Py_TYPE(error), error);
     Py_DECREF(error);
+}
+
+void set_failed(const struct state *state, uint32_t status, size_t offset) {
+    set_made(
+        PyObject_CallFunction(state->failed, "IOn", (unsigned)status, Py_None, (Py_ssize_t)offset));
+}
+
+void set_text_failed(const struct state *state, uint32_t status, Py_ssize_t place) {
+    set_made(PyObject_CallFunction(state->failed, "In", (unsigned)status, place));
 }

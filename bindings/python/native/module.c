@@ -50,8 +50,43 @@ static PyObject *cid_of(PyObject *module, PyObject *arguments) {
     return cid_with((PyTypeObject *)type, bytes);
 }
 
+/* The longest sentence of a status has fewer characters. */
+#define LONGEST_SENTENCE 128
+
+/* status_text(status): the sentence of a status. */
+static PyObject *status_text(PyObject *module, PyObject *given) {
+    unsigned long status = PyLong_AsUnsignedLong(given);
+    if (PyErr_Occurred()) return NULL;
+    uint8_t text[LONGEST_SENTENCE];
+    size_t needed = 0;
+    if (kombilad_status_text((uint32_t)status, text, sizeof text, &needed) != KOMBILAD_OK) {
+        PyErr_SetString(PyExc_SystemError, "a sentence is too long");
+        return NULL;
+    }
+    (void)module;
+    return PyUnicode_FromStringAndSize((const char *)text, (Py_ssize_t)needed);
+}
+
+/* version(): the number of libkombilad's version. */
+static PyObject *version(PyObject *module, PyObject *nothing) {
+    (void)module;
+    (void)nothing;
+    return PyLong_FromUnsignedLong(kombilad_version());
+}
+
 static PyMethodDef methods[] = {
+    {"canonicalize", block_canonicalize, METH_VARARGS,
+     "canonicalize(block, levels, values): the block with the keys of its maps in order."},
+    {"check", block_check, METH_VARARGS, "check(block, levels, values): None if it is valid."},
+    {"cid_check", cid_check, METH_O, "cid_check(bytes): a copy of bytes that are those of a CID."},
+    {"cid_from_text", cid_from_text, METH_O, "cid_from_text(text): the bytes of its CID."},
     {"cid_of", cid_of, METH_VARARGS, "cid_of(class, bytes): the CID of bytes that are one."},
+    {"cid_of_block", cid_of_block, METH_VARARGS,
+     "cid_of_block(codec, block): the bytes of the CID of a block."},
+    {"cid_to_text", cid_to_text, METH_VARARGS,
+     "cid_to_text(bytes, base): the text in the base of a prefix, or in the usual one for 0."},
+    {"count_links", block_count_links, METH_VARARGS,
+     "count_links(block, levels, values): how many."},
     {"decode", decode, METH_VARARGS, "decode(block, cids, levels, values): the value of a block."},
     {"decode_car", decode_car, METH_VARARGS,
      "decode_car(car, cids, levels, values, verified, limit): version, roots and blocks."},
@@ -61,13 +96,20 @@ static PyMethodDef methods[] = {
      "decode_pb(block, cids): the node of a block of DAG-PB."},
     {"encode", encode, METH_VARARGS,
      "encode(value, cids, levels): the canonical block of a value."},
+    {"is_canonical", block_is_canonical, METH_VARARGS,
+     "is_canonical(block, levels, values): whether the keys of its maps are in order."},
+    {"link_positions", block_link_positions, METH_VARARGS,
+     "link_positions(block, levels, values): the place and the length of each CID."},
+    {"links", block_links, METH_VARARGS, "links(block, levels, values): the CIDs of its links."},
     {"open_car", open_car, METH_VARARGS,
      "open_car(car, limit): version, where the sections begin and end, and roots."},
     {"section", section, METH_VARARGS,
      "section(window, end, base): the CID's bytes and the span of the data, or None."},
+    {"status_text", status_text, METH_O, "status_text(status): its sentence."},
     {"use", use, METH_VARARGS,
      "use(cid, failed, encode_error): what the module needs of the package."},
     {"verify", verify, METH_VARARGS, "verify(cid, block): whether the block has the CID's digest."},
+    {"version", version, METH_NOARGS, "version(): the number of libkombilad's version."},
     {NULL, NULL, 0, NULL},
 };
 

@@ -68,6 +68,8 @@ struct state *state_of(PyObject *module);
 /* An instance of `CidBytes`, and of `Cid`, which adds no field. */
 struct cid {
     PyObject_HEAD PyObject *bytes;
+    bool has_parts;
+    kombilad_cid_parts parts; /* if `has_parts` */
 };
 
 extern PyType_Spec cid_bytes_spec;
@@ -110,7 +112,24 @@ int limit_of(PyObject *given, size_t *limit);
 /* Sets the exception of a status that isn't KOMBILAD_OK, with the offset in a block. */
 void set_failed(const struct state *state, uint32_t status, size_t offset);
 
+/* Sets that of a text, with the place of a character in it. */
+void set_text_failed(const struct state *state, uint32_t status, Py_ssize_t place);
+
 /* ---- Calls of the module */
+
+/* Calls on CIDs. */
+PyObject *cid_check(PyObject *module, PyObject *given);
+PyObject *cid_from_text(PyObject *module, PyObject *text);
+PyObject *cid_of_block(PyObject *module, PyObject *arguments);
+PyObject *cid_to_text(PyObject *module, PyObject *arguments);
+
+/* Calls on blocks that make no value: (block, levels, values). */
+PyObject *block_check(PyObject *module, PyObject *arguments);
+PyObject *block_is_canonical(PyObject *module, PyObject *arguments);
+PyObject *block_count_links(PyObject *module, PyObject *arguments);
+PyObject *block_links(PyObject *module, PyObject *arguments);
+PyObject *block_link_positions(PyObject *module, PyObject *arguments);
+PyObject *block_canonicalize(PyObject *module, PyObject *arguments);
 
 /* The text of a key. NULL with an exception. */
 PyObject *key_text(struct state *state, const uint8_t *bytes, size_t len);

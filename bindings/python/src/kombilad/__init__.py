@@ -1,36 +1,32 @@
-"""Content identifiers (CIDs) and blocks of DAG-CBOR and DAG-PB, read by code that is proved: the
-library `libkombilad`.
+"""Content identifiers (CIDs), blocks of DAG-CBOR and DAG-PB, and CAR files, read by proved code:
+the library `libkombilad`.
 
 >>> import kombilad
 >>> block = bytes.fromhex("a1646c696e6bd82a450001550000")
 >>> kombilad.links(block)
 [Cid('bafkqaaa')]
 
-`Cid` is a CID. `links` finds every link of a block, `link_positions` says where they stand,
-`count_links` how many they are, `check` whether bytes are a block, and `is_canonical` whether the
-keys of its maps are in order, in which `canonicalize` puts them. A block is any object with bytes
-in one piece, as `bytes`, `bytearray`, `memoryview` and `mmap` are: it is not copied, and must not
-change while a call reads it. These calls release the interpreter's lock.
+- `Cid` is a CID.
+- `links` returns the links of a block, `link_positions` their positions, `count_links` their number.
+- `check` raises an error unless bytes are a block. `is_canonical` tests whether the keys of its maps
+  are in order, and `canonicalize` puts them in order.
+- `decode_dag_cbor` returns the value of a block: dicts, lists, strings, bytes, numbers and CIDs.
+  `encode_dag_cbor` returns the block of a value.
+- `decode_dag_pb` returns the node of a block of DAG-PB.
+- `CarReader` reads the blocks of a CAR file one at a time, and `decode_car` returns the values of
+  all blocks of a CAR in memory. `verify` compares a block with its CID.
 
-`decode_dag_cbor` makes the value of a block, of dicts, lists, texts, bytes, numbers and CIDs, and
-`encode_dag_cbor` the block of a value.
+A block is any object with contiguous bytes, such as `bytes`, `bytearray`, `memoryview` or `mmap`.
+It isn't copied, and must not change while a call reads it. If it is `bytes` of 64 KiB or more, the
+calls release the interpreter's lock while the library reads it.
 
 >>> decode_dag_cbor(block)
 {'link': Cid('bafkqaaa')}
 >>> encode_dag_cbor({"link": Cid("bafkqaaa")}) == block
 True
 
-These two release the lock while the library reads or checks a block of 64 KiB or more, one that is
-read only where it is `bytes`; while objects are made they hold it.
-
-`decode_dag_pb` makes the node of a block of DAG-PB, of dicts, lists, texts, bytes, integers and
-CIDs.
-
-`CarReader` has the blocks of a CAR file, one at a time, `decode_car` the values of all blocks of
-one in memory, and `verify` says whether a block is the one that a CID names.
-
-What is wrong is a `KombiladError` or, of a value without a block, an `EncodeError`; both are a
-`ValueError`. A failed allocation is a `MemoryError`.
+Invalid input raises `KombiladError`, and a value that has no block `EncodeError`. Both are a
+`ValueError`. A failed allocation raises `MemoryError`.
 """
 
 from ._block import (
@@ -54,7 +50,8 @@ from ._errors import (
     TextError,
     VerifyError,
 )
-from ._library import Status, library as _library
+from . import _native
+from ._status import Status
 from ._values import (
     decode_dag_cbor,
     decode_dag_cbor_multi,
@@ -101,10 +98,10 @@ for _name in __all__:
 
 
 def version() -> str:
-    """The version of libkombilad.
+    """Returns the version of libkombilad.
 
     >>> version()
     '0.1.0'
     """
-    number = _library.kombilad_version()
+    number = _native.version()
     return f"{number >> 16}.{number >> 8 & 255}.{number & 255}"

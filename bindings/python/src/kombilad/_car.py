@@ -1,17 +1,17 @@
 """CAR files: all of one in memory, or one section after another."""
 
 import io
-from typing import Any, BinaryIO, Dict, Iterator, List, Optional, Tuple, Type, Union
+from typing import Any, BinaryIO, Dict, Iterator, List, NoReturn, Optional, Tuple, Type, Union
 
 from . import _native
-from ._cid import Cid, _made
+from ._cid import Cid
 from ._errors import KombiladError, failed
-from ._library import BytesLike, Status
+from ._status import BytesLike, Status
 
-# How many bytes a header, and how many a section may have, unless that is said.
+# The default limits on the bytes of a header and of a section.
 HEADER_LIMIT = 8 << 20
 SECTION_LIMIT = 32 << 20
-# As many bytes are read at once, at most and at first.
+# The least number of bytes that are read at once.
 _CHUNK = 1 << 16
 _LONGEST_VARINT = 10
 
@@ -19,7 +19,10 @@ _LONGEST_VARINT = 10
 def _shown(kind: Type[Union[Cid, str, bytes]], roots: List[bytes]) -> List[Any]:
     if kind is bytes:
         return list(roots)
-    return [_made(root) if kind is Cid else str(_made(root)) for root in roots]
+    cids = [_native.cid_of(Cid, root) for root in roots]
+    if kind is str:
+        return [str(cid) for cid in cids]
+    return cids
 
 
 def decode_car(
@@ -30,21 +33,20 @@ def decode_car(
     levels: int = 1024,
     values: Optional[int] = None,
 ) -> Tuple[Dict[str, Any], Dict[Any, Any]]:
-    """The header of a CAR, a dict of its `version`, 1 or 2, and its `roots`; and the values of its
-    blocks by their CIDs.
+    """Returns the header of a CAR, a dict of its `version` (1 or 2) and its `roots`, and a dict of
+    the values of its blocks by their CIDs.
 
-    A block of DAG-CBOR is decoded, within the limits `levels` and `values` for each; one of another
-    codec is its bytes. With `verify` a block that isn't the one that its CID names is a
-    `VerifyError`, and so is one whose hash function is neither SHA2-256, SHA2-512 nor identity.
-    `cids` says what CIDs are, as in `decode_dag_cbor`. Of two blocks with a CID the later one is
-    taken. All is held in memory: `CarReader` holds one block at a time.
+    A block of DAG-CBOR is decoded, within the limits `levels` and `values`. A block of another
+    codec is returned as bytes. With `verify`, a block whose digest isn't that of its CID raises
+    `VerifyError`, as does one whose hash function is not SHA2-256, SHA2-512 or identity. `cids` is
+    the class of CIDs, as in `decode_dag_cbor`. If two blocks have one CID, the later one is
+    returned. All values are in memory at once. `CarReader` holds one block at a time.
 
     >>> car = bytes.fromhex("19a265726f6f747381d82a4500015500006776657273696f6e01 0401550000 050171000001")
     >>> decode_car(car)
     ({'version': 1, 'roots': [Cid('bafkqaaa')]}, {Cid('bafkqaaa'): b'', Cid('bafyqaaa'): 1})
 
-    What is wrong is a `CarError`, or what `Cid` and `decode_dag_cbor` raise, with the offset in the
-    CAR.
+    Raises `CarError`, or an error of `Cid` or `decode_dag_cbor`, with the offset in the CAR.
 
     >>> decode_car(car[:-1])
     Traceback (most recent call last):
@@ -55,9 +57,8 @@ def decode_car(
 
 
 def verify(cid: Cid, block: BytesLike) -> None:
-    """Returns where the block is the one that the CID names, and else raises a `VerifyError`:
-    `WRONG_DIGEST`, or `UNKNOWN_HASH` where the hash function is neither SHA2-256, SHA2-512 nor
-    identity.
+    """Raises `VerifyError` unless the block has the digest of the CID: `WRONG_DIGEST` if it has
+    another, and `UNKNOWN_HASH` if the hash function is not SHA2-256, SHA2-512 or identity.
 
     >>> verify(Cid.of_block(b"\\xa0"), b"\\xa0")
     >>> verify(Cid.of_block(b"\\xa0"), b"\\x80")
@@ -68,8 +69,8 @@ def verify(cid: Cid, block: BytesLike) -> None:
 
 
 class CarReader:
-    """The blocks of a CAR, one after another, from a binary file that is open for reading, or from
-    bytes: pairs of a `Cid` and bytes.
+    """Iterates over the blocks of a CAR, as pairs of a `Cid` and bytes. The source is a binary file
+    that is open for reading, or bytes.
 
     >>> car = bytes.fromhex("19a265726f6f747381d82a4500015500006776657273696f6e01 0401550000 050171000001")
     >>> reader = CarReader(car)
@@ -78,10 +79,10 @@ class CarReader:
     >>> list(reader)
     [(Cid('bafkqaaa'), b''), (Cid('bafyqaaa'), b'\\x01')]
 
-    It holds one section, and what was read of the file beyond it, up to 64 KiB. Of version 2 it
-    reads the payload and no index. A header of more than `header_limit` bytes, or a section of more
-    than `section_limit`, is the `CarError` `CAR_TOO_LONG`. With `verify` a block that isn't the one
-    that its CID names is a `VerifyError`. After an error the reader ends.
+    It holds one section and up to 64 KiB that follow it. Of version 2 it reads the payload, and not
+    the index. A header longer than `header_limit` bytes, or a section longer than `section_limit`,
+    raises `CarError` with the name `CAR_TOO_LONG`. With `verify`, a block whose digest isn't that
+    of its CID raises `VerifyError`. After an error the iteration ends.
     """
 
     version: int
@@ -105,7 +106,9 @@ class CarReader:
         self._open(header_limit)
 
     def _more(self, wanted: int) -> bool:
-        """Reads until the window has so many bytes from `_begin` on; whether it has."""
+        """
+        Reads until the window has this many bytes from `_begin` on, and returns whether it has.
+        """
         while len(self._window) - self._begin < wanted and not self._ended:
             if self._begin >= _CHUNK:
                 del self._window[: self._begin]
@@ -127,21 +130,21 @@ class CarReader:
                     Status.CAR_UNEXPECTED_END,
                     Status.CAR_SHORT_PAYLOAD,
                 )
-                # A header that is within the limit, and what may stand before one of version 2,
-                # would have been there.
+                # This many bytes contain a header within the limit, and the padding before one in
+                # version 2.
                 if all_there or not short:
                     raise
                 if wanted > 2 * limit + _CHUNK:
                     raise failed(Status.CAR_TOO_LONG, offset=error.offset) from None
             wanted *= 2
-        self.version, self.roots = version, [_made(root) for root in roots]
+        self.version, self.roots = version, [_native.cid_of(Cid, root) for root in roots]
         self._begin = self._at = sections
         self._end = end if version == 2 else None
 
     def _length(self) -> Optional[int]:
         """
-        How many bytes the section at `_begin` has, its length included; nothing where it begins
-        with no length.
+        Returns the number of bytes of the section at `_begin`, with its length; None if no length
+        is there.
         """
         self._more(_LONGEST_VARINT)
         number = 0
@@ -151,10 +154,10 @@ class CarReader:
                 return number + place + 1
         return None
 
-    def _past_the_payload(self, left: int) -> None:
+    def _past_the_payload(self, left: int) -> NoReturn:
         """
-        Raises what is wrong with the length of a section that goes on past the payload; with
-        nothing else that is where this ends.
+        Raises the error of a section that goes on past the payload: that of its length, or else
+        that the payload ends within it.
         """
         window = bytes(self._window[self._begin : self._begin + min(_LONGEST_VARINT, left)])
         try:
@@ -190,7 +193,7 @@ class CarReader:
         if length is None:
             length = _LONGEST_VARINT
         elif left is not None and length > left:
-            return self._past_the_payload(left)
+            self._past_the_payload(left)
         elif length > self._section_limit:
             raise failed(Status.CAR_TOO_LONG, offset=self._at)
         self._more(length)
@@ -204,4 +207,4 @@ class CarReader:
         block = window[begin:end]
         if self._verify:
             _native.verify(cid, block)
-        return _made(cid), block
+        return _native.cid_of(Cid, cid), block

@@ -1,21 +1,14 @@
 """Why a call fails."""
 
-from ctypes import byref, c_size_t, create_string_buffer
-from typing import Any, Optional, Tuple
+from typing import Any, Optional, Tuple, Union
 
-from ._library import Status, library
-
-
-def _sentence(status: Status) -> str:
-    """Returns what a status reports, in a sentence, which the library has."""
-    text, needed = create_string_buffer(80), c_size_t()
-    library.kombilad_status_text(status, text, len(text), byref(needed))
-    return text.raw[: needed.value].decode("ascii")
+from . import _native
+from ._status import Status
 
 
 class KombiladError(ValueError):
-    """Why a call fails. `name` is the error's name in `kombilad.h`, without the prefix `KOMBILAD_`,
-    and `status` its number.
+    """Invalid input. `name` is the name of the error in `kombilad.h` without `KOMBILAD_`, `status`
+    its number, and `offset` the byte at fault, or None.
 
     >>> import kombilad
     >>> try:
@@ -27,7 +20,9 @@ class KombiladError(ValueError):
 
     def __init__(self, status: Status, place: Optional[int] = None, offset: Optional[int] = None):
         at = "" if place is None else f", at {place}"
-        super().__init__(_sentence(status) + (at if offset is None else f", at byte {offset}"))
+        super().__init__(
+            _native.status_text(status) + (at if offset is None else f", at byte {offset}")
+        )
         self.status = status
         self.name = status.name
         self.place = place
@@ -39,80 +34,94 @@ class KombiladError(ValueError):
 
 class CidError(KombiladError):
     """
-    Bytes are no CID: the first error from the left. In a CAR `offset` is the byte at which the CID
+    The bytes are not a CID: the leftmost error. In a CAR `offset` is the byte at which the CID
     begins.
     """
 
 
 class TextError(KombiladError):
     """
-    A text is none of a CID. Of a character that is no letter, `place` says which character of the
-    text it is.
+    The text is not a CID's. If a character is not a letter of the base, `place` is its index.
     """
 
 
 class BaseError(KombiladError):
-    """There is no such base, or none of a CID of version 0."""
+    """The base is unknown, or a CID of version 0 has no text in it."""
 
 
 class BlockError(KombiladError):
-    """Bytes are no block of DAG-CBOR, or no node of DAG-PB: the first error from the left. `offset` is the byte at which the item, the key,
-    the byte string of a link or the bytes left over begin at which reading stopped; of a node, the field that is wrong.
+    """The bytes are not a block of DAG-CBOR or a node of DAG-PB: the leftmost error. `offset` is the
+    first byte of the item, key, byte string of a link, field of a node, or trailing bytes at fault.
     """
 
 
 class LimitError(KombiladError):
-    """A block passes a limit. `offset` is the byte at which the item begins that does; of `TOO_LONG`, where a string has 2^32 bytes or
-    more, or a list or a map as many values and keys, it is None."""
+    """A block exceeds a limit. `offset` is the first byte of the item that does. It is None for
+    `TOO_LONG`: a string of 2^32 bytes or more, or a list or map of as many values and keys."""
 
 
 class CarError(KombiladError):
-    """Bytes are no CAR: the first error from the left. `offset` is the byte at fault."""
+    """The bytes are not a CAR: the leftmost error. `offset` is the byte at fault."""
 
 
 class VerifyError(KombiladError):
-    """A block isn't the one that a CID names, or can't be told to be: its hash function is neither SHA2-256, SHA2-512 nor identity. In a CAR
-    `offset` is the byte at which the block begins, where it is known."""
+    """A block doesn't have the digest of its CID, or the hash function is not SHA2-256, SHA2-512 or
+    identity. In a CAR `offset` is the first byte of the block, if it is known."""
 
 
 _NOT_ENCODED = {
-    "FLOAT": _sentence(Status.TAPE_FLOAT),
+    "FLOAT": _native.status_text(Status.TAPE_FLOAT),
     "INTEGER": "an integer must be from -2^64 to 2^64 - 1",
-    "KEY_NOT_TEXT": _sentence(Status.BLOCK_KEY_NOT_TEXT),
+    "KEY_NOT_TEXT": _native.status_text(Status.BLOCK_KEY_NOT_TEXT),
     "TYPE": "DAG-CBOR has no value for an object of the type",
 }
 
 
+# The most characters of a path in a message.
+_LONGEST_PATH = 200
+
+
+def _shown(path: Tuple[Union[str, int], ...]) -> str:
+    text = "/".join(it if isinstance(it, str) else str(it) for it in path)
+    half = _LONGEST_PATH // 2
+    return text if len(text) <= _LONGEST_PATH else f"{text[:half]}..{text[-half:]}"
+
+
 class EncodeError(ValueError):
-    """A value has no block. `name` says why: `FLOAT`, `INTEGER`, `KEY_NOT_TEXT` or `TYPE`.
+    """A value has no block. `name` is the reason: `FLOAT`, `INTEGER`, `KEY_NOT_TEXT` or `TYPE`.
+    `path` has the keys and indexes that lead to the value, or to the dict of the key.
 
     >>> import kombilad
     >>> kombilad.encode_dag_cbor([1 << 64])
     Traceback (most recent call last):
-    kombilad.EncodeError: an integer must be from -2^64 to 2^64 - 1
-    >>> kombilad.encode_dag_cbor({"a": {1, 2}})
+    kombilad.EncodeError: an integer must be from -2^64 to 2^64 - 1, at 0
+    >>> kombilad.encode_dag_cbor({"a": [None, {1, 2}]})
     Traceback (most recent call last):
-    kombilad.EncodeError: DAG-CBOR has no value for an object of the type set
+    kombilad.EncodeError: DAG-CBOR has no value for an object of the type set, at a/1
     """
 
-    def __init__(self, name: str, value: object = None):
+    def __init__(self, name: str, value: object = None, path: Tuple[Union[str, int], ...] = ()):
         named = f" {type(value).__name__}" if name == "TYPE" else ""
-        super().__init__(_NOT_ENCODED[name] + named)
+        place = f", at {_shown(path)}" if path else ""
+        super().__init__(_NOT_ENCODED[name] + named + place)
         self.name = name
+        self.path = path
 
     def __reduce__(self) -> Tuple[Any, ...]:
-        # Without the value, which may be what no other process can be sent.
-        return (_encode_error, (self.name, self.args))
+        # Without the value, which may not be picklable.
+        return (_encode_error, (self.name, self.path, self.args))
 
 
-def _encode_error(name: str, arguments: Tuple[Any, ...]) -> EncodeError:
-    error = EncodeError(name)
+def _encode_error(
+    name: str, path: Tuple[Union[str, int], ...], arguments: Tuple[Any, ...]
+) -> EncodeError:
+    error = EncodeError(name, path=path)
     error.args = arguments
     return error
 
 
 def failed(status: int, place: Optional[int] = None, offset: Optional[int] = None) -> Exception:
-    """The exception of a status that isn't `OK`."""
+    """Returns the exception for a status other than `OK`."""
     known = Status(status)
     if known is Status.NO_MEMORY:
         return MemoryError()

@@ -1,13 +1,11 @@
-"""The values of blocks as Python's objects, and the blocks of such values."""
+"""The values of blocks as Python objects, and the blocks of such values."""
 
 from typing import Any, Dict, List, Optional, Type, Union
 
 from . import _native
 from ._cid import Cid
-from ._errors import EncodeError, failed
-from ._library import BytesLike
+from ._status import BytesLike
 
-_native.use(Cid, failed, EncodeError)
 _decode, _decode_multi, _decode_pb, _encode = (
     _native.decode,
     _native.decode_multi,
@@ -23,21 +21,21 @@ def decode_dag_cbor(
     levels: int = 1024,
     values: Optional[int] = None,
 ) -> Any:
-    """The value of one block of DAG-CBOR: None, a bool, int, float, str, bytes or `Cid`, a list of
-    values, or a dict of values by texts.
+    """Returns the value of a block of DAG-CBOR: None, a bool, int, float, str, bytes or `Cid`, a
+    list of values, or a dict of values with strings as keys.
 
     >>> decode_dag_cbor(bytes.fromhex("a2616101616cd82a450001550000"))
     {'a': 1, 'l': Cid('bafkqaaa')}
 
-    `cids` says what a link becomes: a `Cid`, its text (`str`) or its bytes (`bytes`).
+    `cids` is the class of a link: `Cid`, `str` for its text, or `bytes`.
 
     >>> decode_dag_cbor(bytes.fromhex("d82a450001550000"), cids=str)
     'bafkqaaa'
 
-    It raises what `check` raises, within the same limits: `levels` of lists and maps, and a number
-    of `values`. An object takes up to some hundred bytes for a byte of the block. A dict has its
-    keys in the order of the block, and no two objects of the result are one but texts of keys,
-    constants and small integers.
+    Raises the errors of `check`, within the same limits: `levels` of lists and maps, and a number
+    of `values`. The value takes up to some hundred times the memory of the block. A dict has its
+    keys in the order of the block. Only keys, constants and small integers may be shared between
+    places of the value.
 
     >>> decode_dag_cbor(bytes.fromhex("8201"))
     Traceback (most recent call last):
@@ -56,8 +54,8 @@ def decode_dag_cbor_multi(
     levels: int = 1024,
     values: Optional[int] = None,
 ) -> List[Any]:
-    """The values of blocks that stand one after another. Each keeps to the limits for itself; an
-    error's offset counts from the first byte of all.
+    """Returns the values of blocks that follow one another. The limits apply to each block. The
+    offset of an error counts from the beginning of `data`.
 
     >>> decode_dag_cbor_multi(bytes.fromhex("01 6161 80"))
     [1, 'a', []]
@@ -69,15 +67,16 @@ def decode_dag_cbor_multi(
 
 
 def decode_dag_pb(data: BytesLike, *, cids: Type[Union[Cid, str, bytes]] = Cid) -> Dict[str, Any]:
-    """The node of one block of DAG-PB, in the form that the data model has for it: a dict with the
-    key `Data`, of bytes, where the block has data, and the key `Links`, a list of dicts with the
-    keys `Hash` and, where the link has them, `Name` (text) and `Tsize` (an integer).
+    """Returns the node of a block of DAG-PB, in the form of the IPLD specification: a dict with
+    `Data` (bytes), if the block has data, and `Links`, a list of dicts with `Hash` and, if the link
+    has them, `Name` (str) and `Tsize` (int).
 
     >>> decode_dag_pb(bytes.fromhex("120b 0a0401550000 120161 1801 0a0178"))
     {'Data': b'x', 'Links': [{'Hash': Cid('bafkqaaa'), 'Name': 'a', 'Tsize': 1}]}
 
-    `cids` says what a hash becomes: a `Cid`, its text (`str`) or its bytes (`bytes`). What the data
-    mean, as UnixFS, is not looked at. The interpreter's lock is held.
+    `cids` is the class of a hash: `Cid`, `str` for its text, or `bytes`. The data, such as those of
+    UnixFS, are not interpreted. The call holds the interpreter's lock. Raises `BlockError` if the
+    bytes are not such a block.
 
     >>> decode_dag_pb(bytes.fromhex("0a02"))
     Traceback (most recent call last):
@@ -89,18 +88,18 @@ def decode_dag_pb(data: BytesLike, *, cids: Type[Union[Cid, str, bytes]] = Cid) 
 def encode_dag_cbor(
     value: Any, *, cids: Type[Union[Cid, bytes]] = Cid, levels: int = 1024
 ) -> bytes:
-    """The canonical block of a value: of None, a bool, int, float, str or `Cid`, of `bytes`,
-    `bytearray` or a `memoryview`, of a list or tuple of values, or of a dict of values by texts;
-    also of subclasses of these. The keys of a dict are put in order.
+    """Returns the canonical block of a value: None, a bool, int, float, str, bytes, bytearray,
+    memoryview or `Cid`, a list or tuple of values, or a dict of values with strings as keys.
+    Subclasses of these are accepted. The keys of a dict are sorted.
 
     >>> encode_dag_cbor({"bb": 1, "a": [None, 1.5]}).hex()
     'a2616182f6fb3ff800000000000062626201'
 
-    With `cids=bytes` bytes that are those of a CID become a link, in place of bytes.
+    With `cids=bytes`, bytes that are a CID become a link.
 
-    It raises an `EncodeError` where a value has no block, a `LimitError` where lists and maps nest
-    deeper than `levels` (so too where one holds itself), and a `UnicodeEncodeError` for a text with
-    a lone surrogate. What is returned was checked by libkombilad to be one canonical block.
+    Raises `EncodeError` if a value has no block, `LimitError` if lists and maps nest deeper than
+    `levels` or one contains itself, and `UnicodeEncodeError` for a string with a lone surrogate.
+    libkombilad checks that the result is a canonical block.
 
     >>> encode_dag_cbor(float("nan"))
     Traceback (most recent call last):

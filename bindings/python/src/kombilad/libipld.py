@@ -1,9 +1,8 @@
-"""The functions of the package `libipld`, by its names and in its shapes: `import kombilad.libipld
-as libipld`.
+"""The functions of the package `libipld`, with its names and types: `import kombilad.libipld as
+libipld`.
 
-CIDs are bytes here, also in what is encoded: bytes that are those of a CID become a link. What is
-wrong is a `ValueError`, as in `kombilad`, whose own functions have more options and tell CIDs from
-bytes.
+CIDs are bytes here, and bytes that are a CID are encoded as a link. Invalid input raises
+`ValueError`. The functions of `kombilad` have more options, and distinguish CIDs from bytes.
 
 >>> encode_dag_cbor({"link": bytes.fromhex("01550000"), "n": 1}).hex()
 'a2616e01646c696e6bd82a450001550000'
@@ -15,7 +14,7 @@ from typing import Any, Dict, List, Tuple, Union
 
 from . import _car, _values
 from ._cid import Cid
-from ._library import BytesLike
+from ._status import BytesLike
 from ._multibase import MultibaseError, decode_multibase, encode_multibase
 
 __all__ = [
@@ -35,7 +34,7 @@ for _public in (MultibaseError, decode_multibase, encode_multibase):
 
 
 def decode_dag_cbor(data: BytesLike) -> Any:
-    """The value of a block: `kombilad.decode_dag_cbor` with CIDs as bytes.
+    """Returns the value of a block, as `kombilad.decode_dag_cbor` with CIDs as bytes.
 
     >>> decode_dag_cbor(b"\\xa2aa\\x0cabfhello!")
     {'a': 12, 'b': 'hello!'}
@@ -44,7 +43,8 @@ def decode_dag_cbor(data: BytesLike) -> Any:
 
 
 def decode_dag_cbor_multi(data: BytesLike) -> List[Any]:
-    """The values of blocks, one after another: `kombilad.decode_dag_cbor_multi` with CIDs as bytes.
+    """Returns the values of blocks that follow one another, as `kombilad.decode_dag_cbor_multi`
+    with CIDs as bytes.
 
     >>> decode_dag_cbor_multi(b"\\xa2aa\\x0cabfhello!\\x82\\x00\\x01")
     [{'a': 12, 'b': 'hello!'}, [0, 1]]
@@ -53,7 +53,7 @@ def decode_dag_cbor_multi(data: BytesLike) -> List[Any]:
 
 
 def encode_dag_cbor(data: Any) -> bytes:
-    """The canonical block of a value: `kombilad.encode_dag_cbor` with CIDs as bytes.
+    """Returns the canonical block of a value, as `kombilad.encode_dag_cbor` with CIDs as bytes.
 
     >>> encode_dag_cbor({"a": 12, "b": "hello!"})
     b'\\xa2aa\\x0cabfhello!'
@@ -62,7 +62,7 @@ def encode_dag_cbor(data: Any) -> bytes:
 
 
 def decode_car(data: BytesLike) -> Tuple[Dict[str, Any], Dict[bytes, Any]]:
-    """The header of a CAR, and the values of its blocks by the bytes of their CIDs:
+    """Returns the header of a CAR, and the values of its blocks by the bytes of their CIDs, as
     `kombilad.decode_car` with CIDs as bytes.
 
     >>> car = bytes.fromhex("19a265726f6f747381d82a4500015500006776657273696f6e01 0401550000 050171000001")
@@ -73,7 +73,7 @@ def decode_car(data: BytesLike) -> Tuple[Dict[str, Any], Dict[bytes, Any]]:
 
 
 def decode_cid(cid: Union[str, BytesLike]) -> Dict[str, Any]:
-    """The parts of the CID that a text or bytes are.
+    """Returns the parts of a CID, which is a text or bytes.
 
     >>> decode_cid("bafkqaaa")
     {'version': 1, 'codec': 85, 'hash': {'code': 0, 'size': 0, 'digest': b''}}
@@ -93,7 +93,7 @@ def decode_cid(cid: Union[str, BytesLike]) -> Dict[str, Any]:
 
 
 def encode_cid(cid: Union[str, BytesLike]) -> str:
-    """The text of the CID that bytes, or another text, are.
+    """Returns the text of a CID, which is bytes or a text in any base.
 
     >>> encode_cid(bytes.fromhex("01550000"))
     'bafkqaaa'

@@ -1,0 +1,203 @@
+/* Blocks of DAG-CBOR without their values: checks, links and the canonical form. */
+#include "native.h"
+
+/* A block, and its limits. */
+struct asked {
+    struct lent block;
+    size_t levels, values;
+};
+
+/* Reads the arguments (block, levels, values). -1 with an exception. */
+static int read_asked(PyObject *arguments, const char *name, struct asked *asked) {
+    PyObject *given, *levels, *values;
+    if (!PyArg_UnpackTuple(arguments, name, 3, 3, &given, &levels, &values)) return -1;
+    if (limit_of(levels, &asked->levels) < 0 || limit_of(values, &asked->values) < 0) return -1;
+    return lend(given, &asked->block);
+}
+
+/* Releases the interpreter's lock for a large block that nobody can change. */
+static PyThreadState *unlock(const struct asked *asked) {
+    bool is_large = asked->block.immutable && asked->block.len >= LARGE;
+    return is_large ? PyEval_SaveThread() : NULL;
+}
+
+static void lock(PyThreadState *saved) {
+    if (saved != NULL) PyEval_RestoreThread(saved);
+}
+
+/* ---- Checks */
+
+typedef uint32_t check_call(const uint8_t *block, size_t len, size_t levels, size_t values,
+                            size_t *offset);
+
+/* Returns the status of a check; -1 with an exception if the arguments are wrong. */
+static int64_t checked(PyObject *arguments, const char *name, check_call *call, size_t *offset) {
+    struct asked asked;
+    if (read_asked(arguments, name, &asked) < 0) return -1;
+    PyThreadState *saved = unlock(&asked);
+    uint32_t status = call(asked.block.bytes, asked.block.len, asked.levels, asked.values, offset);
+    lock(saved);
+    take_back(&asked.block);
+    return status;
+}
+
+PyObject *block_check(PyObject *module, PyObject *arguments) {
+    size_t offset = 0;
+    int64_t status = checked(arguments, "check", kombilad_block_check, &offset);
+    if (status == KOMBILAD_OK) Py_RETURN_NONE;
+    if (status > 0) set_failed(state_of(module), (uint32_t)status, offset);
+    return NULL;
+}
+
+PyObject *block_is_canonical(PyObject *module, PyObject *arguments) {
+    size_t offset = 0;
+    int64_t status = checked(arguments, "is_canonical", kombilad_block_check_canonical, &offset);
+    if (status == KOMBILAD_OK) Py_RETURN_TRUE;
+    if (status == KOMBILAD_NOT_CANONICAL) Py_RETURN_FALSE;
+    if (status > 0) set_failed(state_of(module), (uint32_t)status, offset);
+    return NULL;
+}
+
+PyObject *block_count_links(PyObject *module, PyObject *arguments) {
+    struct asked asked;
+    if (read_asked(arguments, "count_links", &asked) < 0) return NULL;
+    size_t count = 0, offset = 0;
+    PyThreadState *saved = unlock(&asked);
+    uint32_t status = kombilad_links_count(asked.block.bytes, asked.block.len, asked.levels,
+                                           asked.values, &count, &offset);
+    lock(saved);
+    take_back(&asked.block);
+    if (status == KOMBILAD_OK) return PyLong_FromSize_t(count);
+    set_failed(state_of(module), status, offset);
+    return NULL;
+}
+
+/* ---- Calls that fill a buffer */
+
+/* Fills room for so many records; `needed` is how many there are. */
+typedef uint32_t fill_call(const struct asked *asked, void *room, size_t capacity, size_t *needed,
+                           size_t *offset);
+
+static uint32_t fill_links(const struct asked *asked, void *room, size_t capacity, size_t *needed,
+                           size_t *offset) {
+    return kombilad_links(asked->block.bytes, asked->block.len, asked->levels, asked->values, room,
+                          capacity, needed, offset);
+}
+
+static uint32_t fill_positions(const struct asked *asked, void *room, size_t capacity,
+                               size_t *needed, size_t *offset) {
+    return kombilad_link_positions(asked->block.bytes, asked->block.len, asked->levels,
+                                   asked->values, room, capacity, needed, offset);
+}
+
+static uint32_t fill_canonical(const struct asked *asked, void *room, size_t capacity,
+                               size_t *needed, size_t *offset) {
+    return kombilad_block_canonicalize(asked->block.bytes, asked->block.len, asked->levels,
+                                       asked->values, room, capacity, needed, offset);
+}
+
+/* What a call filled. */
+struct filled {
+    void *room; /* of PyMem_Malloc */
+    size_t count;
+};
+
+/* Fills room for `capacity` records of a size, or for as many as there are if that is too little. -1
+ * with an exception, and then nothing is to be freed. */
+static int fill(const struct state *state, const struct asked *asked, fill_call *call, size_t size,
+                size_t capacity, struct filled *filled) {
+    size_t offset = 0;
+    uint32_t status;
+    filled->room = NULL;
+    do {
+        PyMem_Free(filled->room);
+        filled->room = PyMem_Malloc(capacity * size);
+        if (filled->room == NULL) {
+            PyErr_NoMemory();
+            return -1;
+        }
+        PyThreadState *saved = unlock(asked);
+        status = call(asked, filled->room, capacity, &filled->count, &offset);
+        lock(saved);
+        if (status == KOMBILAD_TOO_SHORT) capacity = filled->count;
+    } while (status == KOMBILAD_TOO_SHORT);
+    if (status == KOMBILAD_OK) return 0;
+    PyMem_Free(filled->room);
+    set_failed(state, status, offset);
+    return -1;
+}
+
+/* A link with a SHA2-256 digest takes so many bytes of a block. */
+#define USUAL_LINK 41
+#define MOST_AT_FIRST 4096
+
+/* Returns how many links there is room for at first. */
+static size_t usual_count(const struct asked *asked) {
+    size_t count = asked->block.len / USUAL_LINK + 1;
+    return count < MOST_AT_FIRST ? count : MOST_AT_FIRST;
+}
+
+/* Makes a list with an object for each record. NULL with an exception. */
+static PyObject *list_of(const struct state *state, const struct filled *filled,
+                         PyObject *object_at(const struct state *state, const void *room,
+                                             size_t at)) {
+    PyObject *list = PyList_New((Py_ssize_t)filled->count);
+    for (size_t at = 0; list != NULL && at < filled->count; at++) {
+        PyObject *object = object_at(state, filled->room, at);
+        if (object == NULL || PyList_SetItem(list, (Py_ssize_t)at, object) < 0) Py_CLEAR(list);
+    }
+    return list;
+}
+
+static PyObject *link_at(const struct state *state, const void *room, size_t at) {
+    const kombilad_cid *cid = (const kombilad_cid *)room + at;
+    return cid_object(state, CID_OBJECT, cid->bytes, cid->len);
+}
+
+static PyObject *position_at(const struct state *state, const void *room, size_t at) {
+    (void)state;
+    const kombilad_span *span = (const kombilad_span *)room + at;
+    return Py_BuildValue("(nn)", (Py_ssize_t)span->offset, (Py_ssize_t)span->len);
+}
+
+PyObject *block_links(PyObject *module, PyObject *arguments) {
+    const struct state *state = state_of(module);
+    struct asked asked;
+    struct filled filled;
+    if (read_asked(arguments, "links", &asked) < 0) return NULL;
+    int failed = fill(state, &asked, fill_links, sizeof(kombilad_cid), usual_count(&asked),
+                      &filled);
+    take_back(&asked.block);
+    if (failed < 0) return NULL;
+    PyObject *list = list_of(state, &filled, link_at);
+    PyMem_Free(filled.room);
+    return list;
+}
+
+PyObject *block_link_positions(PyObject *module, PyObject *arguments) {
+    const struct state *state = state_of(module);
+    struct asked asked;
+    struct filled filled;
+    if (read_asked(arguments, "link_positions", &asked) < 0) return NULL;
+    int failed = fill(state, &asked, fill_positions, sizeof(kombilad_span), usual_count(&asked),
+                      &filled);
+    take_back(&asked.block);
+    if (failed < 0) return NULL;
+    PyObject *list = list_of(state, &filled, position_at);
+    PyMem_Free(filled.room);
+    return list;
+}
+
+PyObject *block_canonicalize(PyObject *module, PyObject *arguments) {
+    struct asked asked;
+    struct filled filled;
+    if (read_asked(arguments, "canonicalize", &asked) < 0) return NULL;
+    /* Sorting its keys leaves a block as long as it was. */
+    size_t capacity = asked.block.len > 0 ? asked.block.len : 1;
+    int failed = fill(state_of(module), &asked, fill_canonical, 1, capacity, &filled);
+    take_back(&asked.block);
+    if (failed < 0) return NULL;
+    PyObject *block = PyBytes_FromStringAndSize(filled.room, (Py_ssize_t)filled.count);
+    PyMem_Free(filled.room);
+    return block;
+}

@@ -1,0 +1,14 @@
+"""The calls of libkombilad by ctypes, in the extension module of the package: for tests of what the
+package doesn't show."""
+
+import ctypes
+
+from kombilad import _native
+
+library = ctypes.CDLL(_native.__file__)
+
+
+class CidBytes(ctypes.Structure):
+    """The bytes of a CID: `len` of them, and zeros after them."""
+
+    _fields_ = [("len", ctypes.c_uint8), ("bytes", ctypes.c_uint8 * 87)]
