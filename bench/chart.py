@@ -1,11 +1,12 @@
 #!/usr/bin/env python3
-"""Draws the ratios in docs/SPEED.md as charts: one bar a row, the best peer at 1.0.
+"""Makes the first table and the charts of docs/SPEED.md from the results of bench/run.
 
 usage: bench/chart.py [--check]
 
-It draws speed.svg, instructions.svg and bindings.svg of docs/, in colours that are legible on light
-and on dark ground. With --check it draws nothing: the status is 1, after a line for each chart that
-differs from the page, and otherwise 0.
+The charts speed.svg and instructions.svg have a bar for each row of bench/results, with the best
+peer at 1.0, and bindings.svg one for each row of the tables on the packages. Their colours are
+legible on light and on dark ground. With --check it writes nothing: the status is 1, after a line
+for each file that differs, and otherwise 0.
 """
 
 import math
@@ -19,18 +20,41 @@ sys.dont_write_bytecode = True
 import report  # noqa: E402
 
 DOCS = pathlib.Path(__file__).resolve().parent.parent / "docs"
+PAGE = DOCS / "SPEED.md"
 LABELS, BARS, VALUES, MARGIN = 170, 400, 170, 16
 ROW, BAR, HEAD = 20, 12, 30
 TEXT, LINE, FASTER, SLOWER = "#6e7781", "#8c959f", "#2f81c7", "#c4691c"
 
-# Of each table that `run` writes: the chart's title.
-TITLES = {
-    "time": "Time over that of the best peer: below 1.0 this project is faster",
-    "instructions": "Instructions over those of the best peer: below 1.0 this project takes fewer",
+# The file and the title of the chart of each unit.
+CHARTS = {
+    "time": ("speed.svg", "Time over that of the best peer: below 1.0 this project is faster"),
+    "instructions": (
+        "instructions.svg",
+        "Instructions over those of the best peer: below 1.0 this project takes fewer",
+    ),
 }
+# The comments around the table of the page, and its rows.
+BEGIN, END = "<!-- bench/chart.py writes from here -->\n", "<!-- to here -->\n"
+SHOWN = [
+    "cid from text",
+    "cid to text",
+    "decode file",
+    "decode strings",
+    "links file",
+    "links strings",
+    "encode file",
+    "references file",
+    "iter file",
+    "clone file",
+    "block to struct",
+    "struct to block",
+    "tree to struct",
+    "node of dag-pb",
+    "missing in car",
+]
 BINDINGS = "Values of blocks: what a package takes over what its peer takes, below 1.0 it is faster"
-# Of each table on the packages: the first words of its head, the column of a ratio, what its bars
-# are, and the peer.
+# Each table on the packages: the first words of its head, the column of a ratio, the title of its
+# bars, and the peer.
 TABLES = [
     ("| block | `Tape::of` |", 6, "Rust: Ipld::from_block, in instructions", "plain"),
     ("| block | `Tape::of` |", 9, "Rust: Ipld::to_block, in instructions", "plain"),
@@ -47,24 +71,52 @@ def cells_of(page, head):
     return [row for row in rows if len(row) > 1]
 
 
-def rows(page, head, column, peer=None):
-    """Yields the rows of a table that have a ratio, in this column; the peer stands before it."""
+def rows(page, head, column, peer):
+    """Yields the rows of a table that have a ratio, which is in this column."""
     for cells in cells_of(page, head):
         ratio = re.match(r"[\d.]+", cells[column])
         if ratio:
-            best = peer or re.search(r"\(`?([^`)]*)`?\)?$", cells[column - 1])[1]
-            yield SimpleNamespace(name=cells[0], ratio=float(ratio[0]), best_peer=(best,))
+            yield SimpleNamespace(name=cells[0], ratio=float(ratio[0]), best_peer=(peer,))
 
 
 def charts():
     """Yields the name of each chart, and its text."""
-    page = (DOCS / "SPEED.md").read_text(encoding="utf-8")
-    for unit, (name, _) in report.CHARTS.items():
-        part = page.partition(report.BEGIN.format(unit=unit))[2].partition(report.END)[0]
-        groups = report.grouped(list(rows(part, "| what |", 4)))
-        yield name, drawn(TITLES[unit], groups)
+    for unit, (name, title) in CHARTS.items():
+        yield name, drawn(title, report.grouped(report.results(unit)[1]))
+    page = PAGE.read_text(encoding="utf-8")
     groups = [(title, list(rows(page, head, column, peer))) for head, column, title, peer in TABLES]
     yield "bindings.svg", drawn(BINDINGS, groups)
+
+
+def page_with_table():
+    """Returns the text of the page with the table of these results."""
+    text = PAGE.read_text(encoding="utf-8")
+    before, begin, rest = text.partition(BEGIN)
+    end, after = rest.partition(END)[1:]
+    if not end:
+        sys.exit(f"chart: {PAGE.name} lacks the comments around its table")
+    return f"{before}{begin}{table()}{end}{after}"
+
+
+def table():
+    """Returns the table as Markdown, with the conditions of the measurements."""
+    conditions, times = report.results("time")
+    others, instructions = report.results("instructions")
+    instructions = {row.name: row for row in instructions}
+    same = "on the same day and machine" if others == conditions else f"on {others}"
+    lines = [
+        f"Times of {conditions}. Instructions by callgrind, {same}.\n",
+        "| what | bytes | this project | best peer | ratio of times | of instructions |",
+        "|---|---|---|---|---|---|",
+    ]
+    for row in times:
+        if row.name in SHOWN:
+            ours, best = (report.amount(it, "time") for it in (row.ours, row.best_peer[1]))
+            lines.append(
+                f"| {row.name} | {row.size:,} | {ours} | {best} (`{row.best_peer[0]}`) "
+                f"| {row.ratio:.2f} | {instructions[row.name].ratio:.2f} |"
+            )
+    return "\n".join(lines) + "\n"
 
 
 def drawn(title, groups):
@@ -87,7 +139,7 @@ class Chart:
     def lines(self):
         width, height = self.left + BARS + VALUES, self.bottom + MARGIN
         yield f'<svg xmlns="http://www.w3.org/2000/svg" viewBox="0 0 {width} {height}" width="{width}" height="{height}" role="img">'
-        yield "<!-- Made by bench/chart.py of docs/SPEED.md. -->"
+        yield "<!-- Made by bench/chart.py. -->"
         yield f"<title>{self.title}</title>"
         yield f'<g font-family="system-ui, -apple-system, Segoe UI, Helvetica, Arial, sans-serif" font-size="12" fill="{TEXT}">'
         yield self.text(MARGIN, MARGIN + 8, self.title, size=14, weight="600")
@@ -137,12 +189,12 @@ def main():
     if sys.argv[1:] not in ([], ["--check"]):
         sys.exit(__doc__)
     wrong = 0
-    for name, text in charts():
+    for name, text in [(PAGE.name, page_with_table()), *charts()]:
         path = DOCS / name
         if not sys.argv[1:]:
             path.write_text(text, encoding="utf-8")
         elif not path.is_file() or path.read_text(encoding="utf-8") != text:
-            print(f"chart: docs/{name} differs from docs/SPEED.md: run bench/chart.py")
+            print(f"chart: docs/{name} differs from the results: run bench/chart.py")
             wrong += 1
     return 1 if wrong else 0
 

@@ -13,6 +13,9 @@ import data
 BENCH = pathlib.Path(__file__).resolve().parent
 CRATE = BENCH.parent / "crates" / "bench_kombilad"
 OUT = BENCH / "out"
+# Outside of the checkout, in which `rt ci` takes no links.
+CACHE = pathlib.Path(os.environ.get("XDG_CACHE_HOME") or pathlib.Path.home() / ".cache")
+REGISTRY = CACHE / "kombilad-bench" / "registry"
 OURS = "ours"
 
 # The features of the harness, and the crates of crates.io that each needs.
@@ -137,25 +140,24 @@ def crates_of(folder, config, given):
     The crates of a directory source, and an empty stand-in for each that it lacks: cargo wants to
     see those too that are not built.
     """
-    registry = OUT / "registry"
-    shutil.rmtree(registry, ignore_errors=True)
-    registry.mkdir(parents=True)
+    shutil.rmtree(REGISTRY, ignore_errors=True)
+    REGISTRY.mkdir(parents=True)
     for crate in sorted(folder.iterdir()) if folder else []:
         if (crate / "Cargo.toml").is_file():
-            (registry / crate.name).symlink_to(crate.resolve())
+            (REGISTRY / crate.name).symlink_to(crate.resolve())
     patched = {
         setting.split(".")[2] for setting in config if setting.startswith("patch.crates-io.")
     }
-    names = {re.sub(r"-\d[^-]*$", "", crate.name) for crate in registry.iterdir()} | patched
+    names = {re.sub(r"-\d[^-]*$", "", crate.name) for crate in REGISTRY.iterdir()} | patched
     for name, version in STAND_INS.items():
         if name not in names:
-            stand_in(registry / f"{name}-{version}", name, version)
+            stand_in(REGISTRY / f"{name}-{version}", name, version)
     had = {peer for peer, needs in PEERS.items() if names.issuperset(needs)}
     source = [
         "--config",
         'source.crates-io.replace-with="had"',
         "--config",
-        f'source.had.directory="{registry}"',
+        f'source.had.directory="{REGISTRY}"',
         "--offline",
     ]
     return Crates([*source, *given], had)

@@ -1,22 +1,16 @@
-"""The table of ratios, with what it was measured on."""
+"""The rows that were measured, as Markdown and as a file, and the conditions of the measurement."""
 
+import csv
 import datetime
 import os
 import platform
 import re
+from types import SimpleNamespace
 
 import harness
 
-# The comments of docs/SPEED.md that a table stands between.
-BEGIN, END = "<!-- bench/run writes {unit} here -->", "<!-- to here -->"
-# The file of the chart, and what it is called where it can't be seen.
-CHARTS = {
-    "time": ("speed.svg", "The time of each row over that of its best peer"),
-    "instructions": (
-        "instructions.svg",
-        "The instructions of each row over those of its best peer",
-    ),
-}
+RESULTS = harness.BENCH / "results"
+COLUMNS = ["what", "bytes", "this project", "best peer", "peer", "ratio"]
 
 # The groups of rows, by how their names begin.
 GROUPS = {
@@ -49,52 +43,81 @@ class Report:
         self.rows, self.crates, self.unit = rows, crates, unit
 
     def text(self):
-        """The table as Markdown, below a line on where and when."""
+        """Returns the table as Markdown, below the conditions."""
+        measured = {"time": "Time", "instructions": "Instructions, by callgrind,"}[self.unit]
         head = ["| what | bytes | this project | best peer | ratio |", "|---|---|---|---|---|"]
         lines = [self.line(row) for _, members in grouped(self.rows) for row in members]
-        return "\n".join([self.conditions(), "", *head, *lines])
+        return "\n".join(
+            [f"{measured} of one piece of work, on {self.conditions()}.", "", *head, *lines]
+        )
 
     def conditions(self):
-        """When, on what machine, and with which versions."""
+        """Returns the day, the machine and the versions."""
         peers = [f"`{name}` {self.crates.versions[name]}" for name in self.crates.had]
         not_had = (
-            f" Not had: {', '.join(f'`{name}`' for name in self.crates.lacking)}."
+            f"; not had: {', '.join(f'`{name}`' for name in self.crates.lacking)}"
             if self.crates.lacking
             else ""
         )
-        measured = {"time": "Time", "instructions": "Instructions, by callgrind,"}[self.unit]
         return (
-            f"{measured} of one piece of work, on {datetime.date.today()}, on {machine()}. This project at commit `{commit()}`, proved with `{kit()}`; "
-            f"`{rustc()}`; peers: `plain` of `bench/`{''.join(', ' + peer for peer in peers)}.{not_had}"
+            f"{datetime.date.today()}, on {machine()}; this project at commit `{commit()}`, proved with `{kit()}`; "
+            f"`{rustc()}`; peers: `plain` of `bench/`{''.join(', ' + peer for peer in peers)}{not_had}"
         )
 
     def line(self, row):
         peer = (
-            f"{self.amount(row.best_peer[1])} (`{row.best_peer[0]}`)"
+            f"{amount(row.best_peer[1], self.unit)} (`{row.best_peer[0]}`)"
             if row.best_peer
-            else "none had"
+            else "not had"
         )
         ratio = f"{row.ratio:.2f}" if row.ratio else ""
-        return f"| {row.name} | {row.size:,} | {self.amount(row.ours)} | {peer} | {ratio} |"
+        return f"| {row.name} | {row.size:,} | {amount(row.ours, self.unit)} | {peer} | {ratio} |"
 
-    def amount(self, number):
-        if self.unit == "instructions":
-            return f"{number:,.0f}"
-        if number < 1000:
-            return f"{number:.0f} ns" if number >= 10 else f"{number:.1f} ns"
-        return f"{number / 1000:.3g} µs" if number < 999_500 else f"{number / 1e6:.3g} ms"
+    def write(self):
+        """Writes the conditions and the rows to the file of this unit."""
+        with open(file_of(self.unit), "w", newline="", encoding="utf-8") as file:
+            file.write(f"# {self.conditions()}\n")
+            table = csv.writer(file, lineterminator="\n")
+            table.writerow(COLUMNS)
+            for _, members in grouped(self.rows):
+                table.writerows(cells(row) for row in members if row.best_peer)
 
-    def write(self, page):
-        """Puts the table between the two comments of the page."""
-        text, begin = page.read_text(encoding="utf-8"), BEGIN.format(unit=self.unit)
-        before, _, rest = text.partition(begin)
-        _, end, after = rest.partition(END)
-        if not end:
-            raise harness.Failed(f"{page} has no lines '{begin}' and '{END}'")
-        file, said = CHARTS[self.unit]
-        page.write_text(
-            f"{before}{begin}\n![{said}]({file})\n\n{self.text()}\n{end}{after}", encoding="utf-8"
-        )
+
+def file_of(unit):
+    return RESULTS / f"{unit}.csv"
+
+
+def cells(row):
+    """Returns the cells of a row in a file, with numbers of three digits or more."""
+    peer, peers = row.best_peer
+    amounts = [f"{it:.0f}" if it >= 100 else f"{it:.3g}" for it in (row.ours, peers)]
+    return [row.name, row.size, *amounts, peer, f"{row.ratio:.2f}"]
+
+
+def results(unit):
+    """Returns the conditions and the rows of a file."""
+    with open(file_of(unit), newline="", encoding="utf-8") as file:
+        conditions = file.readline().removeprefix("# ").rstrip("\n")
+        rows = [
+            SimpleNamespace(
+                name=row["what"],
+                size=int(row["bytes"]),
+                ours=float(row["this project"]),
+                best_peer=(row["peer"], float(row["best peer"])),
+                ratio=float(row["ratio"]),
+            )
+            for row in csv.DictReader(file)
+        ]
+    return conditions, rows
+
+
+def amount(number, unit):
+    """Returns a number with its unit, as pages show it."""
+    if unit == "instructions":
+        return f"{number:,.0f}"
+    if number < 1000:
+        return f"{number:.0f} ns" if number >= 10 else f"{number:.1f} ns"
+    return f"{number / 1000:.3g} µs" if number < 999_500 else f"{number / 1e6:.3g} ms"
 
 
 def machine():
