@@ -56,7 +56,7 @@ pub fn size_of(
 
 fn report_wrong_size(rt: &HostRuntime, option: &str, text: &str) -> Outcome {
     match format!(in rt.alloc();
-        "invalid value '{text}' for '--{option} <SIZE>': a number of bytes, or with K, M or G behind it, and not 0"
+        "invalid value '{text}' for '--{option} <SIZE>': must be a number of bytes above 0, such as 1000, 512K, 8M or 1G"
     ) {
         Ok(why) => report_wrong_arguments(rt, &why),
         Err(_) => report_out_of_memory(rt, text),

@@ -150,7 +150,7 @@ fn with_commands<'a>(
 fn program_command<'a>(alloc: Global) -> Result<Command<'a>, AllocError> {
     Command::new(alloc, "ipld")
         .about(ABOUT)
-        .version("0.1.0")
+        .version("0.2.0")
         .after_help(WORDS)
         .subcommand_required(true)
         .arg_required_else_help(true)

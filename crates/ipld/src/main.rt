@@ -36,7 +36,7 @@ fn run(rt: &HostRuntime) -> Outcome {
         Err(error) if error.kind() == ErrorKind::OutOfMemory => report_no_memory(rt),
         Err(_) => {
             let _ = eprintln!(rt;
-                "ipld: an argument is not UTF-8, and only such arguments are read"
+                "ipld: an argument is not valid UTF-8 (rename the file, or pass it as standard input: -)"
             );
             Outcome::Failed
         }

@@ -4,7 +4,7 @@ use crate::bytes::{Bytes, BytesAt};
 use crate::complaints::report_car_error;
 use crate::files::{is_file, read_file};
 use crate::input::BUFFER;
-use crate::messages::{NamedCid, Outcome};
+use crate::messages::{IndexExplanation, NamedCid, Outcome};
 use car_files::CarFileError;
 use indexmap::IndexMap;
 use ipld_car::{
@@ -323,10 +323,8 @@ impl<'a> Blocks<'a> {
         match index_at(self.rt, &self.bytes, header) {
             Ok(entries) => self.index = Some(entries),
             Err(error) => {
-                let (file, at) = (self.file, header.index);
-                let _ = eprintln!(self.rt;
-                    "ipld: {file}: the index at byte {at} is not used: {error}"
-                );
+                let (file, at, why) = (self.file, header.index, IndexExplanation(&error));
+                let _ = eprintln!(self.rt; "ipld: {file}: ignoring the index at byte {at}: {why}");
             }
         }
     }
@@ -345,7 +343,9 @@ impl<'a> Blocks<'a> {
             Ok(found) => {
                 if found.is_some() && self.index.is_some() {
                     let (file, cid) = (self.file, NamedCid::new(self.rt.alloc(), cid));
-                    let _ = eprintln!(self.rt; "ipld: {file}: {cid}: the index lacks this block");
+                    let _ = eprintln!(self.rt;
+                        "ipld: {file}: {cid}: the index has no entry for this block"
+                    );
                 }
                 Ok(found)
             }
@@ -370,7 +370,7 @@ impl<'a> Blocks<'a> {
             Indexed::Wrong(offset) => {
                 let (file, cid) = (self.file, NamedCid::new(self.rt.alloc(), cid));
                 let _ = eprintln!(self.rt;
-                    "ipld: {file}: the index is wrong, and not used: what it has for {cid}, at byte {offset}, is no block of it"
+                    "ipld: {file}: ignoring the index: its entry for {cid} points to byte {offset}, where that block does not begin"
                 );
                 None
             }

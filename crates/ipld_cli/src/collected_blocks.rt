@@ -8,7 +8,7 @@ use crate::files::read_file;
 use crate::input::open_car;
 use crate::messages::{DigestExplanation, NamedCid, Outcome};
 use crate::new_car::NewBlock;
-use car_files::CarFileError;
+use car_files::{CarFileError, InvalidReason};
 use indexmap::{IndexMap, IndexSet};
 use ipld_block::{BlockCodec, CheckError, InvalidBlock, VerifyError, cid_of, links_of};
 use ipld_car::Section;
@@ -53,6 +53,9 @@ impl<'a> Source<'a> {
 #[derive(Drop)]
 pub struct CollectedBlocks {
     blocks: IndexMap<Cid, Vec<u8>, RandomState>,
+    // The roots of CARs and the blocks of files, in the order of their arrival, and for each
+    // whether it is a root of a CAR.
+    starts: IndexMap<Cid, bool, RandomState>,
     // The links from a block to another.
     linked: IndexSet<Cid, RandomState>,
     // The CIDs of the blocks that are taken, if not all are.
@@ -82,6 +85,7 @@ impl CollectedBlocks {
     ) -> CollectedBlocks {
         CollectedBlocks {
             blocks: IndexMap::with_hasher(alloc, hasher),
+            starts: IndexMap::with_hasher(alloc, hasher),
             linked: IndexSet::with_hasher(alloc, hasher),
             kept: None,
             hasher,
@@ -98,8 +102,25 @@ impl CollectedBlocks {
         }
     }
 
-    /// Returns the CIDs of the blocks that no other block links to.
-    pub fn unlinked(&self, alloc: Global) -> Result<Vec<Cid>, AllocError> {
+    /// Returns the roots of the CARs, and the blocks of files that no other block links to, in the
+    /// order of the inputs. If there are no such roots, returns all blocks that no other block
+    /// links to.
+    pub fn roots(&self, alloc: Global) -> Result<Vec<Cid>, AllocError> {
+        let mut roots = Vec::new(alloc);
+        for (cid, is_root) in self.starts.iter() {
+            if *is_root || !self.linked.contains(cid) {
+                roots.push(*cid)?;
+            }
+        }
+        if roots.is_empty() {
+            self.unlinked(alloc)
+        } else {
+            Ok(roots)
+        }
+    }
+
+    // Returns the CIDs of the blocks that no other block links to.
+    fn unlinked(&self, alloc: Global) -> Result<Vec<Cid>, AllocError> {
         let mut roots = Vec::new(alloc);
         for cid in self.blocks.keys() {
             if !self.linked.contains(cid) {
@@ -191,9 +212,12 @@ impl CollectedBlocks {
             }
             Err(refused) => return Err(report_rejected(rt, file, &cid, None, refused)),
         }
-        match self.put(cid, bytes) {
-            Ok(()) => Ok(()),
-            Err(_) => Err(report_out_of_memory(rt, file)),
+        let is_known = self.starts.contains_key(&cid);
+        let is_put = self.put(cid, bytes).is_ok();
+        if is_put && (is_known || self.starts.insert(cid, false).is_ok()) {
+            Ok(())
+        } else {
+            Err(report_out_of_memory(rt, file))
         }
     }
 
@@ -202,6 +226,11 @@ impl CollectedBlocks {
             Ok(opened) => opened,
             Err(outcome) => return Err(outcome),
         };
+        for root in opened.car.roots() {
+            if self.starts.insert(*root, true).is_err() {
+                return Err(report_out_of_memory(rt, file));
+            }
+        }
         let mut section = Section::new(rt.alloc());
         for _ in 0..u64::MAX {
             let offset = opened.car.offset();
@@ -306,7 +335,7 @@ fn links_of_block(alloc: Global, code: u64, block: &[u8]) -> Result<Vec<Cid>, Ch
 // Reports that a section of `len` bytes would be longer than the limit.
 fn report_too_long(rt: &HostRuntime, file: &str, len: u64) -> Outcome {
     let _ = eprintln!(rt;
-        "ipld: {file}: its section would have {len} bytes, more than the limit, which --limit sets"
+        "ipld: {file}: its section would be {len} bytes, over the limit (raise it with --limit)"
     );
     Outcome::Failed
 }
@@ -321,7 +350,7 @@ enum Why {
 impl fmt::Display for Why {
     fn fmt<W: fmt::Write>(&self, f: &mut fmt::Formatter<W>) -> fmt::Result {
         match self {
-            Why::Block(why) => why.fmt(f),
+            Why::Block(why) => InvalidReason(why).fmt(f),
             Why::Digest(why) => why.fmt(f),
         }
     }

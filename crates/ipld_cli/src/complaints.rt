@@ -1,7 +1,8 @@
 //! Messages on standard error. If one can't be written, the exit status still shows the failure.
 
 use crate::messages::{
-    Explanation, Hint, NoCid, OpeningExplanation, Outcome, SectionExplanation, WriteFailure,
+    Explanation, Hint, NoCid, OpeningExplanation, Outcome, SectionExplanation, ShowExplanation,
+    WriteFailure,
 };
 use car_files::CarFileError;
 use ipld_block::{BlockCodec, InvalidBlock};
@@ -40,7 +41,7 @@ pub fn parse_cid_argument(rt: &HostRuntime, text: &str) -> Option<Cid> {
     match parse_any(text) {
         Ok(cid) => Some(cid),
         Err(error) => {
-            report(rt, text, &NoCid(&error), Outcome::NotSo);
+            report(rt, text, &NoCid::new(text, error), Outcome::NotSo);
             None
         }
     }
@@ -52,7 +53,7 @@ pub fn report_show_error(rt: &HostRuntime, name: &str, error: &ShowError) -> Out
     match (Outcome::of(error), error) {
         (Outcome::NotRead, _) => Outcome::NotRead,
         (outcome, ShowError::Write(kind)) => report(rt, name, &WriteFailure(*kind), outcome),
-        (outcome, error) => report(rt, name, error, outcome),
+        (outcome, error) => report(rt, name, &ShowExplanation::new("", error), outcome),
     }
 }
 

@@ -5,7 +5,7 @@ use crate::bytes::{Bytes, BytesAt};
 use crate::complaints::report_unreadable;
 use crate::files::is_file;
 use crate::input::BUFFER;
-use crate::messages::Outcome;
+use crate::messages::{IndexExplanation, Outcome};
 use car_files::{CarFileError, VerdictForm};
 use ipld_block::write_cid;
 use ipld_car::{CarHeader, CarReader, IndexEntry, IndexError, Section, entries_of};
@@ -41,7 +41,7 @@ fn write_fault<W: Write>(
         (VerdictForm::Line, Fault::LeadsNowhere(offset)) => {
             writeln!(
                 writer,
-                "the index leads to byte {offset}, where no block of its digest begins"
+                "the index points to byte {offset}, where no block with that digest begins"
             )?;
         }
         (VerdictForm::Object, Fault::Lacks(cid, offset)) => {
@@ -132,7 +132,8 @@ fn compare<W: Write>(
 
 // Reports that an index can't be read.
 fn report_index_error(rt: &HostRuntime, file: &str, at: u64, error: &IndexError) -> Outcome {
-    let _ = eprintln!(rt; "ipld: {file}: the index at byte {at} is not read: {error}");
+    let why = IndexExplanation(error);
+    let _ = eprintln!(rt; "ipld: {file}: cannot read the index at byte {at}: {why}");
     match error {
         IndexError::Memory | IndexError::Read(_) => Outcome::Failed,
         _ => Outcome::NotSo,

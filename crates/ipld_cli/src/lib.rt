@@ -46,8 +46,12 @@ pub use files::{is_file, read_file};
 pub use hasher::hasher_of;
 pub use index_check::check_index;
 pub use input::{BUFFER, Car, OpenCar, open_car};
-pub use messages::{DigestExplanation, Explanation, NamedCid, NoCid, Outcome, TextPlace};
+pub use messages::{
+    DigestExplanation, Explanation, JsonExplanation, NamedCid, NoCid, Outcome, ShowExplanation,
+};
 pub use new_car::{NewBlock, NewCar, framed_len, header_len};
-pub use output::{Content, Output, OutputError, output_of, report_unwritable, write};
+pub use output::{
+    Content, Output, OutputError, TemporaryName, output_of, report_unwritable, write,
+};
 pub use per_word::{PerWord, reads_twice, run_over, run_to_end};
 pub use writer::{UntilClosed, end_writer};

@@ -4,15 +4,18 @@
 use crate::complaints::report;
 use crate::input::BUFFER;
 use crate::messages::Outcome;
-use std::alloc::{AllocError, AllocFailed};
-use std::fs::{self, File, Metadata, OpenOptions, Permissions};
+use std::alloc::{AllocError, AllocFailed, Global};
+use std::fs::{self, DirEntry, File, Metadata, OpenOptions, Permissions, TryLockError};
 use std::io::{self, BufWriter, ErrorKind, Write};
 use std::os::unix::fs::{FileTypeExt, MetadataExt};
 use std::path::{Path, PathBuf};
-use std::{error, fmt};
+use std::{error, fmt, process};
 
-// The number of names that are tried for a temporary file in a folder.
+// The number of names that are tried for a temporary file.
 const NAMES: u32 = 1000;
+
+// The most bytes of an output's name that are in the name of its temporary file.
+const NAME_LEN: usize = 200;
 
 /// The destination of an output.
 #[derive(Drop)]
@@ -48,9 +51,11 @@ impl fmt::Display for OutputError {
     fn fmt<W: fmt::Write>(&self, f: &mut fmt::Formatter<W>) -> fmt::Result {
         match self {
             OutputError::Exists => f.write_str("the file exists; --force replaces it"),
-            OutputError::NotAFile => f.write_str("what is there is no file"),
-            OutputError::Input => f.write_str("the output is one of the files that are read"),
-            OutputError::NoName => f.write_str("no name for a temporary file is free beside it"),
+            OutputError::NotAFile => f.write_str("not a regular file"),
+            OutputError::Input => f.write_str("the output is also an input; choose another name"),
+            OutputError::NoName => f.write_str(
+                "cannot create a temporary file next to it: delete the files .NAME.ipld-NUMBER there",
+            ),
             OutputError::Memory => f.write_str("out of memory"),
             OutputError::System(error) => write!(f, "{error}"),
         }
@@ -171,14 +176,121 @@ pub fn output_of(
     }
 }
 
+/// The name of a temporary file, `.NAME.ipld-PID`. It shows the output and the process that it is
+/// of.
+#[derive(Drop)]
+pub struct TemporaryName {
+    // `.NAME.ipld-`.
+    prefix: String,
+    process: u32,
+}
+
+impl TemporaryName {
+    /// Returns the name for outputs in this folder. First removes the files there that have this
+    /// name with the number of another process, and that no process has locked: a run that was
+    /// killed left them. If one can't be removed, it stays.
+    ///
+    /// # Errors
+    ///
+    /// `Memory` if an allocation fails.
+    pub fn new(
+        rt: &HostRuntime,
+        folder: Path<'_>,
+        name: &str,
+    ) -> Result<TemporaryName, OutputError> {
+        let short = shortened(name);
+        let prefix = format!(in rt.alloc(); ".{short}.ipld-")?;
+        remove_left(rt, folder, &prefix);
+        Ok(TemporaryName {
+            prefix,
+            process: process::id(rt.process()),
+        })
+    }
+
+    /// Returns the name for the output of this name.
+    ///
+    /// # Errors
+    ///
+    /// Those of [`TemporaryName::new`].
+    pub fn of(rt: &HostRuntime, name: &str, output: &Output) -> Result<TemporaryName, OutputError> {
+        let path = match output {
+            Output::Replaced(path, _) => path.as_path(),
+            _ => Path::new(name),
+        };
+        TemporaryName::new(rt, folder_of(path), path.file_name().unwrap_or(""))
+    }
+
+    // Returns the name, or another if `number` is not 0.
+    fn numbered(&self, alloc: Global, number: u32) -> Result<String, AllocError> {
+        let (prefix, process) = (&self.prefix, self.process);
+        if number == 0 {
+            format!(in alloc; "{prefix}{process}")
+        } else {
+            format!(in alloc; "{prefix}{process}-{number}")
+        }
+    }
+}
+
+// Returns the part of an output's name that is in the name of its temporary file.
+fn shortened(name: &str) -> &str {
+    for len in (0..=name.len().min(NAME_LEN)).rev() {
+        if let Some(short) = name.get(..len) {
+            return short;
+        }
+    }
+    name
+}
+
+// Returns the folder of a file.
+fn folder_of(path: Path<'_>) -> Path<'_> {
+    match path.parent() {
+        Some(folder) if !folder.as_str().is_empty() => folder,
+        _ => Path::new("."),
+    }
+}
+
+// Removes the files of a folder that have a name with this prefix and a number, and that no process
+// has locked.
+fn remove_left(rt: &HostRuntime, folder: Path<'_>, prefix: &str) {
+    let Ok(entries) = fs::read_dir(rt, folder) else {
+        return;
+    };
+    for entry in entries {
+        if let Ok(entry) = entry {
+            let number = entry.file_name().strip_prefix(prefix).unwrap_or("");
+            if number.starts_with(|c: char| c.is_ascii_digit()) && is_file_entry(&entry) {
+                remove_unlocked(rt, entry.path());
+            }
+        }
+    }
+}
+
+// Returns whether an entry of a folder is a file. To open a pipe would block.
+fn is_file_entry(entry: &DirEntry) -> bool {
+    match entry.file_type() {
+        Ok(file_type) => file_type.is_file(),
+        Err(_) => false,
+    }
+}
+
+// Removes a file that no process has locked.
+fn remove_unlocked(rt: &HostRuntime, path: Path<'_>) {
+    match OpenOptions::new().write(true).open(rt, path) {
+        Ok(file) if file.try_lock().is_ok() => {
+            let _ = fs::remove_file(rt, path);
+        }
+        _ => {}
+    }
+}
+
 /// The content of an output.
 pub trait Content {
     /// Writes the content, and returns the writer.
     fn write_to<W: Write + Drop>(&self, writer: W) -> Result<W, OutputError>;
 }
 
-/// Writes the content to the output of this name. If a file can't be written whole, nothing is left
-/// of it.
+/// Writes the content to the output of this name. A file is written under the temporary name, and
+/// nothing is left of it if it can't be written whole.
 ///
 /// # Errors
 ///
@@ -187,6 +299,7 @@ pub fn write<C: Content>(
     rt: &HostRuntime,
     name: &str,
     output: Output,
+    temporary: &TemporaryName,
     content: &C,
 ) -> Result<(), OutputError> {
     match output {
@@ -195,9 +308,9 @@ pub fn write<C: Content>(
             Ok(())
         }
         Output::Stream => write_stream(rt, name, content),
-        Output::New => write_to_file(rt, Path::new(name), None, content),
+        Output::New => write_to_file(rt, temporary, Path::new(name), None, content),
         Output::Replaced(path, permissions) => {
-            write_to_file(rt, path.as_path(), Some(permissions), content)
+            write_to_file(rt, temporary, path.as_path(), Some(permissions), content)
         }
     }
 }
@@ -226,15 +339,17 @@ fn write_stream<C: Content>(rt: &HostRuntime, name: &str, content: &C) -> Result
 // the file.
 fn write_to_file<C: Content>(
     rt: &HostRuntime,
+    temporary: &TemporaryName,
     path: Path<'_>,
     replaced: Option<Permissions>,
     content: &C,
 ) -> Result<(), OutputError> {
     let is_new = replaced.is_none();
-    let (temporary, file) = create_beside(rt, path)?;
+    let (temporary, file) = create_temporary(rt, temporary, path)?;
+    // The file stays open, and so locked, until it has its final name.
     let ended = match fill(rt, file, replaced, content) {
-        Ok(()) if is_new => move_into_place(rt, temporary.as_path(), path),
-        Ok(()) => replace(rt, temporary.as_path(), path),
+        Ok(_file) if is_new => move_into_place(rt, temporary.as_path(), path),
+        Ok(_file) => replace(rt, temporary.as_path(), path),
         Err(error) => Err(error),
     };
     if ended.is_err() {
@@ -251,27 +366,45 @@ fn fill<C: Content>(
     file: File,
     permissions: Option<Permissions>,
     content: &C,
-) -> Result<(), OutputError> {
+) -> Result<File, OutputError> {
     if let Some(permissions) = permissions {
         file.set_permissions(permissions)?;
     }
     let file = write_buffered(rt, file, content)?;
     file.sync_all()?;
-    Ok(())
+    Ok(file)
 }
 
-// Creates an empty file in the same folder, under a name that is free.
-fn create_beside(rt: &HostRuntime, path: Path<'_>) -> Result<(PathBuf, File), OutputError> {
+// Creates an empty, locked file in the same folder.
+fn create_temporary(
+    rt: &HostRuntime,
+    temporary: &TemporaryName,
+    path: Path<'_>,
+) -> Result<(PathBuf, File), OutputError> {
     for number in 0..NAMES {
-        let name = format!(in rt.alloc(); ".ipld-{number}.tmp")?;
-        let temporary = path.with_file_name(rt.alloc(), name.as_str())?;
-        match File::create_new(rt, &temporary) {
-            Ok(file) => return Ok((temporary, file)),
+        let name = temporary.numbered(rt.alloc(), number)?;
+        let path = path.with_file_name(rt.alloc(), name.as_str())?;
+        match File::create_new(rt, &path) {
+            Ok(file) if holds(rt, &file, path.as_path()) => return Ok((path, file)),
+            // Another run took it for one that was left.
+            Ok(_) => {}
             Err(error) if error.kind() == ErrorKind::AlreadyExists => {}
             Err(error) => return Err(OutputError::System(error)),
         }
     }
     Err(OutputError::NoName)
+}
+
+// Locks a new file, and returns whether it still has its name. On a file system without locks,
+// nobody removes it.
+fn holds(rt: &HostRuntime, file: &File, path: Path<'_>) -> bool {
+    if let Err(TryLockError::WouldBlock) = file.try_lock() {
+        return false;
+    }
+    match (file.metadata(), fs::symlink_metadata(rt, path)) {
+        (Ok(file), Ok(named)) => file.dev() == named.dev() && file.ino() == named.ino(),
+        _ => false,
+    }
 }
 
 // Creates an empty file of this name.
@@ -308,11 +441,6 @@ fn move_into_place(
 
 /// Reports why an output is not written.
 pub fn report_unwritable(rt: &HostRuntime, name: &str, error: &OutputError) -> Outcome {
-    if let OutputError::System(error) = error {
-        if error.kind() == ErrorKind::BrokenPipe {
-            return Outcome::NotRead;
-        }
-    }
     let name = if name == "-" { "standard output" } else { name };
     report(rt, name, error, Outcome::Failed)
 }

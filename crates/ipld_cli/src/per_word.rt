@@ -23,7 +23,7 @@ pub trait PerWord {
 pub fn reads_twice(rt: &HostRuntime, names: &[&str]) -> bool {
     let is_twice = names.iter().filter(|name| **name == "-").count() > 1;
     if is_twice {
-        let why = "'-' is named more than once, and standard input can be read once";
+        let why = "'-' is given more than once, but standard input can be read only once";
         report_wrong_arguments(rt, &why);
     }
     is_twice

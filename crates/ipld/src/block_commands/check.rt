@@ -53,7 +53,7 @@ pub fn run_check(rt: &HostRuntime, matches: &ArgMatches<'_>) -> Outcome {
         json: matches.get_flag("json"),
     };
     if check.canonical && check.codec != BlockCodec::DagCbor {
-        return report_wrong_arguments(rt, &"--canonical is for blocks of dag-cbor");
+        return report_wrong_arguments(rt, &"--canonical works only with --codec dag-cbor");
     }
     match matches.get_strs("files") {
         Some(files) => run_to_end(rt, files, &check),

@@ -12,7 +12,7 @@ use ipld_cli::{
 };
 use ipld_show::{ShowError, write_cid_parts};
 use std::alloc::Global;
-use std::io::{ErrorKind, Write};
+use std::io::{self, ErrorKind, Write};
 use std::str;
 
 /// The names of the bases of a CID's text.
@@ -120,13 +120,12 @@ fn print_one<W: Write>(
     writer: &mut W,
 ) -> Result<Outcome, ShowError> {
     let Some(cid) = options.in_version(cid) else {
-        let why = "no CID of version 0: those are of DAG-PB, with a SHA2-256 digest";
+        let why = "no version 0 of this CID: that requires DAG-PB and SHA2-256 (use --v1)";
         return Ok(report(rt, what, &why, Outcome::NotSo));
     };
     let only_base58 = options.base.is_none_or(|base| base == Base::Base58Btc);
     if cid.version() == Version::V0 && !only_base58 {
-        let why =
-            "a CID of version 0 has a text in base58btc alone: --v1 makes it one of version 1";
+        let why = "a CID of version 0 is always in base58btc (--v1 converts it to version 1)";
         return Ok(report(rt, what, &why, Outcome::NotSo));
     }
     write_cid(rt.alloc(), options, file, &cid, writer)?;
@@ -154,7 +153,7 @@ fn print_lines<W: Write>(
     writer: &mut W,
 ) -> Result<Outcome, ShowError> {
     let Ok(lines) = str::from_utf8(input) else {
-        return Ok(report(rt, "-", &"the lines are not UTF-8", Outcome::NotSo));
+        return Ok(report(rt, "-", &"the input is not valid UTF-8", Outcome::NotSo));
     };
     let mut worst = Outcome::Done;
     for line in lines.lines() {
@@ -183,6 +182,17 @@ fn print_file<W: Write>(
     print_one(rt, options, file, Some(file), &cid, writer)
 }
 
+// Reports that a word is neither a file that can be read nor a CID.
+fn report_no_file(rt: &HostRuntime, word: &str, error: &io::Error, why: &NoCid<'_>) -> Outcome {
+    let name = if word.is_empty() { "''" } else { word };
+    let _ = if error.kind() == ErrorKind::NotFound {
+        eprintln!(rt; "ipld: {name}: no such file, and {why}")
+    } else {
+        eprintln!(rt; "ipld: {name}: cannot read the file: {error}; and {why}")
+    };
+    Outcome::Failed
+}
+
 // Prints the CID that a word is. Otherwise prints the CID of the block in the file that it names.
 fn print_word<W: Write>(
     rt: &HostRuntime,
@@ -192,7 +202,7 @@ fn print_word<W: Write>(
 ) -> Result<Outcome, ShowError> {
     let no_cid = match parse_any(word) {
         Ok(_) if options.names_codec => {
-            let why = "a CID has its codec: --codec is for a file";
+            let why = "--codec applies only to files, and this is a CID (for a file, write ./NAME)";
             return Ok(report(rt, word, &why, Outcome::Failed));
         }
         Ok(cid) => return print_one(rt, options, word, None, &cid, writer),
@@ -201,10 +211,8 @@ fn print_word<W: Write>(
     match read_file(rt, word) {
         Ok(bytes) => print_file(rt, options, word, &bytes, writer),
         Err(error) => {
-            let name = if word.is_empty() { "''" } else { word };
-            let why = NoCid(&no_cid);
-            let _ = eprintln!(rt; "ipld: {name}: no file that can be read: {error}; and {why}");
-            Ok(Outcome::Failed)
+            let why = NoCid::new(word, no_cid);
+            Ok(report_no_file(rt, word, &error, &why))
         }
     }
 }

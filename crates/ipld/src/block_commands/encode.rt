@@ -2,18 +2,15 @@
 
 use clap::ArgMatches;
 use dag_cbor_tape::{EncodeErrorKind, encode_tape};
-use dag_json::{
-    ReadError, ReadErrorKind, floats, from_canonical, from_slice, tape_from_slice, to_vec,
-};
+use dag_json::{ReadError, ReadErrorKind, from_canonical, from_slice, tape_from_slice, to_vec};
 use ipld_cli::{
-    Content, Outcome, Output, OutputError, TextPlace, output_of, read_file, report,
-    report_out_of_memory, report_unreadable, report_unwritable, write,
+    Content, JsonExplanation, Outcome, Output, OutputError, TemporaryName, output_of, read_file,
+    report, report_out_of_memory, report_unreadable, report_unwritable, write,
 };
 use ipld_codec::{Codec, RawCodec, RawError};
 use ipld_show::to_json;
 use ipld_tree::{Ipld, Limits};
 use std::alloc::Global;
-use std::fmt;
 use std::io::Write;
 
 /// Runs `ipld encode`.
@@ -48,7 +45,11 @@ fn encode_file(
 }
 
 fn write_encoded(rt: &HostRuntime, name: &str, output: Output, block: Block) -> Outcome {
-    match write(rt, name, output, &block) {
+    let written = match TemporaryName::of(rt, name, &output) {
+        Ok(temporary) => write(rt, name, output, &temporary, &block),
+        Err(error) => Err(error),
+    };
+    match written {
         Ok(()) => Outcome::Done,
         Err(error) => report_unwritable(rt, name, &error),
     }
@@ -190,22 +191,11 @@ fn bytes_of(alloc: Global, tree: &Ipld) -> Result<Vec<u8>, EncodeError> {
     }
 }
 
-// The error of a text, in the words of the format that was asked for.
-#[derive(Clone, Copy, Drop)]
-struct Wrong {
-    error: ReadError,
-    format: Format,
-}
-
-impl fmt::Display for Wrong {
-    fn fmt<W: fmt::Write>(&self, f: &mut fmt::Formatter<W>) -> fmt::Result {
-        match self.format {
-            Format::DagCbor => {
-                let (why, offset) = (floats::describe(self.error.kind), self.error.offset);
-                write!(f, "{why} at byte {offset}")
-            }
-            Format::DagJson | Format::Raw => write!(f, "{:#}", self.error),
-        }
+// Explains the error of a text by the format that was asked for.
+fn explanation_of(text: &[u8], format: Format, error: ReadError) -> JsonExplanation<'_> {
+    match format {
+        Format::DagCbor => JsonExplanation::new(text, error),
+        Format::DagJson | Format::Raw => JsonExplanation::without_floats(text, error),
     }
 }
 
@@ -226,20 +216,19 @@ fn report_error(
             rt, file,
         ),
         EncodeError::Text(error) => {
-            let place = TextPlace::of_offset(text, error.offset);
-            let wrong = Wrong {
-                error: *error,
-                format,
-            };
-            let _ = eprintln!(rt; "ipld: {file}: {place}: {wrong}");
-            Outcome::NotSo
+            report(
+                rt,
+                file,
+                &explanation_of(text, format, *error),
+                Outcome::NotSo,
+            )
         }
         EncodeError::Tape(error) => {
             let _ = eprintln!(rt; "ipld: {file}: {error:#}");
             Outcome::NotSo
         }
         EncodeError::NotBytes => {
-            let why = "the value is no bytes, and only bytes are a block of raw";
+            let why = "--codec raw requires a value that is bytes: {\"/\":{\"bytes\":\"..\"}}";
             report(rt, file, &why, Outcome::NotSo)
         }
     }

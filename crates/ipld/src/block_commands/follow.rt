@@ -6,7 +6,8 @@ use ipld_block::{BlockCodec, codec_name};
 use ipld_cid::{Cid, IDENTITY};
 use ipld_cid_text::parse_any;
 use ipld_cli::{
-    Blocks, CheckedBlock, DigestExplanation, Explanation, NamedCid, Outcome, hasher_of, report,
+    Blocks, CheckedBlock, DigestExplanation, Explanation, NamedCid, Outcome, ShowExplanation,
+    hasher_of, report,
 };
 use ipld_show::{LinkOnPath, ShowError, link_on_path, show};
 use std::io::Write;
@@ -84,23 +85,14 @@ fn report_step_error(
 ) -> Outcome {
     let cid = NamedCid::new(rt.alloc(), &place.cid);
     let _ = match error {
-        ShowError::NoSegment(segment) => {
-            let segment = segment.saturating_add(place.segments);
-            eprintln!(rt;
-                "ipld: {file}: segment {segment} of the path leads to nothing in the block {cid}"
-            )
-        }
-        ShowError::NotAContainer(segment) => {
-            let segment = segment.saturating_add(place.segments);
-            eprintln!(rt;
-                "ipld: {file}: before segment {segment} of the path there is no list and no map in the block {cid}"
-            )
-        }
         ShowError::Invalid(why) => {
             let why = Explanation::new(rt.alloc(), bytes, *why);
             eprintln!(rt; "ipld: {file}: {cid}: {why}")
         }
-        error => eprintln!(rt; "ipld: {file}: {cid}: {error}"),
+        error => {
+            let why = ShowExplanation::new(place.rest, error);
+            eprintln!(rt; "ipld: {file}: {cid}: {why}")
+        }
     };
     Outcome::of(error)
 }
@@ -110,9 +102,15 @@ fn report_unknown_codec(rt: &HostRuntime, file: &str, cid: &Cid) -> Outcome {
     let (named, code) = (NamedCid::new(rt.alloc(), cid), cid.codec());
     let _ = match codec_name(code) {
         Some(name) => {
-            eprintln!(rt; "ipld: {file}: {named}: blocks of the codec {name} are not read")
+            eprintln!(rt;
+                "ipld: {file}: {named}: the codec {name} is not supported (ipld car extract writes the block)"
+            )
         }
-        None => eprintln!(rt; "ipld: {file}: {named}: blocks of the codec {code:#x} are not read"),
+        None => {
+            eprintln!(rt;
+                "ipld: {file}: {named}: the codec {code:#x} is not supported (ipld car extract writes the block)"
+            )
+        }
     };
     Outcome::NotSo
 }
@@ -156,10 +154,10 @@ fn report_lacking_block(rt: &HostRuntime, file: &str, place: &Place<'_>) -> Outc
     let (cid, segments) = (NamedCid::new(rt.alloc(), &place.cid), place.segments);
     let _ = if segments > 0 {
         eprintln!(rt;
-            "ipld: {file}: segment {segments} of the path leads to the link {cid}, and no block has this CID"
+            "ipld: {file}: segment {segments} of the path is a link to {cid}, which is not in the CAR"
         )
     } else {
-        eprintln!(rt; "ipld: {file}: {cid}: no block has this CID")
+        eprintln!(rt; "ipld: {file}: {cid}: the CAR has no block with this CID")
     };
     Outcome::NotSo
 }
@@ -168,7 +166,7 @@ fn report_lacking_block(rt: &HostRuntime, file: &str, place: &Place<'_>) -> Outc
 // verified.
 fn report_circle(rt: &HostRuntime, file: &str, cid: &Cid) -> Outcome {
     let cid = NamedCid::new(rt.alloc(), cid);
-    let _ = eprintln!(rt; "ipld: {file}: {cid}: the links lead back to this block");
+    let _ = eprintln!(rt; "ipld: {file}: {cid}: the links form a cycle through this block");
     Outcome::NotSo
 }
 
@@ -202,7 +200,7 @@ pub fn show_in_car<W: Write>(
     let mut blocks = blocks;
     let Some(mut place) = first_place(&blocks, request.path) else {
         let file = blocks.file();
-        let why = "the CAR has no root: a path begins with the CID of a block";
+        let why = "the CAR has no root; begin the path with the CID of a block";
         return Ok(report(rt, file, &why, Outcome::NotSo));
     };
     let hasher = match hasher_of(rt) {

@@ -5,8 +5,9 @@ use crate::block_commands::follow::show_in_car;
 use clap::ArgMatches;
 use ipld_block::BlockCodec;
 use ipld_cli::{
-    NamedCid, Opened, Outcome, PerWord, is_file, open_blocks, report, report_invalid_block,
-    report_out_of_memory, report_show_error, report_unreadable, report_wrong_arguments, run_over,
+    NamedCid, Opened, Outcome, PerWord, ShowExplanation, is_file, open_blocks, report,
+    report_invalid_block, report_out_of_memory, report_show_error, report_unreadable,
+    report_wrong_arguments, run_over,
 };
 use ipld_show::{ShowError, link_on_path, show};
 use std::io::Write;
@@ -39,15 +40,18 @@ fn report_path_error(
     if let Ok(Some(link)) = link_on_path(rt.alloc(), request.codec, bytes, request.path) {
         let (segments, cid) = (link.segments, NamedCid::new(rt.alloc(), &link.cid));
         let _ = eprintln!(rt;
-            "ipld: {file}: segment {segments} of the path leads to the link {cid}, and links are not followed"
+            "ipld: {file}: segment {segments} of the path is a link to {cid}, and only a CAR has linked blocks"
         );
         return Outcome::NotSo;
     }
     let path = request.path;
+    let why = ShowExplanation::new(path, error);
     if !is_file(rt, path) {
-        return report(rt, file, error, Outcome::NotSo);
+        return report(rt, file, &why, Outcome::NotSo);
     }
-    let _ = eprintln!(rt; "ipld: {file}: {error} ({path} is a file: --path shows several)");
+    let _ = eprintln!(rt;
+        "ipld: {file}: {why} ({path} is a file: for several files, use --path /)"
+    );
     Outcome::NotSo
 }
 
@@ -97,7 +101,7 @@ impl<'a> PerWord for ShowRequest<'a> {
 // Reports that there is one argument too many.
 fn report_second_path(rt: &HostRuntime, word: &str) -> Outcome {
     match format!(in rt.alloc();
-        "unexpected argument '{word}' found: several files are shown with --path"
+        "unexpected argument '{word}' found: for several files, use --path <PATH>"
     ) {
         Ok(why) => report_wrong_arguments(rt, &why),
         Err(_) => report_out_of_memory(rt, word),

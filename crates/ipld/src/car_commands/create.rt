@@ -1,14 +1,14 @@
 //! The command that creates a CAR file.
 
 use crate::arguments::{codec_of, limit_of, size_of};
-use crate::car_commands::split::{outputs_of, parts_of};
+use crate::car_commands::split::{Form, Part, Split, outputs_of, split_blocks};
 use clap::ArgMatches;
 use ipld_block::BlockCodec;
-use ipld_cid::Cid;
+use ipld_cid::{Cid, IDENTITY};
 use ipld_cli::{
-    CollectedBlocks, NamedCid, NewBlock, NewCar, Outcome, Output, Source, framed_len, hasher_of,
-    header_len, output_of, parse_cid_argument, reads_twice, report_out_of_memory,
-    report_unwritable, report_wrong_arguments, write,
+    CollectedBlocks, NamedCid, NewBlock, NewCar, Outcome, Output, Source, TemporaryName,
+    framed_len, hasher_of, header_len, output_of, parse_cid_argument, reads_twice,
+    report_out_of_memory, report_unwritable, report_wrong_arguments, write,
 };
 use std::alloc::{AllocError, Global};
 
@@ -71,7 +71,7 @@ fn create_by_options(
     match options.most {
         None => create_car(rt, name, sources, files, options),
         Some(_) if name == "-" => {
-            let why = "several CARs are written to files: --output <CAR> names them";
+            let why = "--split requires a file name in --output <CAR>";
             report_wrong_arguments(rt, &why)
         }
         // Their names are known only after their blocks.
@@ -118,7 +118,12 @@ fn write_car(rt: &HostRuntime, name: &str, output: Output, content: &CarContent)
     let Ok(blocks) = content.blocks(rt.alloc()) else {
         return report_out_of_memory(rt, BLOCKS);
     };
-    match write(rt, name, output, &content.car_of(rt.alloc(), &blocks)) {
+    let car = content.car_of(rt.alloc(), &content.roots, &blocks);
+    let written = match TemporaryName::of(rt, name, &output) {
+        Ok(temporary) => write(rt, name, output, &temporary, &car),
+        Err(error) => Err(error),
+    };
+    match written {
         Ok(()) => Outcome::Done,
         Err(error) => report_unwritable(rt, name, &error),
     }
@@ -136,56 +141,64 @@ fn write_cars(
     let Ok(blocks) = content.blocks(rt.alloc()) else {
         return report_out_of_memory(rt, BLOCKS);
     };
-    let ends = match ends_of(rt, name, content, &blocks, most) {
-        Ok(ends) => ends,
+    let parts = match parts_of(rt, name, content, &blocks, most) {
+        Ok(parts) => parts,
         Err(outcome) => return outcome,
     };
-    match outputs_of(rt, name, content.force, files, ends.len()) {
-        Ok(outputs) => write_each(rt, content, &blocks, &ends, outputs),
+    match outputs_of(rt, name, content.force, files, parts.len()) {
+        Ok((outputs, temporary)) => {
+            write_each(rt, content, &blocks, &parts, outputs, &temporary)
+        }
         Err(outcome) => outcome,
     }
 }
 
-// Returns the ends of the CARs of at most `most` bytes among these blocks.
-fn ends_of(
+// Returns the CARs of at most `most` bytes of these blocks.
+fn parts_of(
     rt: &HostRuntime,
     name: &str,
     content: &CarContent,
     blocks: &[NewBlock<'_>],
     most: u64,
-) -> Result<Vec<usize>, Outcome> {
+) -> Result<Vec<Part>, Outcome> {
     let hasher = match hasher_of(rt) {
         Ok(hasher) => hasher,
         Err(outcome) => return Err(outcome),
     };
-    match parts_of(
-        rt.alloc(),
-        hasher,
-        &content.roots,
-        blocks,
-        content.has_index,
+    let form = Form {
+        has_index: content.has_index,
         most,
-    ) {
-        Ok(ends) => Ok(ends),
+        most_header: framed_len(content.limit),
+    };
+    match split_blocks(rt.alloc(), hasher, &content.roots, blocks, form) {
+        Ok(Split::Parts(parts)) => Ok(parts),
+        Ok(Split::TooSmall(least)) => {
+            let why = format_args!(
+                "--split {most} is too small for the header of a CAR: give --split {least} or more"
+            );
+            Err(report_wrong_arguments(rt, &why))
+        }
         Err(error) => Err(report_unwritable(rt, name, &error)),
     }
 }
 
-// Writes the CARs with these ends among the blocks, each to its output.
+// Writes these CARs of the blocks, each to its output.
 fn write_each(
     rt: &HostRuntime,
     content: &CarContent,
     blocks: &[NewBlock<'_>],
-    ends: &[usize],
+    parts: &[Part],
     outputs: Vec<(String, Output)>,
+    temporary: &TemporaryName,
 ) -> Outcome {
     let mut begin = 0;
-    for ((name, output), end) in outputs.into_iter().zip(ends.iter()) {
-        let car = content.car_of(rt.alloc(), blocks.get(begin..*end).unwrap_or(&[]));
-        if let Err(error) = write(rt, &name, output, &car) {
+    for ((name, output), part) in outputs.into_iter().zip(parts.iter()) {
+        let blocks = blocks.get(begin..part.end).unwrap_or(&[]);
+        let car = content.car_of(rt.alloc(), &part.roots, blocks);
+        if let Err(error) = write(rt, &name, output, temporary, &car) {
             return report_unwritable(rt, &name, &error);
         }
-        begin = *end;
+        begin = part.end;
     }
     Outcome::Done
 }
@@ -263,6 +276,8 @@ impl CreateOptions {
 struct CarContent {
     roots: Vec<Cid>,
     collected: CollectedBlocks,
+    // The size of the longest section that is read.
+    limit: u64,
     has_index: bool,
     force: bool,
 }
@@ -278,13 +293,18 @@ impl CarContent {
         let mut collected = collected;
         keep_only(rt, &mut collected, &options.only)?;
         let (limit, has_index, force) = (options.limit, options.has_index, options.force);
+        let is_one = options.most.is_none();
         let Ok(roots) = roots_of(rt.alloc(), &collected, options) else {
             return Err(report_out_of_memory(rt, BLOCKS));
         };
-        check_header(rt, name, &roots, limit)?;
+        // Each of several CARs has only the roots whose blocks it has.
+        if is_one {
+            check_header(rt, name, &roots, limit)?;
+        }
         let content = CarContent {
             roots,
             collected,
+            limit,
             has_index,
             force,
         };
@@ -295,18 +315,27 @@ impl CarContent {
     // Reports the roots whose block is missing.
     fn report_lacking(&self, rt: &HostRuntime) {
         for root in self.roots.iter() {
-            if !self.collected.has(root) || !self.collected.keeps(root) {
+            // A CID of the identity function carries its block.
+            let carries = root.hash().code() == IDENTITY;
+            if !carries && !(self.collected.has(root) && self.collected.keeps(root)) {
                 let root = NamedCid::new(rt.alloc(), root);
-                let _ = eprintln!(rt; "ipld: {root}: the block of this root is not in the CAR");
+                let _ = eprintln!(rt;
+                    "ipld: {root}: warning: the block of this root is not in the CAR"
+                );
             }
         }
     }
 
-    // Returns the CAR of these blocks.
-    fn car_of<'a>(&'a self, alloc: Global, blocks: &'a [NewBlock<'a>]) -> NewCar<'a> {
+    // Returns the CAR of these roots and blocks.
+    fn car_of<'a>(
+        &'a self,
+        alloc: Global,
+        roots: &'a [Cid],
+        blocks: &'a [NewBlock<'a>],
+    ) -> NewCar<'a> {
         NewCar {
             alloc,
-            roots: &self.roots,
+            roots,
             blocks,
             has_index: self.has_index,
         }
@@ -327,8 +356,7 @@ impl CarContent {
     }
 }
 
-// Returns the roots: those that are given, or the blocks given by `--only`, or the blocks that no
-// other block links to.
+// Returns the roots: those that are given, or the blocks given by `--only`, or those of the inputs.
 fn roots_of(
     alloc: Global,
     collected: &CollectedBlocks,
@@ -340,7 +368,7 @@ fn roots_of(
     if !options.only.is_empty() {
         return Ok(options.only);
     }
-    collected.unlinked(alloc)
+    collected.roots(alloc)
 }
 
 // Checks that the header of these roots is not longer than the limit. Reports an error if it is.
@@ -355,7 +383,7 @@ fn check_header(rt: &HostRuntime, name: &str, roots: &[Cid], limit: u64) -> Resu
 fn report_long_header(rt: &HostRuntime, name: &str, count: usize) -> Outcome {
     let name = if name == "-" { "standard output" } else { name };
     let _ = eprintln!(rt;
-        "ipld: {name}: the header would have more bytes than the limit, which --limit sets (roots: {count}); --root names fewer"
+        "ipld: {name}: the header would be over the limit (roots: {count}); name fewer with --root, or raise --limit"
     );
     Outcome::Failed
 }
@@ -373,7 +401,7 @@ fn keep_only(
     for cid in only {
         if !collected.has(cid) {
             let cid = NamedCid::new(rt.alloc(), cid);
-            let _ = eprintln!(rt; "ipld: {cid}: no file has this block");
+            let _ = eprintln!(rt; "ipld: {cid}: no file has a block with this CID");
             return Err(Outcome::NotSo);
         }
     }

@@ -7,11 +7,10 @@ use indexmap::IndexMap;
 use ipld_car::Section;
 use ipld_cid::Cid;
 use ipld_cli::{
-    CheckedBlock, DigestExplanation, NamedCid, OpenCar, Outcome, hasher_of, open_car, open_indexed,
-    output_of, parse_cid_argument, report_car_error, report_out_of_memory, report_show_error,
-    report_unwritable, report_wrong_arguments, write,
+    CheckedBlock, DigestExplanation, NamedCid, OpenCar, Outcome, OutputError, TemporaryName,
+    hasher_of, open_car, open_indexed, output_of, parse_cid_argument, report_car_error,
+    report_out_of_memory, report_unwritable, report_wrong_arguments, write,
 };
-use ipld_show::ShowError;
 use std::hash::RandomState;
 use std::io::{self, Write};
 use std::path::{Path, PathBuf};
@@ -30,11 +29,11 @@ type Places = IndexMap<Cid, usize, RandomState>;
 
 // The destination of the blocks, and the choice of those that are written.
 #[derive(Clone, Copy)]
-struct Target<'a> {
+struct Target<'a, 't> {
     // The CAR.
     file: &'a str,
-    // The folder. Without one, blocks go to standard output.
-    folder: Option<&'a str>,
+    // The folder, and the name of its temporary files. Without one, blocks go to standard output.
+    folder: Option<(&'a str, &'t TemporaryName)>,
     // Whether existing files are replaced.
     force: bool,
     // Whether a block with another digest is written too.
@@ -43,12 +42,7 @@ struct Target<'a> {
 
 /// Runs `ipld car extract`.
 pub fn run_extract(rt: &HostRuntime, matches: &ArgMatches<'_>) -> Outcome {
-    let target = Target {
-        file: matches.get_str("file").unwrap_or("-"),
-        folder: matches.get_str("directory"),
-        force: matches.get_flag("force"),
-        is_unchecked: matches.get_flag("unchecked"),
-    };
+    let folder = matches.get_str("directory");
     let Some(texts) = matches.get_strs("cids") else {
         return Outcome::Failed;
     };
@@ -56,13 +50,36 @@ pub fn run_extract(rt: &HostRuntime, matches: &ArgMatches<'_>) -> Outcome {
         Ok(limit) => limit,
         Err(outcome) => return outcome,
     };
-    if texts.len() > 1 && target.folder.is_none() {
-        let why = "several blocks are written to files: --directory <DIR> names their folder";
+    if texts.len() > 1 && folder.is_none() {
+        let why = "several CIDs require --directory <DIR>, the folder for their blocks";
         return report_wrong_arguments(rt, &why);
     }
-    match requested_blocks(rt, texts) {
-        Ok((requested, places)) => extract(rt, target, limit, requested, &places),
-        Err(outcome) => outcome,
+    let (requested, places) = match requested_blocks(rt, texts) {
+        Ok(found) => found,
+        Err(outcome) => return outcome,
+    };
+    let Some(folder) = folder else {
+        return extract(rt, target_of(matches, None), limit, requested, &places);
+    };
+    match TemporaryName::new(rt, Path::new(folder), "extract") {
+        Ok(temporary) => {
+            let target = target_of(matches, Some((folder, &temporary)));
+            extract(rt, target, limit, requested, &places)
+        }
+        Err(error) => report_unwritable(rt, folder, &error),
+    }
+}
+
+// Returns the destination in this folder, or standard output.
+fn target_of<'a, 't>(
+    matches: &ArgMatches<'a>,
+    folder: Option<(&'a str, &'t TemporaryName)>,
+) -> Target<'a, 't> {
+    Target {
+        file: matches.get_str("file").unwrap_or("-"),
+        folder,
+        force: matches.get_flag("force"),
+        is_unchecked: matches.get_flag("unchecked"),
     }
 }
 
@@ -100,7 +117,7 @@ fn requested_blocks<'a>(
 // ones.
 fn extract(
     rt: &HostRuntime,
-    target: Target<'_>,
+    target: Target<'_, '_>,
     limit: u64,
     requested: Vec<RequestedBlock<'_>>,
     places: &Places,
@@ -120,7 +137,7 @@ fn extract(
 // of each CID is the one to write, and the index may lead to another. So it is not used then.
 fn extract_indexed(
     rt: &HostRuntime,
-    target: Target<'_>,
+    target: Target<'_, '_>,
     limit: u64,
     requested: &mut Vec<RequestedBlock<'_>>,
 ) -> Outcome {
@@ -143,7 +160,7 @@ fn extract_indexed(
 // Writes the blocks that are in the file, the first of each CID. An error is one of the CAR.
 fn extract_found(
     rt: &HostRuntime,
-    target: Target<'_>,
+    target: Target<'_, '_>,
     limit: u64,
     requested: &mut Vec<RequestedBlock<'_>>,
     places: &Places,
@@ -161,7 +178,7 @@ fn extract_found(
 // Writes the `count` requested blocks that were not found yet.
 fn extract_from(
     rt: &HostRuntime,
-    target: Target<'_>,
+    target: Target<'_, '_>,
     opened: OpenCar<'_>,
     requested: &mut Vec<RequestedBlock<'_>>,
     places: &Places,
@@ -221,7 +238,7 @@ fn report_lacking_blocks(
     for block in requested {
         if !block.is_found {
             let text = block.text;
-            let _ = eprintln!(rt; "ipld: {file}: {text}: no block has this CID");
+            let _ = eprintln!(rt; "ipld: {file}: {text}: the CAR has no block with this CID");
             outcome = Outcome::NotSo;
         }
     }
@@ -229,7 +246,12 @@ fn report_lacking_blocks(
 }
 
 // Writes a block, if it matches its CID or is not to be checked.
-fn write_extracted(rt: &HostRuntime, target: Target<'_>, text: &str, section: &Section) -> Outcome {
+fn write_extracted(
+    rt: &HostRuntime,
+    target: Target<'_, '_>,
+    text: &str,
+    section: &Section,
+) -> Outcome {
     let block = match CheckedBlock::new(section.cid(), section.data(), target.is_unchecked) {
         Ok(block) => block,
         Err(error) => {
@@ -239,10 +261,10 @@ fn write_extracted(rt: &HostRuntime, target: Target<'_>, text: &str, section: &S
         }
     };
     match target.folder {
-        Some(folder) => write_in(rt, target, folder, &block),
+        Some((folder, temporary)) => write_in(rt, target, folder, temporary, &block),
         None => match io::writer(rt).write_all(block.bytes()) {
             Ok(()) => Outcome::Done,
-            Err(error) => report_show_error(rt, "standard output", &ShowError::from(error)),
+            Err(error) => report_unwritable(rt, "-", &OutputError::from(error)),
         },
     }
 }
@@ -262,13 +284,14 @@ fn path_in(rt: &HostRuntime, folder: &str, cid: &Cid) -> Result<PathBuf, Outcome
 // Writes a block as a file in this folder, with its CID as the name.
 fn write_in(
     rt: &HostRuntime,
-    target: Target<'_>,
+    target: Target<'_, '_>,
     folder: &str,
+    temporary: &TemporaryName,
     block: &CheckedBlock<'_>,
 ) -> Outcome {
     match path_in(rt, folder, block.cid()) {
         Ok(path) => match path.as_path().to_str() {
-            Some(path) => write_as(rt, target, path, block),
+            Some(path) => write_as(rt, target, path, temporary, block),
             None => Outcome::Failed,
         },
         Err(outcome) => outcome,
@@ -276,12 +299,18 @@ fn write_in(
 }
 
 // Writes a block as a file of this name.
-fn write_as(rt: &HostRuntime, target: Target<'_>, name: &str, block: &CheckedBlock<'_>) -> Outcome {
+fn write_as(
+    rt: &HostRuntime,
+    target: Target<'_, '_>,
+    name: &str,
+    temporary: &TemporaryName,
+    block: &CheckedBlock<'_>,
+) -> Outcome {
     let output = match output_of(rt, name, target.force, &[target.file]) {
         Ok(output) => output,
         Err(error) => return report_unwritable(rt, name, &error),
     };
-    match write(rt, name, output, block) {
+    match write(rt, name, output, temporary, block) {
         Ok(()) => Outcome::Done,
         Err(error) => report_unwritable(rt, name, &error),
     }

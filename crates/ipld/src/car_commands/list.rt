@@ -71,7 +71,7 @@ fn warn_of_roots(rt: &HostRuntime, file: &str, roots: &[Cid]) {
         report(
             rt,
             file,
-            &"the CAR has no roots, and should have one or more",
+            &"warning: the CAR has no roots, and CARv1 requires at least one",
             Outcome::Done,
         );
     }
@@ -169,9 +169,13 @@ fn list_car(rt: &HostRuntime, matches: &ArgMatches<'_>, file: &str) -> Outcome {
 // Returns a guess at the meaning of several words, the last of which is `word`.
 fn hint_of(rt: &HostRuntime, car: &str, word: &str) -> Option<String> {
     if parse_any(word).is_ok() {
-        format!(in rt.alloc(); " (ipld car extract {car} {word} writes the block of this CID)").ok()
+        format!(in rt.alloc();
+            " (to write the block of this CID, use ipld car extract {car} {word})"
+        ).ok()
     } else if is_file(rt, word) {
-        format!(in rt.alloc(); " (ipld car create -o {car} {word} makes a CAR of {word})").ok()
+        format!(in rt.alloc();
+            " (to create a CAR from {word}, use ipld car create -o {car} {word})"
+        ).ok()
     } else {
         None
     }
@@ -188,9 +192,7 @@ fn report_second_car(rt: &HostRuntime, files: &[&str]) -> Outcome {
         Some(hint) => hint.as_str(),
         None => "",
     };
-    match format!(in rt.alloc();
-        "several files are for --missing; each other form is of one CAR{hint}"
-    ) {
+    match format!(in rt.alloc(); "only --missing takes several CARs{hint}") {
         Ok(why) => report_wrong_arguments(rt, &why),
         Err(_) => report_out_of_memory(rt, "the arguments"),
     }

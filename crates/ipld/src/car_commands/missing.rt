@@ -140,9 +140,13 @@ fn write_cids(rt: &HostRuntime, json: bool, cids: &[Cid]) -> Result<(), CarFileE
 fn warn_of_unknown(rt: &HostRuntime, unknown: u64) {
     if unknown > 0 {
         let _ = if unknown == 1 {
-            eprintln!(rt; "ipld: 1 block is of a codec whose links are not known")
+            eprintln!(rt;
+                "ipld: warning: the links of 1 block are unknown, because its codec is not supported"
+            )
         } else {
-            eprintln!(rt; "ipld: {unknown} blocks are of codecs whose links are not known")
+            eprintln!(rt;
+                "ipld: warning: the links of {unknown} blocks are unknown, because their codecs are not supported"
+            )
         };
     }
 }

@@ -3,20 +3,24 @@
 use crate::block_commands::BASES;
 use crate::command_line::{Argument, Description, Kind};
 
-pub(super) const ABOUT: &str = "Reads IPLD blocks, CIDs and CAR files";
+pub(super) const ABOUT: &str = "Read, check and create IPLD blocks, CIDs and CAR files.";
 
 pub(super) const WORDS: &str = "\
-Words:
-  block   bytes that stand for one value: DAG-CBOR, DAG-PB (files and folders of IPFS), DAG-JSON, or plain bytes (raw)
-  CID     a content identifier: the codec of a block and the hash of its bytes; the name of the block
-  link    a CID that stands in a block
-  FILE    a file, or - for standard input
+Terms:
+  block  the bytes of one value, in DAG-CBOR, DAG-PB (files and folders of
+         IPFS), DAG-JSON or raw (plain bytes).
+  CID    identifies a block by its codec and the hash of its bytes.
+  link   a CID inside a block.
+  CAR    a file that contains blocks and their CIDs.
+  FILE   a file name, or - for standard input.
 
 Exit status:
-  0  it was done, and what was checked is so
-  1  what was checked isn't so: a file is no valid block, a path leads to nothing, a block is missing
-     or isn't known to be the one that its CID names
-  2  it couldn't be done: wrong arguments, a file that can't be read, a failed write, no memory";
+  0  success, and every check passed.
+  1  a check failed: invalid block, no such path, missing block, unverified
+     digest.
+  2  usage, I/O or memory error.
+
+'ipld COMMAND --help' prints the options of a command, with examples.";
 
 // An option without a value or other properties.
 const FLAG: Argument = Argument {
@@ -33,56 +37,56 @@ const BLOCK_CODEC: Argument = Argument {
     name: "codec",
     short: Some('c'),
     kind: Kind::Codec(&["dag-cbor", "dag-pb", "dag-json", "raw"]),
-    help: "What the bytes are: dag-cbor, dag-pb, dag-json or raw",
+    help: "Codec of the block.",
     ..FLAG
 };
 
 const BLOCKS: Argument = Argument {
     name: "files",
     kind: Kind::Words(&["FILE"]),
-    help: "The blocks",
+    help: "Blocks to read.",
     ..FLAG
 };
 
 const JSON_LINES: Argument = Argument {
     name: "json",
-    help: "Write an object of JSON on a line for each",
+    help: "Print JSON objects, one per line.",
     ..FLAG
 };
 
 const LIMIT: Argument = Argument {
     name: "limit",
     kind: Kind::Value("SIZE"),
-    help: "The longest section of a CAR that is read, in bytes, or with K, M or G behind it (8M if not given)",
+    help: "Maximum size of a CAR section, e.g. 512K or 8M. [default: 8M]",
     ..FLAG
 };
 
 const SHOW: Description = Description {
     name: "show",
-    about: "Shows the value of a block, or what stands in it at a path; with --path, of several blocks",
+    about: "Print a block, or the value at a path.",
     more: Some(SHOW_MORE),
     arguments: &[
         Argument {
             name: "words",
             kind: Kind::Words(&["FILE", "PATH"]),
-            help: "The block, and a path: keys of maps and indexes of lists, separated by /, as a/b/0/c",
+            help: "A block or a CAR, and a path: map keys and list indexes, such as a/b/0/c.",
             ..FLAG
         },
         Argument {
             name: "path",
             short: Some('p'),
             kind: Kind::Hyphened("PATH"),
-            help: "The path: each other argument is a block. / shows all of each",
+            help: "Path to print in several files, which are the other arguments. / is the whole block.",
             ..FLAG
         },
         Argument {
             name: "json",
-            help: "Write DAG-JSON on one line, as for jq",
+            help: "Print DAG-JSON on one line, e.g. for jq.",
             ..FLAG
         },
         Argument {
             name: "unchecked",
-            help: "Show a block of a CAR also if its digest isn't that of the CID, or isn't computed here",
+            help: "Print a block of a CAR even if its digest is wrong or its hash function unsupported.",
             ..FLAG
         },
         LIMIT,
@@ -91,30 +95,67 @@ const SHOW: Description = Description {
 };
 
 const SHOW_MORE: &str = "\
-Each value stands on a line. Links are the text of the CID, bytes are hexadecimal digits in h'..', and strings
-are in quotation marks, with control characters escaped. Values deeper than 40 levels are no more indented:
-their lines begin with the level. With --path several blocks are shown, one behind the other.
+Links are printed as CIDs, bytes as hexadecimal digits in h'..', and strings in
+quotation marks, with control characters escaped. Below 40 levels, lines show
+the level number instead of more indentation.
 
-A FILE that begins as a CAR is one, unless --codec is given. Of it the block of the first root is shown, or that of
-the CID with which the path begins; the path goes on through links, by the blocks of the CAR. A link at its end is
-shown as it is. A block is shown only if its digest is that of its CID, as by ipld car extract.";
+A FILE that begins with a CAR header is read as a CAR, unless --codec is given.
+A path that begins with a CID starts in that block, and any other path in the
+block of the first root. The path follows links through the blocks of the CAR.
+If it ends at a link, the CID is printed. Digests are verified, unless
+--unchecked is given.
+
+Examples:
+  $ ipld show photo.cbor
+  {
+    \"name\": \"photo\"
+    \"size\": 42
+  }
+
+  $ ipld show photo.cbor size
+  42
+
+  $ ipld show --json album.cbor
+  {\"photos\":[{\"/\":\"bafyreidl4puu5qgoyaxslyujtbdk5g7ps2j5jziwepjyktvekap6cpeeui\"}],\"title\":\"Cats\"}
+
+  $ ipld show album.car photos/0/name
+  \"photo\"
+
+  $ ipld show --path name photo.cbor cat.cbor
+  \"photo\"
+  \"cat\"";
 
 const LINKS: Description = Description {
     name: "links",
-    about: "Lists the links of blocks, in the order of their bytes",
-    more: None,
+    about: "List the links in blocks.",
+    more: Some(LINKS_MORE),
     arguments: &[BLOCKS, JSON_LINES, BLOCK_CODEC],
 };
 
+const LINKS_MORE: &str = "\
+Links are printed in the order of the block's bytes, or of its sorted keys for
+DAG-JSON. A repeated link is printed again.
+
+Examples:
+  $ ipld links album.cbor
+  bafyreidl4puu5qgoyaxslyujtbdk5g7ps2j5jziwepjyktvekap6cpeeui
+
+  $ ipld links --json photo.cbor album.cbor
+  {\"file\":\"photo.cbor\",\"links\":[]}
+  {\"file\":\"album.cbor\",\"links\":[\"bafyreidl4puu5qgoyaxslyujtbdk5g7ps2j5jziwepjyktvekap6cpeeui\"]}
+
+  $ ipld links --codec dag-pb folder.pb
+  bafkreibxtagdhfi542yoiugdoansdg7652jqkrdql5rxzuivrnrye65tsa";
+
 const CHECK: Description = Description {
     name: "check",
-    about: "Says of each file whether it is a valid block, or where and why it isn't",
-    more: None,
+    about: "Validate blocks.",
+    more: Some(CHECK_MORE),
     arguments: &[
         BLOCKS,
         Argument {
             name: "canonical",
-            help: "Of DAG-CBOR: that keys are sorted too, so that no other bytes stand for the value",
+            help: "Also require sorted map keys (canonical DAG-CBOR).",
             ..FLAG
         },
         JSON_LINES,
@@ -122,39 +163,60 @@ const CHECK: Description = Description {
     ],
 };
 
+const CHECK_MORE: &str = "\
+Valid blocks are listed on standard output, and the first error of an invalid
+block is printed on standard error. --json prints both on standard output.
+
+Examples:
+  $ ipld check photo.cbor album.cbor
+  photo.cbor: valid
+  album.cbor: valid
+
+  $ ipld check --codec dag-pb folder.pb
+  folder.pb: valid
+
+  $ ipld check notes.txt
+  ipld: notes.txt: not valid DAG-CBOR: 4 bytes left over after the value, from byte 9 (it looks like text)
+
+  $ ipld check --canonical unsorted.cbor
+  ipld: unsorted.cbor: valid, but not canonical DAG-CBOR: the keys of a map are not sorted length first
+
+  $ ipld check --json photo.cbor
+  {\"file\":\"photo.cbor\",\"valid\":true}";
+
 const CID: Description = Description {
     name: "cid",
-    about: "Prints the CIDs of files' blocks, or the parts of CIDs",
+    about: "Print a file's CID, or decode a CID.",
     more: Some(CID_MORE),
     arguments: &[
         Argument {
             name: "what",
             kind: Kind::Words(&["FILE|TEXT"]),
-            help: "A file, or the text of a CID",
+            help: "A file, or a CID.",
             ..FLAG
         },
         Argument {
             name: "text",
             short: Some('t'),
-            help: "Each argument is the text of a CID, and - is standard input, with a text on each line",
+            help: "Read all arguments as CIDs, and - as standard input with a CID on every line.",
             ..FLAG
         },
         Argument {
             name: "base",
             short: Some('b'),
             kind: Kind::OneOf("BASE", BASES),
-            help: "Print the text in this base alone",
+            help: "Print only the CID, in this base.",
             ..FLAG
         },
         Argument {
             name: "v0",
-            help: "Print the text of version 0 alone, of DAG-PB",
+            help: "Print only the CID, as version 0 (DAG-PB with SHA2-256).",
             excludes: &["v1"],
             ..FLAG
         },
         Argument {
             name: "v1",
-            help: "Print the text of version 1 alone",
+            help: "Print only the CID, as version 1.",
             ..FLAG
         },
         JSON_LINES,
@@ -163,10 +225,37 @@ const CID: Description = Description {
 };
 
 const CID_MORE: &str = "\
-TEXT is a CID in any of its bases, with /ipfs/ before it or not. What is no CID is the name of a file, whose
-block's CID is printed: version 1, SHA2-256. A file whose name is a CID is written ./NAME. A codec is for a file.
-Of a text each part is printed on a line, with --base, --v0 or --v1 its text alone. Version 0 has CIDs of DAG-PB with
-SHA2-256 alone, in base58btc.";
+An argument that is a CID, with or without /ipfs/ before it, is decoded. Any
+other argument is a file, whose block gets a CID with SHA2-256, of version 1
+unless --v0 is given. For a file whose name is a CID, write ./NAME. --codec
+applies only to files. A CID of version 0 is always written in base58btc.
+
+Examples:
+  $ ipld cid photo.cbor
+  bafyreidl4puu5qgoyaxslyujtbdk5g7ps2j5jziwepjyktvekap6cpeeui
+
+  $ ipld cid --codec raw notes.txt
+  bafkreibxtagdhfi542yoiugdoansdg7652jqkrdql5rxzuivrnrye65tsa
+
+  $ ipld cid bafkqaaa
+  cid         bafkqaaa
+  version     1
+  codec       raw (0x55)
+  hash        identity (0x0)
+  digest
+  bytes       01550000
+  base16      f01550000
+  base32      bafkqaaa
+  base32upper BAFKQAAA
+  base36      kdaznk
+  base58btc   z2yYDV
+  base64url   uAVUAAA
+
+  $ ipld cid --base base16 bafkreibxtagdhfi542yoiugdoansdg7652jqkrdql5rxzuivrnrye65tsa
+  f0155122037980c33951de6b0e450c3701b219bfeee930544705f637cd1158b63827bb390
+
+  $ ipld cid --v0 bafybeidywu7sffpdpcbsxcmoq47gi2qrjhp7litv4pa52rxmfsx3yz3dh4
+  QmWTqvpQAeDQYZEHoYSbhoUvWY3SCJPehPBHiu5LfcPNAa";
 
 /// The commands on blocks and CIDs.
 pub(super) const BLOCK_COMMANDS: &[Description] = &[SHOW, LINKS, CHECK, CID];
@@ -177,164 +266,213 @@ pub(super) const FORM: &str = "form";
 /// The command that lists a CAR.
 pub(super) const LIST: Description = Description {
     name: "car",
-    about: "Lists the blocks of a CAR file (a file of blocks, each behind its CID), or says what is missing or wrong in it",
+    about: "List, verify, extract and create CAR files.",
     more: Some(LIST_MORE),
     arguments: &[
         Argument {
             name: "files",
             kind: Kind::Words(&["FILE"]),
-            help: "The CAR; with --missing several, which count as one",
+            help: "A CAR, or with --missing one or more.",
             ..FLAG
         },
         Argument {
             name: "links",
-            help: "Each link, behind the block that has it",
+            help: "List the links: a CID and a link of its block on every line.",
             groups: &[FORM],
             ..FLAG
         },
         Argument {
             name: "missing",
-            help: "Each root and link whose block isn't in the file",
+            help: "List roots and links whose block is not in the files.",
             groups: &[FORM],
             ..FLAG
         },
         Argument {
             name: "dot",
-            help: "The graph, for Graphviz",
+            help: "Print the graph for Graphviz.",
             groups: &[FORM],
             ..FLAG
         },
         Argument {
             name: "verify",
-            help: "Each block whose digest isn't that of its CID, or whose hash function isn't computed here",
+            help: "List blocks whose digest is wrong or whose hash function is unsupported.",
             groups: &[FORM],
             ..FLAG
         },
         Argument {
             name: "known",
-            help: "With --verify: blocks whose hash function isn't computed here don't count for the status",
+            help: "With --verify, ignore unsupported hash functions in the exit status.",
             needs: &["verify"],
             excludes: &["links", "missing", "dot"],
             ..FLAG
         },
         Argument {
             name: "json",
-            help: "An object of JSON on a line for each block; with --missing or --verify for each that they list",
+            help: "Print JSON objects, one per line.",
             excludes: &["links", "dot"],
             ..FLAG
         },
         LIMIT,
         Argument {
             name: "progress",
-            help: "Say on standard error how many bytes were read, and the time left, once a second",
+            help: "Print the bytes read and the time left on standard error, once a second.",
             ..FLAG
         },
     ],
 };
 
 const LIST_MORE: &str = "\
-Without an option a line says the version, one each root (the CIDs that the file is for), and one each block: its
-CID, codec, size and number of links. A block that is none of its codec has its line too, without links: what is
-wrong with it is on standard error, with --json in its object, and the status is 1. So it is with --missing, also of
-a CID that carries its block, where that is none of its codec. With --missing and --json a block that is missing is
-{\"missing\":CID}, with --verify and --json one that isn't its CID's {\"cid\":CID,\"offset\":N,\"error\":\"WrongDigest\"}, or
-\"UnknownHash\" and \"hash\", the code of the hash function. --verify compares the index of a CAR of version 2 with its
-blocks too, but not of standard input. A file named extract or create is written ./extract or ./create.";
+Without an option, ipld prints the version, the roots, and a line for every
+block: its CID, codec, size and number of links. If a block is invalid for its
+codec, or the codec is unsupported, its line has a note instead of the number.
+
+The error of an invalid block is printed on standard error, or with --json in
+its object, and the status is 1. --missing prints these errors too, also those
+of blocks inside identity CIDs.
+
+--verify also compares the index of a CAR of version 2 with the blocks, except
+for standard input and pipes. Supported hash functions are SHA2-256, SHA2-512
+and identity. To read a file named extract or create, write ./extract or
+./create.
+
+JSON objects:
+  --json            {\"version\":1,\"roots\":[..]}, then for every block
+                    {\"cid\":..,\"codec\":..,\"offset\":..,\"size\":..,\"links\":[..]}.
+                    An invalid block has \"error\" and \"at\" instead of \"links\",
+                    and a block of an unsupported codec has no \"links\".
+  --missing --json  {\"missing\":\"CID\"}
+  --verify --json   {\"cid\":..,\"offset\":..,\"error\":\"WrongDigest\"}, or \"UnknownHash\"
+                    with \"hash\", or the index errors \"NotIndexed\" and \"WrongEntry\".
+
+Examples:
+  $ ipld car album.car
+  version 1
+  root bafyreidglldmsjx73lvndeob54rzgouut6j7sxzoxr4zatpbydx7btmfpa
+  bafyreidglldmsjx73lvndeob54rzgouut6j7sxzoxr4zatpbydx7btmfpa dag-cbor 61 bytes, 1 links
+  bafyreidl4puu5qgoyaxslyujtbdk5g7ps2j5jziwepjyktvekap6cpeeui dag-cbor 19 bytes, 0 links
+
+  $ ipld car --missing part.car
+  bafyreidl4puu5qgoyaxslyujtbdk5g7ps2j5jziwepjyktvekap6cpeeui
+
+  $ ipld car --missing part.car album.car && echo complete
+  complete
+
+  $ ipld car --verify album.car && echo verified
+  verified
+
+  $ ipld car --missing --json part.car
+  {\"missing\":\"bafyreidl4puu5qgoyaxslyujtbdk5g7ps2j5jziwepjyktvekap6cpeeui\"}";
 
 const EXTRACT: Description = Description {
     name: "extract",
-    about: "Writes the bytes of the blocks of CIDs",
+    about: "Write the blocks of these CIDs.",
     more: Some(EXTRACT_MORE),
     arguments: &[
         Argument {
             name: "file",
             kind: Kind::Word("FILE"),
-            help: "The CAR",
+            help: "A CAR.",
             ..FLAG
         },
         Argument {
             name: "cids",
             kind: Kind::Words(&["CID"]),
-            help: "The CIDs of the blocks; without -d one",
+            help: "CIDs of the blocks. Without -d, only one.",
             ..FLAG
         },
         Argument {
             name: "directory",
             short: Some('d'),
             kind: Kind::Value("DIR"),
-            help: "Write each block to a file named by its CID in this folder, which has to be there",
+            help: "Write blocks to files in this existing folder, named by their CIDs.",
             ..FLAG
         },
         Argument {
             name: "force",
-            help: "With -d: replace files that are there",
+            help: "With -d, replace existing files.",
             needs: &["directory"],
             ..FLAG
         },
         LIMIT,
         Argument {
             name: "unchecked",
-            help: "Write a block also if its digest isn't that of the CID, or isn't computed here",
+            help: "Write a block even if its digest is wrong or its hash function unsupported.",
             ..FLAG
         },
     ],
 };
 
 const EXTRACT_MORE: &str = "\
-A block is written only if its digest is that of the CID. The hash functions that are computed are SHA2-256, SHA2-512
-and identity. With -d a file that is there stays, but with --force; each is written to a file of another name in the
-same folder, and renamed once it is whole. The index of a CAR of version 2 is used, and what it leads to compared; what
-it doesn't lead to is looked for in the whole file.";
+Without -d, the block is written to standard output. Its digest must match the
+CID, unless --unchecked is given. Supported hash functions are SHA2-256,
+SHA2-512 and identity.
+
+With -d, existing files are kept unless --force is given. A block is written to
+a temporary file in the same folder, which is renamed when it is complete.
+
+Unless --unchecked is given, the index of a CAR of version 2 is used, but not
+trusted. If it does not lead to a block with the CID, ipld searches the file.
+
+Examples:
+  $ ipld car extract album.car $(ipld cid photo.cbor) | ipld show - name
+  \"photo\"
+
+  $ ipld car extract -d blocks album.car $(ipld links album.cbor)
+  $ ls blocks
+  bafyreidl4puu5qgoyaxslyujtbdk5g7ps2j5jziwepjyktvekap6cpeeui
+
+  $ ipld car extract album.car $(ipld cid photo.cbor) | cmp - photo.cbor && echo same
+  same";
 
 const CREATE: Description = Description {
     name: "create",
-    about: "Makes a CAR file of blocks and of other CAR files",
+    about: "Create a CAR from blocks and other CARs.",
     more: Some(CREATE_MORE),
     arguments: &[
         Argument {
             name: "files",
             kind: Kind::Words(&["FILE"]),
-            help: "The blocks, and as car:FILE whole CARs",
+            help: "Blocks to include, and car:FILE for all blocks of a CAR.",
             ..FLAG
         },
         Argument {
             name: "output",
             short: Some('o'),
             kind: Kind::Required("CAR"),
-            help: "The CAR that is made, or - for standard output",
+            help: "File to create, or - for standard output.",
             ..FLAG
         },
         Argument {
             name: "force",
-            help: "Replace the CAR if it is there",
+            help: "Replace the file if it exists.",
             ..FLAG
         },
         Argument {
             name: "root",
             kind: Kind::Repeated("CID"),
-            help: "A root of the CAR; without it each block that no other links to is one",
+            help: "A root of the CAR. [default: the roots of CARs, and files that no other block links to]",
             ..FLAG
         },
         Argument {
             name: "only",
             kind: Kind::Repeated("CID"),
-            help: "Take this block alone, and those that are reached from it; without --root it is a root",
+            help: "Include only this block and its descendants (also a root, unless --root is given).",
             ..FLAG
         },
         Argument {
             name: "unchecked",
-            help: "Take blocks of a CAR as they are: of another digest than their CID's, of one that isn't computed here, none of their codec",
+            help: "Include the blocks of CARs without a check of their digest and content.",
             ..FLAG
         },
         Argument {
             name: "index",
-            help: "Write version 2, with an index of the blocks (MultihashIndexSorted)",
+            help: "Create version 2, with an index (MultihashIndexSorted).",
             ..FLAG
         },
         Argument {
             name: "split",
             kind: Kind::Value("SIZE"),
-            help: "Make several CARs of at most so many bytes, NAME-0.car, NAME-1.car and so on of NAME.car",
+            help: "Create CARs of at most this size: NAME-0.car and so on for NAME.car, DIR/0.car for DIR/.",
             ..FLAG
         },
         LIMIT,
@@ -343,17 +481,51 @@ const CREATE: Description = Description {
 };
 
 const CREATE_MORE: &str = "\
-FILE is a block of the codec of --codec; CODEC:FILE, as dag-pb:FILE, one of that codec; car:FILE a CAR, whose blocks
-are taken. A block that comes twice stands once. A file whose name begins so is written ./NAME. --root and --only
-may be given several times.
+FILE is a block of the codec that --codec names. CODEC:FILE is a block of that
+codec, e.g. dag-pb:FILE, and car:FILE is a CAR. To read a file whose name begins
+with such a prefix, write ./NAME. A block that occurs twice is written once.
+--root and --only can be given several times.
 
-What is made can be read with the same --limit: where its header would be longer, since so many blocks are roots, or
-the section of a block, nothing is written. --root names fewer roots.
+The roots are those of all CARs, in order, and the blocks of files that no other
+block links to. If there are no such roots, they are all blocks that no other
+block links to.
 
-Without --force a file that is there stays. The CAR is written to a file of another name in the same folder, and
-renamed once it is whole; where that fails, nothing is left of it. No file is both read and written. A device or
-a pipe is written to as it is. With --split no block is cut: one that has more bytes alone than SIZE has a CAR of its
-own. Each CAR has all roots.";
+ipld can read the new CAR with the same --limit. If its header or one of its
+blocks would be larger, nothing is written. A CAR with many roots has a large
+header, and --root names fewer.
+
+An existing file is kept unless --force is given. The CAR is written to the
+temporary file .NAME.ipld-PID in the same folder, which is renamed when it is
+complete and removed if writing fails. If ipld is killed, the file stays, and
+the next run with the same output removes it. No file is both read and written.
+A device or a pipe is written to directly.
+
+--split does not cut blocks. A block larger than SIZE gets a CAR of its own.
+A CAR has only the roots whose blocks it contains. SIZE must be at least the
+size of its header.
+
+Examples:
+  $ ipld car create -o new.car album.cbor photo.cbor
+  $ ipld car new.car
+  version 1
+  root bafyreidglldmsjx73lvndeob54rzgouut6j7sxzoxr4zatpbydx7btmfpa
+  bafyreidglldmsjx73lvndeob54rzgouut6j7sxzoxr4zatpbydx7btmfpa dag-cbor 61 bytes, 1 links
+  bafyreidl4puu5qgoyaxslyujtbdk5g7ps2j5jziwepjyktvekap6cpeeui dag-cbor 19 bytes, 0 links
+
+  $ ipld car create -o all.car car:album.car raw:notes.txt dag-pb:folder.pb
+  $ ipld car --missing all.car && echo complete
+  complete
+
+  $ ipld car create -o two.car --index photo.cbor
+  $ ipld car two.car
+  version 2
+  root bafyreidl4puu5qgoyaxslyujtbdk5g7ps2j5jziwepjyktvekap6cpeeui
+  bafyreidl4puu5qgoyaxslyujtbdk5g7ps2j5jziwepjyktvekap6cpeeui dag-cbor 19 bytes, 0 links
+
+  $ ipld car create -o both.car --split 150 photo.cbor cat.cbor
+  $ ls both-*
+  both-0.car
+  both-1.car";
 
 /// The commands that read or write the blocks of CARs.
 pub(super) const CAR_COMMANDS: &[Description] = &[EXTRACT, CREATE];
@@ -361,51 +533,68 @@ pub(super) const CAR_COMMANDS: &[Description] = &[EXTRACT, CREATE];
 /// The command that makes a block.
 pub(super) const ENCODE: Description = Description {
     name: "encode",
-    about: "Makes a block of DAG-JSON, as show --json writes it",
+    about: "Convert DAG-JSON to a block.",
     more: Some(ENCODE_MORE),
     arguments: &[
         Argument {
             name: "file",
             kind: Kind::Word("FILE"),
-            help: "The DAG-JSON",
+            help: "DAG-JSON to read.",
             ..FLAG
         },
         Argument {
             name: "output",
             short: Some('o'),
             kind: Kind::Value("BLOCK"),
-            help: "The block that is made, or - for standard output, as without it",
+            help: "File to create, or - for standard output. [default: -]",
             ..FLAG
         },
         Argument {
             name: "force",
-            help: "With -o: replace the file if it is there",
+            help: "With -o, replace the file if it exists.",
             needs: &["output"],
             ..FLAG
         },
         Argument {
             name: "canonical",
-            help: "Read only the text that is written of its value",
+            help: "Require canonical DAG-JSON, without a line feed at the end.",
             ..FLAG
         },
         Argument {
             name: "codec",
             short: Some('c'),
             kind: Kind::Codec(&["dag-cbor", "dag-json", "raw"]),
-            help: "What the block is: dag-cbor, dag-json or raw",
+            help: "Codec of the block.",
             ..FLAG
         },
     ],
 };
 
 const ENCODE_MORE: &str = "\
-A link is {\"/\":\"CID\"}, with the CID's text in base32 of version 1 and in base58btc of version 0, and bytes are
-{\"/\":{\"bytes\":\"..\"}}, in base64 without padding. Blanks, escapes and the order of keys are free, and no key may come
-twice; with --canonical the file has to be the text that is written of its value. A number with a fraction or an exponent
-is the nearest float of 64 bits, and any other an integer from -2^64 to 2^64 - 1. Arrays and objects nest at most 1024
-levels deep.
+A link is {\"/\":\"CID\"}, with a CID in base32 (version 1) or base58btc (version
+0). Bytes are {\"/\":{\"bytes\":\"..\"}}, in base64 without padding. The text can
+have whitespace, escapes, and keys in any order, but no duplicate keys.
 
-The codec dag-json writes the canonical text, and raw the bytes of a value that is bytes. With either a float is an error.
+A number with a fraction or an exponent becomes the nearest 64-bit float. Any
+other number is an integer from -2^64 to 2^64 - 1, or with --codec dag-json of
+128 bits. Arrays and objects nest at most 1024 levels deep.
 
-Without --force a file that is there stays. The block is written to a file of another name in the same folder, and
-renamed once it is whole.";
+--codec dag-json writes canonical DAG-JSON. --codec raw requires a value that is
+bytes, and writes these bytes. Both reject floats.
+
+An existing file is kept unless --force is given. The block is written to a
+temporary file in the same folder, which is renamed when it is complete.
+
+Examples:
+  $ echo '{\"name\":\"photo\",\"size\":42}' | ipld encode -o new.cbor -
+  $ ipld cid new.cbor
+  bafyreidl4puu5qgoyaxslyujtbdk5g7ps2j5jziwepjyktvekap6cpeeui
+
+  $ ipld show --json photo.cbor | ipld encode - | cmp - photo.cbor && echo same
+  same
+
+  $ echo '{\"/\":{\"bytes\":\"aGVsbG8K\"}}' | ipld encode --codec raw -
+  hello
+
+  $ echo '{\"a\":1,\"a\":2}' | ipld encode -
+  ipld: -: line 1, column 8 (byte 7): duplicate key \"a\"";

@@ -28,9 +28,14 @@ pub struct DigestExplanation(pub VerifyError);
 impl fmt::Display for DigestExplanation {
     fn fmt<W: fmt::Write>(&self, f: &mut fmt::Formatter<W>) -> fmt::Result {
         match self.0 {
-            VerifyError::WrongDigest => f.write_str("the block has another digest"),
+            VerifyError::WrongDigest => f.write_str(
+                "the digest of the block is wrong (--unchecked takes the block as it is)",
+            ),
             VerifyError::UnknownHash(code) => {
-                write!(f, "the hash function 0x{code:x} is not computed here")
+                write!(
+                    f,
+                    "the hash function 0x{code:x} is not supported (--unchecked takes the block as it is)"
+                )
             }
         }
     }
@@ -49,25 +54,31 @@ impl<'a> fmt::Display for SectionExplanation<'a> {
             offset,
         } = self.0;
         match kind {
+            CarErrorKind::Memory => f.write_str("out of memory")?,
+            CarErrorKind::Read(error) => write!(f, "cannot read the file: {error}")?,
             CarErrorKind::UnexpectedEnd => write!(
                 f,
-                "the file or its payload ends within the section that begins at byte {section}, at byte {offset}"
-            ),
-            CarErrorKind::LengthNotShortest => write!(
-                f,
-                "the length of a section is no shortest varint at byte {offset}"
-            ),
-            CarErrorKind::LengthTooLarge => write!(
-                f,
-                "the length of a section is 2^64 or more at byte {offset}"
-            ),
-            CarErrorKind::Empty => write!(f, "a section has the length zero at byte {offset}"),
+                "truncated: the section that begins at byte {section} is cut off"
+            )?,
+            CarErrorKind::ShortPayload { expected, found } => write_short_payload(
+                f, *expected, *found,
+            )?,
+            CarErrorKind::LengthNotShortest => {
+                f.write_str("the section length is not a minimal varint")?;
+            }
+            CarErrorKind::LengthTooLarge => f.write_str("the section length is 2^64 or more")?,
+            CarErrorKind::Empty => f.write_str("the section length is zero")?,
             CarErrorKind::TooLong(length) => write!(
                 f,
-                "a section has {length} bytes, more than the limit, which --limit sets, at byte {offset}"
-            ),
-            _ => write!(f, "{}", self.0),
+                "the section is {length} bytes, over the limit (raise it with --limit),"
+            )?,
+            CarErrorKind::Cid(error) => write!(
+                f,
+                "the section does not begin with a CID: {error:#}"
+            )?,
+            kind => write!(f, "{kind}")?,
         }
+        write!(f, " at byte {offset}")
     }
 }
 
@@ -95,20 +106,30 @@ impl<'a> OpeningExplanation<'a> {
     fn write_kind<W: fmt::Write>(&self, f: &mut fmt::Formatter<W>) -> fmt::Result {
         match &self.error.kind {
             CarErrorKind::UnexpectedEnd => {
-                f.write_str("the file or its payload ends within the header")
+                f.write_str("not a CAR, or truncated: the header is cut off")
             }
+            CarErrorKind::ShortPayload { expected, found } => write_short_payload(
+                f, *expected, *found,
+            ),
             CarErrorKind::LengthNotShortest => {
-                f.write_str("the length of the header is no shortest varint")
+                f.write_str("not a CAR: the header length is not a minimal varint")
             }
             CarErrorKind::LengthTooLarge => {
-                f.write_str("the length of the header is 2^64 or more")
+                f.write_str("not a CAR: the header length is 2^64 or more")
             }
-            CarErrorKind::Empty => f.write_str("the header has the length zero"),
+            CarErrorKind::Empty => f.write_str("not a CAR: the header length is zero"),
             CarErrorKind::TooLong(length) => write!(
                 f,
-                "the header has {length} bytes, more than the limit, which --limit sets,"
+                "the CAR header is {length} bytes, over the limit (raise it with --limit),"
             ),
-            CarErrorKind::HeaderBlock(_) | CarErrorKind::NotAHeader => self.write_header(f),
+            CarErrorKind::HeaderBlock(_) | CarErrorKind::NotAHeader => {
+                f.write_str("not a CAR: ")?;
+                self.write_header(f)
+            }
+            CarErrorKind::Payload => f.write_str(
+                "invalid CAR header of version 2: the payload offset or size is out of range",
+            ),
+            CarErrorKind::Read(error) => write!(f, "cannot read the file: {error}"),
             kind => write!(f, "{kind}"),
         }
     }
@@ -126,7 +147,7 @@ impl<'a> OpeningExplanation<'a> {
                 let why = Explanation::new(self.alloc, block, why);
                 write!(f, "the header is {why} of the block")
             }
-            _ => f.write_str("the header has a float, or nests deeper than a list of links does,"),
+            _ => f.write_str("the header has a float or too many levels"),
         }
     }
 }
@@ -143,6 +164,18 @@ impl<'a> fmt::Display for OpeningExplanation<'a> {
     }
 }
 
+// Writes that a file of version 2 is too short for its payload.
+fn write_short_payload<W: fmt::Write>(
+    f: &mut fmt::Formatter<W>,
+    expected: u64,
+    found: u64,
+) -> fmt::Result {
+    write!(
+        f,
+        "truncated: the payload should be {expected} bytes, and the file has {found} of them"
+    )
+}
+
 // Returns the block of a header, if the buffer contains all of it.
 fn header_block<'a>(beginning: &'a [u8], error: &CarError) -> Option<&'a [u8]> {
     let begin = error.offset as usize;
@@ -157,33 +190,33 @@ fn header_block<'a>(beginning: &'a [u8], error: &CarError) -> Option<&'a [u8]> {
 // Writes why a block is not a header.
 fn write_fields<W: fmt::Write>(f: &mut fmt::Formatter<W>, block: &[u8]) -> fmt::Result {
     let ItemStart::Map(fields) = item_start(block) else {
-        return write!(f, "the header is {}, and no map,", item_start(block));
+        return write!(f, "the header is {} instead of a map", item_start(block));
     };
     match value_at(block, "version") {
         Ok(version) => match item_start(version) {
             ItemStart::Unsigned(1) => write_roots(f, block, fields),
             ItemStart::Unsigned(number) => {
-                write!(f, "the header has the version {number}, and not 1,")
+                write!(f, "the version in the header is {number} instead of 1")
             }
-            start => write!(f, "the version of the header is {start}, and not 1,"),
+            start => write!(f, "the version in the header is {start} instead of 1"),
         },
-        Err(_) => f.write_str("the header has no version"),
+        Err(_) => f.write_str("the header has no field \"version\""),
     }
 }
 
 // Writes why a map of `fields` fields is not a header, apart from its version.
 fn write_roots<W: fmt::Write>(f: &mut fmt::Formatter<W>, block: &[u8], fields: u64) -> fmt::Result {
     let Ok(roots) = value_at(block, "roots") else {
-        return f.write_str("the header has no roots");
+        return f.write_str("the header has no field \"roots\"");
     };
     match item_start(roots) {
         ItemStart::List(_) if fields > 2 => {
-            f.write_str("the header has other fields than roots and version")
+            f.write_str("the header has a field other than \"roots\" and \"version\"")
         }
-        ItemStart::List(_) => f.write_str("a root in the header is no link"),
+        ItemStart::List(_) => f.write_str("a root in the header is not a link"),
         start => write!(
             f,
-            "the roots in the header are {start}, and no list of links,"
+            "the roots in the header are {start} instead of a list of links"
         ),
     }
 }

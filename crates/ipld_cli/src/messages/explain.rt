@@ -1,10 +1,10 @@
 //! A sentence about the byte at which a block is invalid.
 
+use crate::messages::json_error::JsonExplanation;
 use crate::messages::start::{ItemStart, item_start};
-use crate::messages::text_place::TextPlace;
+use car_files::InvalidReason;
 use dag_cbor::item::read_key;
 use dag_cbor::{BlockErrorKind, CborError};
-use dag_json::{ReadError, floats};
 use ipld_block::{BlockCodec, CheckError, InvalidBlock, check};
 use std::alloc::Global;
 use std::fmt;
@@ -25,7 +25,7 @@ pub struct Explanation<'a> {
     block: &'a [u8],
     why: InvalidBlock,
     // Whether the tag of a link is right before the error.
-    is_behind_tag: bool,
+    is_after_tag: bool,
 }
 
 impl<'a> Explanation<'a> {
@@ -34,21 +34,21 @@ impl<'a> Explanation<'a> {
     /// It allocates if the error is in DAG-CBOR and follows bytes that may be the tag of a link.
     /// The bytes before the tag are then read once more.
     pub fn new(alloc: Global, block: &'a [u8], why: InvalidBlock) -> Self {
-        let is_behind_tag = match why {
-            InvalidBlock::Cbor(error) => is_behind_tag(alloc, block, error.offset),
+        let is_after_tag = match why {
+            InvalidBlock::Cbor(error) => is_after_tag(alloc, block, error.offset),
             InvalidBlock::Pb(_) | InvalidBlock::Json(_) | InvalidBlock::NotCanonical => false,
         };
         Explanation {
             block,
             why,
-            is_behind_tag,
+            is_after_tag,
         }
     }
 }
 
 // Returns whether the tag of a link is right before this byte. It is if the bytes before the tag
 // end where an item has to begin.
-fn is_behind_tag(alloc: Global, block: &[u8], offset: usize) -> bool {
+fn is_after_tag(alloc: Global, block: &[u8], offset: usize) -> bool {
     let Some(before) = block.get(..offset) else {
         return false;
     };
@@ -67,15 +67,21 @@ impl<'a> fmt::Display for Explanation<'a> {
     fn fmt<W: fmt::Write>(&self, f: &mut fmt::Formatter<W>) -> fmt::Result {
         let error = match self.why {
             InvalidBlock::Cbor(error) => error,
-            InvalidBlock::Json(error) => return self.write_json(f, error),
-            why => return why.fmt(f),
+            InvalidBlock::Json(error) => {
+                f.write_str("not valid DAG-JSON: ")?;
+                return JsonExplanation::new(self.block, error).fmt(f);
+            }
+            why => return InvalidReason(&why).fmt(f),
         };
         let Some(item) = self.block.get(error.offset..) else {
-            return self.why.fmt(f);
+            return InvalidReason(&self.why).fmt(f);
         };
         let offset = error.offset;
-        f.write_str("no block of DAG-CBOR: ")?;
+        f.write_str("not valid DAG-CBOR: ")?;
         match error.kind {
+            BlockErrorKind::Cbor(CborError::TrailingBytes) => {
+                return write_trailing(f, item.len(), offset);
+            }
             BlockErrorKind::Cbor(kind) => self.write_cbor(f, kind, item)?,
             kind => write!(f, "{kind:#}")?,
         }
@@ -84,18 +90,6 @@ impl<'a> fmt::Display for Explanation<'a> {
 }
 
 impl<'a> Explanation<'a> {
-    // Writes the error of the text, and its line.
-    fn write_json<W: fmt::Write>(
-        &self,
-        f: &mut fmt::Formatter<W>,
-        error: ReadError,
-    ) -> fmt::Result {
-        let place = TextPlace::of_offset(self.block, error.offset);
-        let why = floats::describe(error.kind);
-        let offset = error.offset;
-        write!(f, "no block of DAG-JSON: {place}: {why} at byte {offset}")
-    }
-
     // Writes the error of the item.
     fn write_cbor<W: fmt::Write>(
         &self,
@@ -106,11 +100,18 @@ impl<'a> Explanation<'a> {
         match kind {
             CborError::Unsupported => write_unsupported(f, item_start(item)),
             CborError::Float => self.write_float(f, item),
-            CborError::KeyNotText => { write!(f, "{} as the key of a map", item_start(item)) }
+            CborError::KeyNotText => {
+                write!(
+                    f,
+                    "{} as a map key (only strings are allowed)",
+                    item_start(item)
+                )
+            }
             CborError::LinkBytes => write_link_bytes(f, item),
             CborError::End => write_end(f, item),
             CborError::NotShortest => write_not_shortest(f, item_start(item)),
             CborError::DuplicateKey => write_duplicate_key(f, item),
+            CborError::Cid(error) => write!(f, "invalid link: not a CID: {error:#}"),
             _ => write!(f, "{kind:#}"),
         }
     }
@@ -120,14 +121,14 @@ impl<'a> Explanation<'a> {
         match item_start(item) {
             ItemStart::Float(64) => {}
             ItemStart::Float(bits) => {
-                return write!(f, "a float of {bits} bits (DAG-CBOR has 64 alone)");
+                return write!(f, "a {bits}-bit float (DAG-CBOR has only 64-bit floats)");
             }
             start => return write!(f, "{start}"),
         }
         f.write_str(match special_float(item) {
             Some(name) => name,
-            None if self.is_behind_tag => "a float behind the tag of a link",
-            None => "a float as the key of a map",
+            None if self.is_after_tag => "invalid link: a float after tag 42",
+            None => "a float as a map key (only strings are allowed)",
         })
     }
 }
@@ -148,17 +149,17 @@ fn special_float(item: &[u8]) -> Option<&'static str> {
 // Writes an item that DAG-CBOR doesn't allow.
 fn write_unsupported<W: fmt::Write>(f: &mut fmt::Formatter<W>, start: ItemStart) -> fmt::Result {
     match start {
-        ItemStart::Tag(2 | 3) => write!(f, "a bignum, {start} (DAG-CBOR has tag 42 alone)"),
-        ItemStart::Tag(_) => write!(f, "{start} (DAG-CBOR has tag 42 alone)"),
+        ItemStart::Tag(2 | 3) => write!(f, "a bignum, {start} (DAG-CBOR has only tag 42)"),
+        ItemStart::Tag(_) => write!(f, "{start} (DAG-CBOR has only tag 42)"),
         ItemStart::Undefined | ItemStart::Simple(_) => {
-            write!(f, "{start} (DAG-CBOR has false, true and null alone)")
+            write!(f, "{start} (DAG-CBOR has only false, true and null)")
         }
         ItemStart::IndefiniteBytes
         | ItemStart::IndefiniteText
         | ItemStart::IndefiniteList
-        | ItemStart::IndefiniteMap => write!(f, "{start} (DAG-CBOR has none)"),
+        | ItemStart::IndefiniteMap => write!(f, "{start} (not allowed in DAG-CBOR)"),
         // The number of a simple value is missing.
-        ItemStart::Cut => f.write_str("a simple value (DAG-CBOR has false, true and null alone)"),
+        ItemStart::Cut => f.write_str("a simple value (DAG-CBOR has only false, true and null)"),
         _ => write!(f, "{start}"),
     }
 }
@@ -166,11 +167,11 @@ fn write_unsupported<W: fmt::Write>(f: &mut fmt::Formatter<W>, start: ItemStart)
 // Writes the item after the tag of a link that is not a byte string of a CID.
 fn write_link_bytes<W: fmt::Write>(f: &mut fmt::Formatter<W>, item: &[u8]) -> fmt::Result {
     match item_start(item) {
-        ItemStart::Bytes(0) => f.write_str("an empty byte string behind the tag of a link"),
+        ItemStart::Bytes(0) => f.write_str("invalid link: an empty byte string after tag 42"),
         ItemStart::Bytes(_) => f.write_str(
-            "a byte string behind the tag of a link does not begin with a zero byte",
+            "invalid link: the byte string after tag 42 does not begin with 0x00",
         ),
-        start => write!(f, "{start} behind the tag of a link"),
+        start => write!(f, "invalid link: {start} after tag 42"),
     }
 }
 
@@ -193,6 +194,19 @@ fn write_end<W: fmt::Write>(f: &mut fmt::Formatter<W>, item: &[u8]) -> fmt::Resu
     }
 }
 
+// Writes how many bytes follow the value.
+fn write_trailing<W: fmt::Write>(
+    f: &mut fmt::Formatter<W>,
+    len: usize,
+    offset: usize,
+) -> fmt::Result {
+    let unit = if len == 1 { "byte" } else { "bytes" };
+    write!(
+        f,
+        "{len} {unit} left over after the value, from byte {offset}"
+    )
+}
+
 // Writes an argument that is not in its shortest form.
 fn write_not_shortest<W: fmt::Write>(f: &mut fmt::Formatter<W>, start: ItemStart) -> fmt::Result {
     match start.argument() {
@@ -204,9 +218,7 @@ fn write_not_shortest<W: fmt::Write>(f: &mut fmt::Formatter<W>, start: ItemStart
 // Writes a key that the map has already.
 fn write_duplicate_key<W: fmt::Write>(f: &mut fmt::Formatter<W>, item: &[u8]) -> fmt::Result {
     match read_key(item) {
-        Ok((key, _)) if key.len() <= SHORT_KEY => {
-            write!(f, "the key {key:?} stands in a map for the second time")
-        }
-        _ => f.write_str("a key stands in a map for the second time"),
+        Ok((key, _)) if key.len() <= SHORT_KEY => { write!(f, "duplicate map key {key:?}") }
+        _ => f.write_str("duplicate map key"),
     }
 }

@@ -30,15 +30,17 @@ impl fmt::Display for Hint {
     fn fmt<W: fmt::Write>(&self, f: &mut fmt::Formatter<W>) -> fmt::Result {
         f.write_str(match self {
             Hint::Unknown => "",
-            Hint::Empty => " (there are no bytes)",
+            Hint::Empty => " (the file is empty)",
             Hint::Car => " (it is a CAR file: ipld car reads it)",
-            Hint::Block(BlockCodec::DagCbor) => " (it is a block of DAG-CBOR: --codec dag-cbor)",
-            Hint::Block(BlockCodec::DagPb) => " (it is a block of DAG-PB: --codec dag-pb)",
-            Hint::Block(BlockCodec::DagJson) => " (it is a block of DAG-JSON: --codec dag-json)",
+            Hint::Block(BlockCodec::DagCbor) =>
+                " (it is a block of DAG-CBOR: use --codec dag-cbor)",
+            Hint::Block(BlockCodec::DagPb) => " (it is a block of DAG-PB: use --codec dag-pb)",
+            Hint::Block(BlockCodec::DagJson) =>
+                " (it is a block of DAG-JSON: use --codec dag-json)",
             Hint::Block(BlockCodec::Raw) => "",
             Hint::NoCar => " (it is a block of DAG-CBOR: ipld show reads it)",
             Hint::CidText => " (it is the text of a CID: ipld cid --text reads it)",
-            Hint::Text => " (it is text)",
+            Hint::Text => " (it looks like text)",
         })
     }
 }

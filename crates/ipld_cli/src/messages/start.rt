@@ -138,7 +138,7 @@ pub fn item_start(bytes: &[u8]) -> ItemStart {
 impl fmt::Display for ItemStart {
     fn fmt<W: fmt::Write>(&self, f: &mut fmt::Formatter<W>) -> fmt::Result {
         f.write_str(match self {
-            ItemStart::Cut => "an item that is cut",
+            ItemStart::Cut => "a truncated item",
             ItemStart::Unsigned(_) | ItemStart::Negative(_) => "an integer",
             ItemStart::Bytes(_) => "a byte string",
             ItemStart::Text(_) => "a text string",

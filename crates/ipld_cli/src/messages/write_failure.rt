@@ -11,8 +11,8 @@ impl fmt::Display for WriteFailure {
     fn fmt<W: fmt::Write>(&self, f: &mut fmt::Formatter<W>) -> fmt::Result {
         match self.0 {
             // The system reports a closed output, among other errors, by this kind.
-            ErrorKind::Uncategorized => f.write_str("the output failed; it may be closed"),
-            kind => write!(f, "the output failed: {kind}"),
+            ErrorKind::Uncategorized => f.write_str("cannot write: the output may be closed"),
+            kind => write!(f, "cannot write: {kind}"),
         }
     }
 }
