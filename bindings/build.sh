@@ -38,7 +38,7 @@ objcopy --wildcard --keep-global-symbol='kombilad_*' "$object"
 rm -f "$out/$name.a"
 ar rcsD "$out/$name.a" "$object"
 
-"$cc" -shared -o "$out/$name.so.0" "$object" -Wl,-soname,$name.so.0 -Wl,-z,defs
+"$cc" -shared -o "$out/$name.so.0" "$object" -Wl,-soname,$name.so.0 -Wl,-z,defs -Wl,--version-script=c/kombilad.map
 ln -sf "$name.so.0" "$out/$name.so"
 echo "$out/$name.a"
 echo "$out/$name.so.0"

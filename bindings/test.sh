@@ -33,7 +33,7 @@ fi
 export DIST
 
 # The packages, and the C file as far from them as it is in the repository.
-copy=$tests/copy
+copy=$tests/kombilad
 mkdir -p "$copy/bindings" "$copy/dist"
 cp -r c rust "$copy/bindings"
 cp "$DIST/kombilad.c" "$DIST/kombilad.h" "$copy/dist"
@@ -84,6 +84,8 @@ with_debian() {
         > "$tests/rust.log" 2>&1 || { cat "$tests/rust.log"; exit 1; }
 }
 rust=$copy/bindings/rust
+python3 -B test/car_cases.py "$tests/cars" "$blocks"
+export CARS="$tests/cars"
 with_debian test --manifest-path "$rust/Cargo.toml"
 said "Rust: ok"
 with_debian test --no-default-features --test calls --test car --test values --manifest-path "$rust/Cargo.toml"
@@ -180,9 +182,19 @@ cc -O2 $warnings c/examples/links.c $(pkg-config --cflags --libs kombilad) -o "$
 "$tests/links" "$tests/block" | cmp - "$tests/expected"
 "$out/rust/debug/examples/links" "$tests/block" | cmp - "$tests/expected"
 "$tests/venv/bin/python" python/examples/links.py "$tests/block" | cmp - "$tests/expected"
-printf 'Link(Cid(bafkqaaa))\nLink(Cid(QmdfTbBqBPQ7VNxZEYEj14VmRuZBkqFbiwReogJgS1zR1n))\n' > "$tests/expected"
+printf 'Link(Cid(bafkqaaa))\nLink(Cid(QmdfTbBqBPQ7VNxZEYEj14VmRuZBkqFbiwReogJgS1zR1n))\nhi bafyreidfkla3zxeoutlyzg65yqvcttz7yitl3och67fz57kypxgjd27sie\n' > "$tests/expected"
 "$out/rust/debug/examples/values" "$tests/block" | cmp - "$tests/expected"
 echo "[Cid('bafkqaaa'), Cid('QmdfTbBqBPQ7VNxZEYEj14VmRuZBkqFbiwReogJgS1zR1n')]" > "$tests/expected"
 "$tests/venv/bin/python" python/examples/values.py "$tests/block" "$tests/encoded" | cmp - "$tests/expected"
 said "what the README shows: ok"
+
+# ---- The examples of docs/HOWTO.md, in the copy of the packages
+
+cp -r python js "$copy/bindings"
+ln -s js/node_modules "$tests/node_modules"
+# Cargo with Debian's crates, over the shared library, as the last test of Rust built it.
+mkdir "$tests/cargo"
+printf '[source.crates-io]\nreplace-with = "debian"\n[source.debian]\ndirectory = "%s"\n' "$registry" > "$tests/cargo/config.toml"
+CARGO_HOME=$tests/cargo KOMBILAD_LIB_DIR=$out LD_LIBRARY_PATH=$out PATH=$tests/venv/bin:$PATH python3 ../.ci/examples.py bindings "$tests"
+said "what docs/HOWTO.md shows: ok"
 said "ok"

@@ -2,7 +2,7 @@
 # Makes the library for WebAssembly with 32-bit memory, bindings/out/wasm/kombilad.wasm, of the C file, and of it the package for
 # JavaScript, bindings/out/kombilad-VERSION.tgz, and the inspector, bindings/out/inspector. It needs clang and LLVM's linker, wasm-ld.
 #
-#     bindings/wasm.sh [--unproved] [--heap MIB]      MIB is the most memory that it may have, from 3 to 4095 (4095 if left out)
+#     bindings/wasm.sh [--unproved] [--heap MIB]      MIB is the most memory that it may have, from 5 to 4095 (4095 if left out)
 #
 # DIST is the absolute path of the folder with kombilad.c and kombilad.h, or dist of the repository. With --unproved the package is
 # bindings/out/unproved/kombilad-VERSION-unproved.tgz, the rest is in bindings/out/unproved too, and if DIST isn't set, the C file is made
@@ -26,7 +26,7 @@ case ${1:-} in
     --heap) heap=${2:-0} ;;
     *) sed -n '5s/^# *//p' "$(basename "$0")" >&2; exit 2 ;;
 esac
-[ "$heap" -ge 3 ] && [ "$heap" -le 4095 ] || { echo "wasm.sh: --heap takes a number from 3 to 4095" >&2; exit 2; }
+[ "$heap" -ge 5 ] && [ "$heap" -le 4095 ] || { echo "wasm.sh: --heap takes a number from 5 to 4095" >&2; exit 2; }
 ../.ci/needs --tools clang wasm-ld
 if [ -n "$mark" ] && [ -z "${DIST:-}" ]; then
     dist=$out/module
@@ -51,7 +51,7 @@ done
 
 # 2. Linked. The stack lies below all else, so that what overflows it leaves the memory and traps. The library calls itself for at most
 # 32 levels of its input, so that no call needs more of the stack than 33 times all frames.
-stack=2097152
+stack=4194304
 frames=$(awk -F '\t' '$3 != "static" { exit 1 } { sum += $2 } END { print sum }' "$made/kombilad.su" "$made/heap.su")
 [ "$frames" -gt 0 ] && [ $((33 * frames)) -le $stack ] || { echo "wasm.sh: the frames of all functions take $frames bytes, too many" >&2; exit 1; }
 link="wasm-ld --no-entry --stack-first --gc-sections --strip-all -O2 --compress-relocations --fatal-warnings --threads=1"

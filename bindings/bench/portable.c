@@ -17,7 +17,7 @@ enum { ROUNDS = 60, ROUND = 500000, MOST_LIBRARIES = 8, CIDS = 1000, CID_LEN = 3
 #define CALLS(do)                                                                                                                                        \
     do                                                                                                                                                   \
     (cid_check) do(cid_parts_of) do(cid_to_text) do(cid_from_text) do(cid_of_block) do(block_check) do(block_check_canonical) do(block_canonicalize) do( \
-        links_count) do(links) do(link_positions) do(tape) do(encode) do(pb_tape) do(car_open) do(car_next) do(verify)
+        links_count) do(links) do(link_positions) do(tape) do(encode) do(pb_tape) do(car_open_part) do(car_next_part) do(verify)
 
 #define POINTER(name) __typeof__(kombilad_##name) *name;
 struct library {
@@ -120,15 +120,18 @@ static uint32_t cid_of_block(const struct library *of, const struct input *in) {
 
 /* All sections of a CAR; with the digest of each block if that is asked for. */
 static uint32_t sections(const struct library *of, const struct input *in, int verified) {
-    kombilad_car car;
+    kombilad_car_place place;
     kombilad_span cid, data;
-    size_t needed, offset;
-    uint32_t status = of->car_open(in->bytes, in->len, in->len, &car, in->cids, 1, &needed,
-                                   &offset);
-    for (size_t at = car.sections; status == KOMBILAD_OK;) {
-        status = of->car_next(in->bytes, in->len, at, car.end, &cid, &data, &at, &offset);
+    size_t needed;
+    uint64_t more, offset;
+    uint32_t status = of->car_open_part(in->bytes, in->len, 1, in->len, &place, in->cids, 1,
+                                        &needed, &more, &offset);
+    while (status == KOMBILAD_OK) {
+        const uint8_t *bytes = in->bytes + place.at;
+        status = of->car_next_part(bytes, in->len - (size_t)place.at, 1, in->len, &place, &cid,
+                                   &data, &more, &offset);
         if (status == KOMBILAD_OK && verified)
-            status = of->verify(in->bytes + cid.offset, cid.len, in->bytes + data.offset, data.len);
+            status = of->verify(bytes + cid.offset, cid.len, bytes + data.offset, data.len);
     }
     return status - KOMBILAD_CAR_DONE;
 }

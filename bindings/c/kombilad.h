@@ -1,5 +1,5 @@
-/* libkombilad: reads content identifiers (CIDs), blocks of DAG-CBOR and DAG-PB, and CARs by proved
- * code.
+/* libkombilad: reads content identifiers (CIDs), blocks of DAG-CBOR and DAG-PB, texts in DAG-JSON,
+ * and CARs by proved code.
  *
  *     #include <kombilad.h>
  *
@@ -39,7 +39,7 @@ extern "C" {
 
 /* The version of this header, as kombilad_version() returns that of the library. */
 #define KOMBILAD_VERSION_MAJOR 0
-#define KOMBILAD_VERSION_MINOR 1
+#define KOMBILAD_VERSION_MINOR 2
 #define KOMBILAD_VERSION_PATCH 0
 #define KOMBILAD_VERSION \
     (KOMBILAD_VERSION_MAJOR << 16 | KOMBILAD_VERSION_MINOR << 8 | KOMBILAD_VERSION_PATCH)
@@ -54,7 +54,7 @@ enum kombilad_status {
     KOMBILAD_TOO_SHORT = 2,
     /* the block is valid, but the keys of its maps are not in canonical order */
     KOMBILAD_NOT_CANONICAL = 3,
-    /* the base is not one of those below */
+    /* the base is not one of enum kombilad_base */
     KOMBILAD_UNKNOWN_BASE = 4,
     /* a CID of version 0 has a text only in base58btc */
     KOMBILAD_V0_BASE = 5,
@@ -84,7 +84,7 @@ enum kombilad_status {
     KOMBILAD_CID_TRAILING_BYTES = 22,
 
     /* The text is not a CID's. The statuses of the bytes that it encodes are those above. */
-    /* it is empty, or doesn't begin with the prefix of a base below */
+    /* the text is empty, or doesn't begin with the prefix of a base of enum kombilad_base */
     KOMBILAD_TEXT_UNKNOWN_BASE = 32,
     /* no CID has a text of this length in its base */
     KOMBILAD_TEXT_INVALID_LENGTH = 33,
@@ -117,13 +117,20 @@ enum kombilad_status {
     /* more bytes follow the item */
     KOMBILAD_BLOCK_TRAILING_BYTES = 56,
 
-    /* The bytes of a link in a block are not a CID, as above. */
+    /* The bytes of a link in a block are not a CID. */
+    /* the bytes end before the CID does */
     KOMBILAD_LINK_END = 80,
+    /* a varint is not in its shortest form */
     KOMBILAD_LINK_NOT_SHORTEST = 81,
+    /* a varint encodes a number of 2^64 or more */
     KOMBILAD_LINK_VARINT_TOO_LARGE = 82,
+    /* the CID begins with the version 0, as no CID does */
     KOMBILAD_LINK_EXPLICIT_VERSION_0 = 83,
+    /* the version is neither 0 nor 1 */
     KOMBILAD_LINK_UNKNOWN_VERSION = 84,
+    /* the digest is longer than 64 bytes */
     KOMBILAD_LINK_DIGEST_TOO_LONG = 85,
+    /* more bytes follow the CID */
     KOMBILAD_LINK_TRAILING_BYTES = 86,
 
     /* The bytes are not a CAR: the leftmost error. The statuses of a header's block and of a
@@ -134,11 +141,11 @@ enum kombilad_status {
     KOMBILAD_CAR_UNEXPECTED_END = 97,
     /* the varint before a header or a section is not in its shortest form */
     KOMBILAD_CAR_LENGTH_NOT_SHORTEST = 98,
-    /* it encodes a number of 2^64 or more */
+    /* the varint before a header or a section encodes a number of 2^64 or more */
     KOMBILAD_CAR_LENGTH_TOO_LARGE = 99,
     /* a header or a section has the length zero */
     KOMBILAD_CAR_EMPTY = 100,
-    /* a header is longer than the limit */
+    /* a header or a section is longer than the limit */
     KOMBILAD_CAR_TOO_LONG = 101,
     /* the header is a block, but not a map of roots and of the version 1 */
     KOMBILAD_CAR_NOT_A_HEADER = 102,
@@ -187,7 +194,34 @@ enum kombilad_status {
     /* a link does not begin with its hash */
     KOMBILAD_PB_NO_HASH = 148,
     /* the name of a link is not UTF-8 */
-    KOMBILAD_PB_UTF8 = 149
+    KOMBILAD_PB_UTF8 = 149,
+
+    /* The text is not DAG-JSON: the first token with an error. */
+    /* the text is not UTF-8 */
+    KOMBILAD_JSON_UTF8 = 160,
+    /* the text is not JSON, or continues after its value */
+    KOMBILAD_JSON_SYNTAX = 161,
+    /* the text ends before its value does */
+    KOMBILAD_JSON_END = 162,
+    /* a number with a fraction or an exponent is beyond the greatest float of 64 bits */
+    KOMBILAD_JSON_FLOAT = 163,
+    /* an integer is below -2^64 or above 2^64 - 1 */
+    KOMBILAD_JSON_INTEGER_RANGE = 164,
+    /* an object has the same key twice */
+    KOMBILAD_JSON_DUPLICATE_KEY = 165,
+    /* the text of a link is not that of a CID: base58btc for version 0, and base32 after a "b" for
+     * version 1 */
+    KOMBILAD_JSON_LINK = 166,
+    /* the text of bytes is not base64 without padding (RFC 4648, section 4) */
+    KOMBILAD_JSON_BYTES = 167,
+    /* an object has the key "/" as links and bytes do, and is neither */
+    KOMBILAD_JSON_RESERVED = 168,
+    /* a map of the block has no DAG-JSON: its text would be read as a link or as bytes */
+    KOMBILAD_JSON_RESERVED_MAP = 169,
+
+    /* A part of a CAR. */
+    /* more bytes of the CAR are needed, which isn't an error */
+    KOMBILAD_CAR_MORE = 176
 };
 
 /* Writes the sentence of a status: at most 80 bytes of ASCII, without a full stop and without a
@@ -400,6 +434,44 @@ uint32_t kombilad_tape(const uint8_t *block, size_t len, size_t levels, size_t v
 uint32_t kombilad_encode(const kombilad_entry *entries, size_t entries_len, const uint8_t *data,
                          size_t data_len, uint8_t *out, size_t out_len, size_t *needed, size_t *at);
 
+/* ---- Blocks as DAG-JSON
+ *
+ * A link is the object {"/":"bafy.."}, with the text of the CID. Bytes are the object
+ * {"/":{"bytes":"aGk"}}, with base64 without padding (RFC 4648, section 4). All other values are as
+ * in JSON (RFC 8259).
+ */
+
+/* Writes the DAG-JSON of the block. The text is UTF-8 without blanks and without a zero byte at the
+ * end. The keys of an object are in the order of their bytes. A float has a point or an exponent,
+ * and an integer does not. It allocates the text, and memory in proportion to the lists and maps of
+ * the block and to the entries of its open maps.
+ *
+ * The limits and the offsets are those of a block, as above. A map has no text if its first key in
+ * byte order is "/" with a string as its value, or with a map whose first key is "bytes" with a
+ * string as its value. Then the call returns KOMBILAD_JSON_RESERVED_MAP, and writes to `offset` the
+ * first byte of the map.
+ *
+ * Statuses: OK, TOO_SHORT, NO_MEMORY, TOO_DEEP, TOO_MANY, KOMBILAD_BLOCK_*, KOMBILAD_LINK_*,
+ * KOMBILAD_JSON_RESERVED_MAP. */
+uint32_t kombilad_block_to_json(const uint8_t *block, size_t len, size_t levels, size_t values,
+                                uint8_t *text, size_t text_len, size_t *needed, size_t *offset);
+
+/* Writes the canonical block of a text in DAG-JSON. The text may have blanks, and the keys of an
+ * object in any order. A number with a fraction or an exponent is a float of 64 bits. The limits
+ * count the arrays, objects and values of the text: a link is two values, one level deep, and bytes
+ * are three values, two levels deep. It allocates the tree of the text, its tape and the block. It
+ * also returns NO_MEMORY if a string or bytes have 2^32 bytes or more, or if a list or a map spans
+ * 2^32 entries or more of a tape.
+ *
+ * With TOO_DEEP, TOO_MANY and KOMBILAD_JSON_* it writes to `offset` the first byte of the token at
+ * fault, or the length of the text if it ends too early. For KOMBILAD_JSON_UTF8 that is the first
+ * byte that is not part of a character. For JSON_LINK, JSON_BYTES and JSON_RESERVED it is the brace
+ * that closes the object. With NO_MEMORY `offset` may be any number up to the length.
+ *
+ * Statuses: OK, TOO_SHORT, NO_MEMORY, TOO_DEEP, TOO_MANY, KOMBILAD_JSON_* except RESERVED_MAP. */
+uint32_t kombilad_block_of_json(const uint8_t *text, size_t len, size_t levels, size_t values,
+                                uint8_t *out, size_t out_len, size_t *needed, size_t *offset);
+
 /* ---- Nodes of DAG-PB
  *
  * The tape of a node has an entry for each part. For each link, in the order of the block, it has a
@@ -419,49 +491,66 @@ uint32_t kombilad_encode(const kombilad_entry *entries, size_t entries_len, cons
 uint32_t kombilad_pb_tape(const uint8_t *block, size_t len, kombilad_entry *entries,
                           size_t entries_len, size_t *needed, size_t *offset);
 
-/* ---- CARs, with all of their bytes in memory
+/* ---- CARs
  *
- *     size_t at = opened.sections;
- *     while ((status = kombilad_car_next(car, len, at, opened.end, &cid, &block, &at, &offset)) ==
- *            KOMBILAD_OK)
- *         use(car + cid.offset, cid.len, car + block.offset, block.len);
- *     if (status != KOMBILAD_CAR_DONE) report(status, offset);
+ * Versions 1 and 2 are read. kombilad_verify compares a block with its CID. A caller keeps the bytes
+ * of the CAR from the byte `place.at` on, as many as it has read, and reads more if a call returns
+ * KOMBILAD_CAR_MORE:
  *
- * Versions 1 and 2 are read. kombilad_verify compares a block with its CID.
+ *     while ((status = kombilad_car_next_part(bytes, len, is_all, limit, &place, &cid, &block, &more,
+ *                                             &offset)) != KOMBILAD_CAR_DONE) {
+ *         if (status == KOMBILAD_CAR_MORE) {
+ *             read_on(more); // at least that many bytes; sets `is_all` at the end of the CAR
+ *         } else if (status == KOMBILAD_OK) {
+ *             use(bytes + cid.offset, cid.len, bytes + block.offset, block.len);
+ *             drop_first(block.offset + block.len);
+ *         } else {
+ *             return report(status, offset);
+ *         }
+ *     }
+ *
+ * For a CAR in memory `is_all` is 1, and no call returns KOMBILAD_CAR_MORE. Each call returns what it
+ * returns for all of the CAR's bytes, or KOMBILAD_CAR_MORE.
  */
 
 /* A limit for the header of an untrusted CAR. */
 #define KOMBILAD_CAR_LIMIT ((size_t)8 << 20)
 
-/* The position of the sections of a CAR in its bytes. */
-typedef struct kombilad_car {
+/* The place of the next section of a CAR. */
+typedef struct kombilad_car_place {
     uint64_t version; /* 1 or 2 */
-    size_t sections;  /* the byte at which the first one begins */
-    /* The byte at which the last one ends: `len` for version 1, and for version 2 the end of the
-     * payload by the header, which may be above `len`. */
-    size_t end;
-} kombilad_car;
+    uint64_t at;      /* the byte of the CAR at which the section begins */
+    /* The byte at which the last section ends, by the header of version 2. For version 1 it is
+     * UINT64_MAX, since the sections end with the CAR. */
+    uint64_t end;
+} kombilad_car_place;
 
-/* Reads the header of a CAR, of at most `limit` bytes, and writes the roots. `roots_len` and
- * `needed` count records. With OK and TOO_SHORT it writes to `opened`. Otherwise it writes to
- * `offset` the byte at fault; if the block of a header is invalid, its first byte. It allocates up
- * to about a hundred bytes for each byte of the header.
+/* Reads the header of a CAR, of at most `limit` bytes, and writes the roots. The CAR begins with
+ * these bytes. `is_all` is 0 if other bytes may follow. `roots_len` and `needed` count records. With
+ * OK and TOO_SHORT it writes to `place` where the first section is. With KOMBILAD_CAR_MORE it writes
+ * to `more` how many bytes the header or the padding of version 2 needs at least, and nothing else.
+ * Otherwise it writes to `offset` the byte at fault; if the block of a header is invalid, its first
+ * byte. It allocates up to about a hundred bytes for each byte of the header.
  *
  * Statuses: OK, TOO_SHORT, NO_MEMORY, TOO_DEEP, KOMBILAD_CAR_* except DONE, KOMBILAD_BLOCK_*,
- * KOMBILAD_LINK_*. */
-uint32_t kombilad_car_open(const uint8_t *car, size_t len, size_t limit, kombilad_car *opened,
-                           kombilad_cid *roots, size_t roots_len, size_t *needed, size_t *offset);
+ * KOMBILAD_LINK_*; KOMBILAD_CAR_MORE only if `is_all` is 0. */
+uint32_t kombilad_car_open_part(const uint8_t *bytes, size_t len, uint32_t is_all, size_t limit,
+                                kombilad_car_place *place, kombilad_cid *roots, size_t roots_len,
+                                size_t *needed, uint64_t *more, uint64_t *offset);
 
-/* Reads the section that begins at the byte `at`, in a payload that ends at the byte `end`: writes
- * the positions of its CID and its block, and the byte at which the next section begins. Copies
- * nothing, and doesn't allocate. `at` and `end` may be any numbers. If `at` is not below `end`, it
- * returns KOMBILAD_CAR_DONE. With an error it only writes to `offset` the byte at fault, which is
- * the end of the bytes with KOMBILAD_CAR_SHORT_PAYLOAD.
+/* Reads the section at `place` of a CAR, whose bytes from the byte `place->at` on begin with these.
+ * `is_all` is 0 if other bytes of the CAR may follow. The CID and the block have at most `limit`
+ * bytes. With OK it writes the positions of the CID and the block in `bytes`, and moves `place` to
+ * the next section. With KOMBILAD_CAR_MORE it writes to `more` how many bytes the section needs at
+ * least. With KOMBILAD_CAR_DONE it writes nothing. Otherwise it writes to `offset` the byte of the
+ * CAR at fault, which is the end of the bytes with KOMBILAD_CAR_SHORT_PAYLOAD. Copies nothing, and
+ * doesn't allocate. `place` may have any numbers.
  *
- * Statuses: OK, KOMBILAD_CAR_DONE, UNEXPECTED_END, LENGTH_NOT_SHORTEST, LENGTH_TOO_LARGE, EMPTY
- * and SHORT_PAYLOAD, KOMBILAD_CID_*. */
-uint32_t kombilad_car_next(const uint8_t *car, size_t len, size_t at, size_t end,
-                           kombilad_span *cid, kombilad_span *block, size_t *next, size_t *offset);
+ * Statuses: OK, KOMBILAD_CAR_DONE, UNEXPECTED_END, LENGTH_NOT_SHORTEST, LENGTH_TOO_LARGE, EMPTY,
+ * TOO_LONG and SHORT_PAYLOAD, KOMBILAD_CID_*; KOMBILAD_CAR_MORE only if `is_all` is 0. */
+uint32_t kombilad_car_next_part(const uint8_t *bytes, size_t len, uint32_t is_all, size_t limit,
+                                kombilad_car_place *place, kombilad_span *cid, kombilad_span *block,
+                                uint64_t *more, uint64_t *offset);
 
 /* Compares the digest of a block with that of a CID. The hash function may be SHA2-256, SHA2-512,
  * or identity, whose digest is the block itself. Does not allocate.

@@ -87,6 +87,52 @@ func (o Options) Canonicalize(block []byte) ([]byte, error) {
 	return out, nil
 }
 
+// ToJSON returns the DAG-JSON of a block of DAG-CBOR: UTF-8 without blanks, with the keys of each
+// object in the order of their bytes. A link is the object {"/":"bafy.."}, and bytes are
+// {"/":{"bytes":"aGk"}}.
+//
+// It fails with ErrJSONReservedMap if a map would be read as a link or as bytes, and with the errors
+// of Check.
+func ToJSON(block []byte) ([]byte, error) {
+	return Options{}.ToJSON(block)
+}
+
+// ToJSON is like the function ToJSON, within these limits.
+func (o Options) ToJSON(block []byte) ([]byte, error) {
+	text, made := filled(make([]byte, 2*len(block)+spareJSON), func(text []byte) outcome {
+		return callToJSON(block, o.limits(), text)
+	})
+	if made.status != 0 {
+		return nil, failed(made)
+	}
+	return text, nil
+}
+
+// FromJSON returns the canonical block of DAG-CBOR of a text in DAG-JSON. The text may have blanks,
+// and the keys of an object in any order.
+//
+// It fails with an ErrJSON status for the first token that has an error, with ErrTooDeep or
+// ErrTooMany if the text exceeds a limit, and with ErrNoMemory. The error has the offset in the text.
+func FromJSON(text []byte) ([]byte, error) {
+	return Options{}.FromJSON(text)
+}
+
+// FromJSON is like the function FromJSON, within these limits. They count the arrays, the objects
+// and the values of the text, so a link is two values.
+func (o Options) FromJSON(text []byte) ([]byte, error) {
+	// Only a float, or a string with a long head, takes more bytes than its text.
+	block, made := filled(make([]byte, len(text)+spareJSON), func(out []byte) outcome {
+		return callFromJSON(text, o.limits(), out)
+	})
+	if made.status != 0 {
+		return nil, failed(made)
+	}
+	return block, nil
+}
+
+// spareJSON is the number of bytes by which a buffer is longer than a text usually needs.
+const spareJSON = 64
+
 // Position is a part of a block: the CID of a link is block[Offset:Offset+Len].
 type Position struct {
 	Offset, Len int

@@ -45,7 +45,7 @@ func (b *buffers[T]) put(buffer *[]T) {
 }
 
 // filled calls with the buffer, or with a longer one if the call asks for it, and returns the part
-// that the call has filled. A call never asks for more than its input has.
+// that the call has filled. A call asks for at most a few times as much as its input has.
 func filled[T any](buffer []T, call func([]T) outcome) ([]T, outcome) {
 	made := call(buffer)
 	if made.status == statusTooShort {

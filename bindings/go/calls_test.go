@@ -104,6 +104,49 @@ func TestExamplesOfRFC8949(t *testing.T) {
 	sameError(t, "keys of integers", err, ErrBlockKeyNotText, 1)
 }
 
+func TestJSON(t *testing.T) {
+	for text, digits := range map[string]string{
+		"null": "f6", "18446744073709551615": "1bffffffffffffffff", "-0.0": "fb8000000000000000",
+		`"\"é\u001f"`: "6422c3a91f", `{"/":{"bytes":"aGk"}}`: "426869",
+		`[{"/":"bafkqaaa"},[],{}]`: "83d82a45000155000080a0", `{"aa":1,"b":{"/":2}}`: "a26162a1612f0262616101",
+	} {
+		found, err := ToJSON(unhex(t, digits))
+		same(t, text, err, nil)
+		same(t, text, string(found), text)
+		block, err := FromJSON([]byte(" " + text + "\n"))
+		same(t, text, err, nil)
+		same(t, text, block, unhex(t, digits))
+	}
+	// More bytes than there is room for at first.
+	escaped := append(unhex(t, "7a000186a0"), strings.Repeat("\x01", 100_000)...)
+	text, err := ToJSON(escaped)
+	same(t, "a long text", err, nil)
+	same(t, "a long text", string(text), `"`+strings.Repeat(`\u0001`, 100_000)+`"`)
+	floats, err := FromJSON([]byte("[" + strings.Repeat("1.5,", 9999) + "1.5]"))
+	same(t, "floats", []any{len(floats), err}, []any{90_003, nil})
+	for text, row := range map[string]struct {
+		status Status
+		offset int64
+	}{
+		"\"\xff\"": {ErrJSONUTF8, 1}, "[1,]": {ErrJSONSyntax, 3}, "": {ErrJSONEnd, 0}, "1e400": {ErrJSONFloat, 0},
+		" 18446744073709551616": {ErrJSONIntegerRange, 1}, `{"a":1,"\u0061":2}`: {ErrJSONDuplicateKey, 7},
+		`{"/":"bafkqaa"}`: {ErrJSONLink, 14}, `{"/":{"bytes":"="}}`: {ErrJSONBytes, 18},
+		`{"/":"bafkqaaa","0":1}`: {ErrJSONReserved, 21},
+	} {
+		block, err := FromJSON([]byte(text))
+		sameError(t, text, err, row.status, row.offset)
+		same(t, text, block, []byte(nil))
+	}
+	_, err = ToJSON(unhex(t, "8200a1612f6161"))
+	sameError(t, "a reserved map", err, ErrJSONReservedMap, 2)
+	_, err = Options{MaxLevels: 1}.FromJSON([]byte("[[]]"))
+	sameError(t, "levels", err, ErrTooDeep, 1)
+	_, err = Options{MaxValues: 2}.FromJSON([]byte(`[{"/":"bafkqaaa"}]`))
+	sameError(t, "values", err, ErrTooMany, 6)
+	_, err = Options{MaxLevels: 1}.ToJSON(unhex(t, "8180"))
+	sameError(t, "levels of a block", err, ErrTooDeep, 1)
+}
+
 // The CIDs are examples of the CID specification and of IPFS's documentation.
 func TestCids(t *testing.T) {
 	raw := cidOfText(t, "zb2rhe5P4gXftAwvA4eXQ5HJwsER2owDyS9sKaQRRVQPn93bA")
@@ -193,7 +236,7 @@ func TestEachStatusHasAConstantAndASentence(t *testing.T) {
 		named[string(it[1])] = true
 	}
 	// No call of this package returns these.
-	for _, name := range strings.Fields("OK OTHER TOO_SHORT CAR_DONE TAPE_MISSING TAPE_LEFT_OVER TAPE_KIND TAPE_SPAN TAPE_FIELDS TAPE_CONTENT") {
+	for _, name := range strings.Fields("OK OTHER TOO_SHORT CAR_DONE CAR_MORE TAPE_MISSING TAPE_LEFT_OVER TAPE_KIND TAPE_SPAN TAPE_FIELDS TAPE_CONTENT") {
 		named[name] = true
 	}
 	unknown := Status(999).Error()

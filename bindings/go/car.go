@@ -3,6 +3,7 @@ package kombilad
 import (
 	"fmt"
 	"io"
+	"math"
 )
 
 // CarOptions are limits for untrusted CARs. The zero value has the defaults.
@@ -10,8 +11,8 @@ type CarOptions struct {
 	// MaxHeader is the number of bytes that a header may have. 0 is the default of 8 MiB, and a
 	// negative number allows no header.
 	MaxHeader int
-	// MaxSection is the number of bytes that a section may have: its length, a CID and a block. 0
-	// is the default of 32 MiB, and a negative number allows no section.
+	// MaxSection is the number of bytes that a section may have: those of a CID and a block. 0 is
+	// the default of 32 MiB, and a negative number allows no section.
 	MaxSection int
 	// Verify makes Next fail if a block doesn't match its CID, or if the hash function is not
 	// SHA2-256, SHA2-512 or identity.
@@ -24,20 +25,19 @@ type CarOptions struct {
 // It holds one section, and up to 64 KiB that it has read in advance. It returns a block once the
 // reader has returned the block's last byte. A CarReader is for one goroutine at a time.
 type CarReader struct {
-	source     byteReader
-	version    uint64
+	source     io.Reader
+	sourceErr  error  // the error that the source has returned, io.EOF at its end
+	chunk      []byte // the memory for short sections
+	bytes      []byte // the bytes from the next section on that the source has returned
+	place      carPlace
 	roots      []Cid
-	at         int64  // the byte of the file at which the next section begins
-	end        uint64 // the byte at which the payload of version 2 ends
 	maxSection int
 	verify     bool
 	err        error
 }
 
-type byteReader interface {
-	io.Reader
-	io.ByteReader
-}
+// carChunk is the number of bytes of the chunk.
+const carChunk = 64 << 10
 
 // OpenCar reads the header of a CAR. The reader needs no buffer.
 //
@@ -49,7 +49,8 @@ func OpenCar(source io.Reader) (*CarReader, error) {
 
 // OpenCar is like the function OpenCar, with these options.
 func (o CarOptions) OpenCar(source io.Reader) (*CarReader, error) {
-	r := &CarReader{maxSection: max(o.MaxSection, 0), verify: o.Verify}
+	r := &CarReader{source: source, chunk: make([]byte, carChunk), verify: o.Verify}
+	r.maxSection = max(o.MaxSection, 0)
 	if o.MaxSection == 0 {
 		r.maxSection = 32 << 20
 	}
@@ -57,15 +58,95 @@ func (o CarOptions) OpenCar(source io.Reader) (*CarReader, error) {
 	if o.MaxHeader == 0 {
 		header = 8 << 20
 	}
-	if err := r.readHeader(source, header); err != nil {
+	if err := r.open(header); err != nil {
 		return nil, err
 	}
 	return r, nil
 }
 
+// open reads the header, of at most limit bytes. It doesn't wait for bytes that come after it.
+func (r *CarReader) open(limit int) error {
+	// A header within the limit, and as much padding before it, have fewer bytes.
+	most := math.MaxInt
+	if limit < (most-carChunk)/2 {
+		most = 2*limit + carChunk
+	}
+	for {
+		roots, found := callCarOpen(r.bytes, r.sourceErr == io.EOF, limit)
+		switch {
+		case found.status == 0:
+			r.roots, r.place = roots, found.place
+			r.skip(int(found.place.at))
+			return nil
+		case found.status != statusMore:
+			return failed(found.outcome)
+		case len(r.bytes) >= most:
+			return failed(outcome{status: ErrCarTooLong})
+		}
+		if err := r.fill(found.more, most); err != nil {
+			return err
+		}
+	}
+}
+
+// fill reads until it has read this many more bytes, or there are most bytes in all, or the source
+// has ended.
+func (r *CarReader) fill(more uint64, most int) error {
+	count := most
+	if more < uint64(most-len(r.bytes)) {
+		count = len(r.bytes) + int(more)
+	}
+	for len(r.bytes) < count && r.sourceErr == nil {
+		// The memory grows with the bytes that come, since a length may be wrong.
+		step := count
+		for step > carChunk && step/4 >= len(r.bytes) {
+			step /= 2
+		}
+		if cap(r.bytes) < step {
+			room := r.chunk
+			if step > carChunk {
+				room = make([]byte, step)
+			}
+			r.bytes = room[:copy(room, r.bytes)]
+		}
+		for empty := 0; len(r.bytes) < step && r.sourceErr == nil; {
+			length, err := r.source.Read(r.bytes[len(r.bytes):cap(r.bytes)])
+			r.bytes, r.sourceErr = r.bytes[:len(r.bytes)+length], err
+			if length > 0 {
+				empty = 0
+			} else if empty++; empty == 100 && err == nil {
+				r.sourceErr = io.ErrNoProgress
+			}
+		}
+	}
+	if len(r.bytes) < count && r.sourceErr != io.EOF {
+		return fmt.Errorf("kombilad: cannot read the CAR: %w", r.sourceErr)
+	}
+	return nil
+}
+
+// take returns the first bytes, which are the caller's, and goes on after them. It copies those of
+// the chunk. Longer memory has only bytes of this section.
+func (r *CarReader) take(count int) []byte {
+	taken := r.bytes[:count:count]
+	if cap(r.bytes) <= carChunk {
+		taken = append([]byte{}, taken...)
+	}
+	r.skip(count)
+	return taken
+}
+
+// skip goes on after the first bytes.
+func (r *CarReader) skip(count int) {
+	r.bytes = r.bytes[count:]
+	if len(r.bytes) == 0 {
+		r.bytes = nil // keeps no memory
+	}
+}
+
 // Version returns the version of the CAR, 1 or 2.
 func (r *CarReader) Version() int {
-	return int(r.version)
+	return int(r.place.version)
 }
 
 // Roots returns the CIDs in the header.
@@ -75,7 +156,7 @@ func (r *CarReader) Roots() []Cid {
 
 // Offset returns the byte of the CAR at which the next section begins.
 func (r *CarReader) Offset() int64 {
-	return r.at
+	return int64(r.place.at)
 }
 
 // Next returns the next block and its CID. The block is the caller's. Next doesn't compare it with
@@ -88,20 +169,40 @@ func (r *CarReader) Next() (Cid, []byte, error) {
 	if r.err != nil {
 		return Cid{}, nil, r.err
 	}
-	section, of, in, err := r.readSection()
+	cid, block, err := r.next()
 	if err != nil {
-		r.err = err
+		r.err, r.bytes, r.chunk = err, nil, nil
 		return Cid{}, nil, err
 	}
-	cid := Cid{string(section[of.offset : of.offset+of.len])}
-	block := section[in.offset : in.offset+in.len]
+	return cid, block, nil
+}
+
+func (r *CarReader) next() (Cid, []byte, error) {
+	found := callCarNext(r.bytes, r.sourceErr == io.EOF, r.maxSection, r.place)
+	for found.status == statusMore {
+		if err := r.fill(found.more, math.MaxInt); err != nil {
+			return Cid{}, nil, err
+		}
+		found = callCarNext(r.bytes, r.sourceErr == io.EOF, r.maxSection, r.place)
+	}
+	switch found.status {
+	case 0:
+	case statusDone:
+		return Cid{}, nil, io.EOF
+	default:
+		return Cid{}, nil, failed(found.outcome)
+	}
+	begin := int(found.block.offset)
+	section := r.take(begin + int(found.block.len))
+	cid := Cid{string(section[found.cid.offset:begin])}
+	block := section[begin:]
 	if r.verify {
 		if status := callVerify(cid.bytes, block); status != 0 {
-			r.err = failed(outcome{status: status, offset: r.at + int64(in.offset)})
-			return Cid{}, nil, r.err
+			offset := int64(r.place.at + found.block.offset)
+			return Cid{}, nil, failed(outcome{status: status, offset: offset})
 		}
 	}
-	r.at += int64(len(section))
+	r.place = found.place
 	return cid, block, nil
 }
 
@@ -130,8 +231,4 @@ func (r *CarReader) Err() error {
 		return nil
 	}
 	return r.err
-}
-
-func readError(err error) error {
-	return fmt.Errorf("kombilad: cannot read the CAR: %w", err)
 }

@@ -6,6 +6,7 @@ import (
 	"errors"
 	"io"
 	"math"
+	"os"
 	"strconv"
 	"strings"
 	"testing"
@@ -47,7 +48,9 @@ func TestLargeCars(t *testing.T) {
 	for name, bytesOf := range map[string][]byte{
 		"version 1": car, "version 2": version2Of(car, 0, ""), "padding": version2Of(car, 3_000_000, "an index"),
 	} {
-		for _, source := range []io.Reader{bytes.NewReader(bytesOf), iotest.HalfReader(bytes.NewReader(bytesOf))} {
+		for _, source := range []io.Reader{
+			bytes.NewReader(bytesOf), iotest.HalfReader(bytes.NewReader(bytesOf)), iotest.OneByteReader(bytes.NewReader(bytesOf)),
+		} {
 			r, err := CarOptions{Verify: true}.OpenCar(source)
 			if err != nil {
 				t.Fatal(name, err)
@@ -96,6 +99,77 @@ func TestABlockComesOnceItIsThere(t *testing.T) {
 	}
 }
 
+// TestBytesThatComeOneAtATime reads from a pipe that stays open. Every part comes by bytes, and no
+// byte comes before the part before it has been returned.
+func TestBytesThatComeOneAtATime(t *testing.T) {
+	blocks := [][]byte{nil, []byte("block"), bytes.Repeat([]byte("a"), 300), bytes.Repeat([]byte("b"), 70_000), {1}}
+	payload := carOf([]Cid{NewCid(Raw, nil)}, blocks...)
+	front := len(carOf([]Cid{NewCid(Raw, nil)}))
+	for version, car := range map[int][]byte{1: payload, 2: version2Of(payload, 70_000, "an index")} {
+		before := front
+		if version == 2 {
+			before += 51 + 70_000
+		}
+		reader, writer, err := os.Pipe()
+		if err != nil {
+			t.Fatal(err)
+		}
+		type result struct {
+			block []byte
+			err   error
+		}
+		results := make(chan result)
+		go func() {
+			defer close(results)
+			r, err := CarOptions{Verify: true}.OpenCar(reader)
+			results <- result{nil, err}
+			for err == nil {
+				var block []byte
+				_, block, err = r.Next()
+				results <- result{block, err}
+			}
+		}()
+		at := 0
+		returns := func(count int, block []byte, wanted error) {
+			for end := at + count; at < end; at++ {
+				if _, err := writer.Write(car[at : at+1]); err != nil {
+					t.Fatal(err)
+				}
+			}
+			select {
+			case found := <-results:
+				same(t, "result", []any{string(found.block), found.err}, []any{string(block), wanted})
+			case <-time.After(20 * time.Second):
+				t.Fatalf("version %d: the reader waits for byte %d", version, at)
+			}
+		}
+		returns(before, nil, nil)
+		for _, block := range blocks {
+			returns(len(framed(NewCid(Raw, block).Bytes(), block)), block, nil)
+		}
+		if version == 1 {
+			_ = writer.Close()
+		}
+		returns(0, nil, io.EOF)
+		_, _ = writer.Close(), reader.Close()
+	}
+}
+
+func TestALongBlockIsNotCopied(t *testing.T) {
+	car := carOf(nil, make([]byte, 8<<20), []byte("block"))
+	r, err := OpenCar(bytes.NewReader(car))
+	same(t, "OpenCar", err, nil)
+	took := allocated(func() {
+		_, block, err := r.Next()
+		same(t, "Next", []any{len(block), cap(block), err}, []any{8 << 20, 8 << 20, nil})
+	})
+	if took > 17<<20 {
+		t.Errorf("a block of 8 MiB takes %d bytes", took)
+	}
+	_, block, err := r.Next()
+	same(t, "Next", []any{string(block), err}, []any{"block", nil})
+}
+
 func TestCarErrors(t *testing.T) {
 	cid := NewCid(Raw, []byte("block"))
 	car := carOf([]Cid{cid}, []byte("block"), []byte("another"))
@@ -105,14 +179,20 @@ func TestCarErrors(t *testing.T) {
 	_, err = OpenCar(stuck{})
 	same(t, "OpenCar", errors.Is(err, io.ErrNoProgress), true)
 	for cut := 59; cut < len(car); cut++ {
-		r, err := OpenCar(io.MultiReader(bytes.NewReader(car[:cut]), iotest.ErrReader(broken)))
-		same(t, "OpenCar", err, nil)
-		for err == nil {
-			_, _, err = r.Next()
+		source := func() io.Reader { return io.MultiReader(bytes.NewReader(car[:cut]), iotest.ErrReader(broken)) }
+		once := io.MultiReader(bytes.NewReader(car[:cut]), &brokenOnce{broken}, bytes.NewReader(car[cut:]))
+		for _, source := range []io.Reader{source(), iotest.DataErrReader(source()), once} {
+			r, err := OpenCar(source)
+			same(t, "OpenCar", err, nil)
+			count := 0
+			for ; err == nil; count++ {
+				_, _, err = r.Next()
+			}
+			same(t, "blocks", count-1, map[bool]int{false: 0, true: 1}[cut >= 59+42])
+			same(t, "Next", errors.Is(err, broken), true)
+			_, _, again := r.Next()
+			same(t, "Next", again, err)
 		}
-		same(t, "Next", errors.Is(err, broken), true)
-		_, _, again := r.Next()
-		same(t, "Next", again, err)
 	}
 	r, err := CarOptions{MaxSection: 30}.OpenCar(bytes.NewReader(car))
 	same(t, "OpenCar", err, nil)
@@ -190,6 +270,15 @@ func TestALengthTakesNoMemory(t *testing.T) {
 	if took > 1<<20 {
 		t.Errorf("a length takes %d bytes", took)
 	}
+}
+
+// brokenOnce is a reader that returns its error once.
+type brokenOnce struct{ err error }
+
+func (b *brokenOnce) Read([]byte) (int, error) {
+	err := b.err
+	b.err = io.EOF
+	return 0, err
 }
 
 // stuck is a reader that reads nothing and has no error.

@@ -54,9 +54,10 @@ type randomCase struct {
 	Node [][3]*string
 	Data *string
 
-	Limit, Version int
-	Roots          []string
-	Sections       [][2]string
+	Limit, SectionLimit int
+	Version             int
+	Roots               []string
+	Sections            [][2]string
 
 	Cid string
 }
@@ -190,6 +191,10 @@ func checkBlockCase(t *testing.T, it randomCase, block []byte, status Status) {
 	sameError(t, "CountLinks", err, status, it.Offset)
 	positions, err := options.LinkPositions(block)
 	sameError(t, "LinkPositions", err, status, it.Offset)
+	text, err := options.ToJSON(block)
+	if status != 0 || !errors.Is(err, ErrJSONReservedMap) {
+		sameError(t, "ToJSON", err, status, it.Offset)
+	}
 	value, err := options.Decode(block)
 	sameError(t, "Decode", err, status, it.Offset)
 	var typed any
@@ -203,6 +208,12 @@ func checkBlockCase(t *testing.T, it randomCase, block []byte, status Status) {
 		same(t, "CheckCanonical", options.CheckCanonical(block), nil)
 	} else {
 		sameError(t, "CheckCanonical", options.CheckCanonical(block), ErrNotCanonical, -1)
+	}
+	if text != nil {
+		same(t, "ToJSON", json.Valid(text), true)
+		again, err := FromJSON(text)
+		same(t, "FromJSON", err, nil)
+		same(t, "FromJSON", hex.EncodeToString(again), it.Canonical)
 	}
 	same(t, "Links", hexes(links), it.Links)
 	same(t, "CountLinks", count, len(it.Links))
@@ -278,10 +289,11 @@ func checkPbCase(t *testing.T, it randomCase, block []byte, status Status) {
 func checkCarCase(t *testing.T, it randomCase, car []byte, status Status) {
 	for name, source := range map[string]io.Reader{
 		"whole":         bytes.NewReader(car),
+		"by halves":     iotest.HalfReader(bytes.NewReader(car)),
 		"by bytes":      iotest.OneByteReader(bytes.NewReader(car)),
 		"with an error": iotest.DataErrReader(bytes.NewReader(car)),
 	} {
-		r, err := CarOptions{MaxHeader: it.Limit, MaxSection: math.MaxInt}.OpenCar(source)
+		r, err := CarOptions{MaxHeader: it.Limit, MaxSection: it.SectionLimit}.OpenCar(source)
 		if err != nil || it.Version == 0 {
 			sameError(t, "OpenCar "+name, err, status, it.Offset)
 			continue

@@ -3,6 +3,7 @@
 //
 // [Decode] and [Encode] are for values of any shape, [Unmarshal] and [Marshal] for Go types. [Links]
 // finds the links of a block without decoding it, and [OpenCar] reads a CAR one block at a time.
+// [ToJSON] writes a block as DAG-JSON, and [FromJSON] reads such a text.
 //
 // All calls take untrusted bytes. An error is an [*Error]: it has a [Status], the byte of the input
 // at fault, and for a Go type the path of the value that doesn't fit. [Options] and [CarOptions]

@@ -21,10 +21,16 @@ func TestEachAllocationMayFail(t *testing.T) {
 	if err != nil {
 		t.Fatal(err)
 	}
+	text, err := ToJSON(block)
+	if err != nil {
+		t.Fatal(err)
+	}
 	for name, call := range map[string]func() error{
 		"Check":          func() error { return Check(block) },
 		"CheckCanonical": func() error { return ignoreOrder(CheckCanonical(block)) },
 		"Canonicalize":   func() error { _, err := Canonicalize(block); return err },
+		"ToJSON":         func() error { _, err := ToJSON(block); return err },
+		"FromJSON":       func() error { _, err := FromJSON(text); return err },
 		"Links":          func() error { _, err := Links(block); return err },
 		"CountLinks":     func() error { _, err := CountLinks(block); return err },
 		"Decode":         func() error { _, err := Decode(block); return err },

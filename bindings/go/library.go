@@ -28,6 +28,16 @@ typedef struct {
 	kombilad_cid cid;
 } cid_outcome;
 
+typedef struct {
+	uint32_t status;
+	size_t needed;
+	uint64_t more;
+	uint64_t offset;
+	kombilad_car_place place;
+	kombilad_span cid;
+	kombilad_span block;
+} car_outcome;
+
 #define BLOCK const uint8_t *block, size_t len, size_t levels, size_t values
 
 static outcome check(BLOCK) {
@@ -52,6 +62,21 @@ static outcome canonicalize(BLOCK, uint8_t *out, size_t out_len) {
 	outcome made = {0};
 	made.status = kombilad_block_canonicalize(block, len, levels, values, out, out_len,
 	                                          &made.needed, &made.offset);
+	return made;
+}
+
+static outcome to_json(BLOCK, uint8_t *text, size_t text_len) {
+	outcome made = {0};
+	made.status = kombilad_block_to_json(block, len, levels, values, text, text_len,
+	                                     &made.needed, &made.offset);
+	return made;
+}
+
+static outcome from_json(const uint8_t *text, size_t len, size_t levels, size_t values,
+                         uint8_t *out, size_t out_len) {
+	outcome made = {0};
+	made.status = kombilad_block_of_json(text, len, levels, values, out, out_len, &made.needed,
+	                                     &made.offset);
 	return made;
 }
 
@@ -110,6 +135,22 @@ static kombilad_cid cid_of_block(uint64_t codec, const uint8_t *block, size_t le
 	return made;
 }
 
+#define PART const uint8_t *bytes, size_t len, uint32_t is_all, size_t limit
+
+static car_outcome open_part(PART, kombilad_cid *roots, size_t roots_len) {
+	car_outcome made = {0};
+	made.status = kombilad_car_open_part(bytes, len, is_all, limit, &made.place, roots, roots_len,
+	                                     &made.needed, &made.more, &made.offset);
+	return made;
+}
+
+static car_outcome next_part(PART, kombilad_car_place place) {
+	car_outcome made = {.place = place};
+	made.status = kombilad_car_next_part(bytes, len, is_all, limit, &made.place, &made.cid,
+	                                     &made.block, &made.more, &made.offset);
+	return made;
+}
+
 static uint32_t verify(_GoString_ cid, const uint8_t *block, size_t len) {
 	return kombilad_verify(STRING(cid), block, len);
 }
@@ -118,8 +159,8 @@ import "C"
 
 import "unsafe"
 
-// C is called only here and in car_window.go. A call takes a whole block, so decoding doesn't call C
-// for each value. The memory that is passed to C has no pointers in it.
+// C is called only here. A call takes a whole block, so decoding doesn't call C for each value. The
+// memory that is passed to C has no pointers in it.
 
 // entry is a value or a key of a block: its layout is that of kombilad_entry.
 type entry struct {
@@ -180,6 +221,13 @@ const maxSize = ^C.size_t(0)
 // statusTooShort is the status of a call that needs a longer buffer.
 const statusTooShort Status = C.KOMBILAD_TOO_SHORT
 
+// The statuses of a call on a part of a CAR that needs more bytes, or that finds no section because
+// the last one is before the place.
+const (
+	statusMore Status = C.KOMBILAD_CAR_MORE
+	statusDone Status = C.KOMBILAD_CAR_DONE
+)
+
 func cSize(size int) C.size_t {
 	return C.size_t(size)
 }
@@ -217,6 +265,18 @@ func callCanonicalize(block []byte, within limits, out []byte) outcome {
 	bytes, length := bytesOf(block)
 	to, room := bytesOf(out)
 	return outcomeOf(C.canonicalize(bytes, length, within.levels, within.values, to, room))
+}
+
+func callToJSON(block []byte, within limits, text []byte) outcome {
+	bytes, length := bytesOf(block)
+	to, room := bytesOf(text)
+	return outcomeOf(C.to_json(bytes, length, within.levels, within.values, to, room))
+}
+
+func callFromJSON(text []byte, within limits, out []byte) outcome {
+	bytes, length := bytesOf(text)
+	to, room := bytesOf(out)
+	return outcomeOf(C.from_json(bytes, length, within.levels, within.values, to, room))
 }
 
 func callPositions(block []byte, within limits, spans []span) outcome {
@@ -289,6 +349,62 @@ func cidOf(record *C.kombilad_cid) string {
 func callVerify(cid string, block []byte) Status {
 	bytes, length := bytesOf(block)
 	return Status(C.verify(cid, bytes, length))
+}
+
+// carPlace is the place of the next section of a CAR.
+type carPlace struct {
+	version, at, end uint64
+}
+
+// carPart is the result of a call on a part of a CAR.
+type carPart struct {
+	outcome
+	more       uint64 // how many more bytes are needed, if the status is statusMore
+	place      carPlace
+	cid, block span
+}
+
+func carPartOf(made C.car_outcome) carPart {
+	return carPart{
+		outcome{Status(made.status), int(made.needed), int64(made.offset)},
+		uint64(made.more),
+		carPlace{uint64(made.place.version), uint64(made.place.at), uint64(made.place.end)},
+		span{uint64(made.cid.offset), uint64(made.cid.len)},
+		span{uint64(made.block.offset), uint64(made.block.len)},
+	}
+}
+
+func flag(isSet bool) C.uint32_t {
+	if isSet {
+		return 1
+	}
+	return 0
+}
+
+// callCarOpen takes the first bytes of a CAR, and whether they are all.
+func callCarOpen(bytes []byte, isAll bool, limit int) (roots []Cid, found carPart) {
+	from, length := bytesOf(bytes)
+	records, _ := filled(nil, func(records []C.kombilad_cid) outcome {
+		var to *C.kombilad_cid
+		if len(records) > 0 {
+			to = &records[0]
+		}
+		room := C.size_t(len(records))
+		found = carPartOf(C.open_part(from, length, flag(isAll), C.size_t(limit), to, room))
+		return found.outcome
+	})
+	roots = make([]Cid, len(records))
+	for at := range records {
+		roots[at] = Cid{cidOf(&records[at])}
+	}
+	return roots, found
+}
+
+// callCarNext takes the bytes from a place on, and whether they are all.
+func callCarNext(bytes []byte, isAll bool, limit int, at carPlace) carPart {
+	from, length := bytesOf(bytes)
+	place := C.kombilad_car_place{C.uint64_t(at.version), C.uint64_t(at.at), C.uint64_t(at.end)}
+	return carPartOf(C.next_part(from, length, flag(isAll), C.size_t(limit), place))
 }
 
 func callStatusText(status uint32) string {

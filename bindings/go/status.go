@@ -87,6 +87,20 @@ const (
 	ErrPbUTF8           Status = C.KOMBILAD_PB_UTF8             // a name is not UTF-8
 )
 
+// The text is not DAG-JSON, or a map of the block has none.
+const (
+	ErrJSONUTF8         Status = C.KOMBILAD_JSON_UTF8          // the text is not UTF-8
+	ErrJSONSyntax       Status = C.KOMBILAD_JSON_SYNTAX        // the text is not JSON
+	ErrJSONEnd          Status = C.KOMBILAD_JSON_END           // the text ends too early
+	ErrJSONFloat        Status = C.KOMBILAD_JSON_FLOAT         // a float is beyond 64 bits
+	ErrJSONIntegerRange Status = C.KOMBILAD_JSON_INTEGER_RANGE // below -2^64 or above 2^64 - 1
+	ErrJSONDuplicateKey Status = C.KOMBILAD_JSON_DUPLICATE_KEY // an object has a key twice
+	ErrJSONLink         Status = C.KOMBILAD_JSON_LINK          // not the text of a CID
+	ErrJSONBytes        Status = C.KOMBILAD_JSON_BYTES         // not base64 without padding
+	ErrJSONReserved     Status = C.KOMBILAD_JSON_RESERVED      // neither a link nor bytes
+	ErrJSONReservedMap  Status = C.KOMBILAD_JSON_RESERVED_MAP  // would be read as a link or bytes
+)
+
 // The value can't be encoded.
 const (
 	ErrValueUTF8    Status = C.KOMBILAD_TAPE_UTF8          // a string is not UTF-8

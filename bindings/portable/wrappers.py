@@ -2,7 +2,7 @@
 translated ones.
 
 The translated code has numbers with their lowest byte first and pointers and sizes of eight bytes.
-Where the processor has that too, a call passes on what it takes. Elsewhere a size that is written
+Where the processor has that too, a call passes on what it takes. Elsewhere a number that is written
 goes through eight bytes, and records get that order before the call and their own after it.
 """
 
@@ -150,10 +150,10 @@ class Wrapper:
         """Returns what is passed for a parameter, and notes what is done around the call."""
         if not it.is_pointer:
             return it.name
-        if it.type == "size_t" and not it.is_constant:
+        if it.type in ("size_t", "uint64_t") and not it.is_constant:
             self.declared.append(f"u8 {it.name}_bytes[8];")
             self.before.append(f"st_u64({it.name}_bytes, *{it.name});")
-            self.after.append(f"*{it.name} = (size_t)ld_u64({it.name}_bytes);")
+            self.after.append(f"*{it.name} = ({it.type})ld_u64({it.name}_bytes);")
             return f"{it.name}_bytes"
         if it.type == "uint8_t" or self.records.get(it.type) == ():
             return f"(P){it.name}"

@@ -36,6 +36,8 @@ def works():
     yield lambda: [kombilad.links(LINKS), kombilad.link_positions(LINKS)]
     yield lambda: [kombilad.canonicalize(LINKS), kombilad.is_canonical(LINKS)]
     for block in BLOCKS:
+        yield lambda: kombilad.from_json(kombilad.to_json(block))
+    for block in BLOCKS:
         for cids in (Cid, str, bytes):
             yield lambda: kombilad.decode_dag_cbor(block, cids=cids)
         yield lambda: kombilad.decode_dag_cbor_multi(block * 3)

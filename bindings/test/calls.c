@@ -594,25 +594,26 @@ static void check_nodes(void) {
     free(block.at);
 }
 
-static void check_canonicalize(const char *name, bytes block, uint32_t expected, bytes canonical,
-                               size_t at_byte) {
-    size_t lens[] = {0, canonical.len ? canonical.len - 1 : 0, canonical.len, canonical.len + 2};
+typedef uint32_t writer(const uint8_t *input, size_t len, size_t levels, size_t values,
+                        uint8_t *out, size_t out_len, size_t *needed, size_t *offset);
+
+static void check_written(const char *name, writer *made, bytes input, uint32_t expected,
+                          bytes content, size_t at_byte) {
+    size_t lens[] = {0, content.len ? content.len - 1 : 0, content.len, content.len + 2};
     for (size_t at = 0; at < COUNT(lens); at++) {
         size_t len = lens[at], needed = NONE, offset = NONE;
         uint8_t *buffer = len ? malloc(len) : NULL;
         if (len) memset(buffer, '#', len);
-        uint32_t status = kombilad_block_canonicalize(block.at, block.len, 100, 100, buffer, len,
-                                                      &needed, &offset);
+        uint32_t status = made(input.at, input.len, 100, 100, buffer, len, &needed, &offset);
         size_t filled = 0;
         if (expected) {
             CHECK_OF(name, status == expected && needed == NONE && offset == at_byte);
-        } else if (len < canonical.len) {
-            CHECK_OF(name,
-                     status == KOMBILAD_TOO_SHORT && needed == canonical.len && offset == NONE);
+        } else if (len < content.len) {
+            CHECK_OF(name, status == KOMBILAD_TOO_SHORT && needed == content.len && offset == NONE);
         } else {
-            CHECK_OF(name, status == KOMBILAD_OK && needed == canonical.len &&
-                               memcmp(buffer, canonical.at, canonical.len) == 0 && offset == NONE);
-            filled = canonical.len;
+            CHECK_OF(name, status == KOMBILAD_OK && needed == content.len &&
+                               memcmp(buffer, content.at, content.len) == 0 && offset == NONE);
+            filled = content.len;
         }
         if (len) CHECK_OF(name, is_all(buffer + filled, len - filled, '#'));
         free(buffer);
@@ -638,7 +639,7 @@ static void check_blocks(void) {
         check_links(name, block, expected, expected ? 0 : blocks[at].links, at_byte);
         check_tape(name, block, expected, at_byte);
         if (!expected) check_encode(name, block, canonical);
-        check_canonicalize(name, block, expected, canonical, at_byte);
+        check_written(name, kombilad_block_canonicalize, block, expected, canonical, at_byte);
         free(block.at), free(canonical.at);
     }
     kombilad_cid links[3];
@@ -655,6 +656,117 @@ static void check_blocks(void) {
           needed == 3);
     CHECK(spans[0].offset == 6 && spans[1].offset == 46 && spans[2].offset == 55);
     free(block.at), free(v1.at), free(v0.at);
+}
+
+/* Blocks and their DAG-JSON, which are made of each other. */
+static const struct {
+    const char *block, *text;
+} same[] = {
+    {"f6", "null"},
+    {"f4", "false"},
+    {"f5", "true"},
+    {"00", "0"},
+    {"20", "-1"},
+    {"1bffffffffffffffff", "18446744073709551615"},
+    {"3bffffffffffffffff", "-18446744073709551616"},
+    {"fb3ff8000000000000", "1.5"},
+    {"fb4059000000000000", "100.0"},
+    {"fb8000000000000000", "-0.0"},
+    {"fb7fefffffffffffff", "1.7976931348623157e308"},
+    {"60", "\"\""},
+    {"66225c0a1fc3a9", "\"\\\"\\\\\\n\\u001fé\""},
+    {"40", "{\"/\":{\"bytes\":\"\"}}"},
+    {"426869", "{\"/\":{\"bytes\":\"aGk\"}}"},
+    {"d82a582300" V0, "{\"/\":\"" V0_TEXT "\"}"},
+    {"d82a450001550000", "{\"/\":\"bafkqaaa\"}"},
+    {"80", "[]"},
+    {"8301820203a0", "[1,[2,3],{}]"},
+    {"a2616201626161f6", "{\"aa\":null,\"b\":1}"},
+    {"a1612f01", "{\"/\":1}"},
+    {"a1612fa161780a", "{\"/\":{\"x\":10}}"},
+    {"a1612fa26161006562797465736161", "{\"/\":{\"a\":0,\"bytes\":\"a\"}}"},
+    {"a1612fa16562797465730a", "{\"/\":{\"bytes\":10}}"},
+    {"a261216161612f6161", "{\"!\":\"a\",\"/\":\"a\"}"},
+};
+
+/* Blocks without a text, or with one of which another block is made. */
+static const struct {
+    const char *block, *text;
+    uint32_t status;
+    size_t at;
+} shown[] = {
+    {"a2626161f6616201", "{\"aa\":null,\"b\":1}", KOMBILAD_OK, 0},
+    {"a1612f6161", "", KOMBILAD_JSON_RESERVED_MAP, 0},
+    {"8200a1612f6161", "", KOMBILAD_JSON_RESERVED_MAP, 2},
+    {"a2616101612f6161", "", KOMBILAD_JSON_RESERVED_MAP, 0},
+    {"a16161a1612fa16562797465736161", "", KOMBILAD_JSON_RESERVED_MAP, 3},
+    {"a1612f616100", "", KOMBILAD_BLOCK_TRAILING_BYTES, 5},
+    {"81", "", KOMBILAD_BLOCK_END, 1},
+    {"fb7ff8000000000000", "", KOMBILAD_BLOCK_FLOAT, 0},
+    {"82a1612f616181", "", KOMBILAD_BLOCK_END, 7},
+};
+
+/* Texts without a block, or with one of which another text is made. */
+static const struct {
+    const char *text, *block;
+    uint32_t status;
+    size_t at;
+} read[] = {
+    {" [ 1 ,\n2e0 ]\t", "8201fb4000000000000000", KOMBILAD_OK, 0},
+    {"{\"b\":1,\"aa\":null}", "a2616201626161f6", KOMBILAD_OK, 0},
+    {"\"\\u0061\\ud83d\\ude00\"", "6561f09f9880", KOMBILAD_OK, 0},
+    {"[\"\xc3\"]", "", KOMBILAD_JSON_UTF8, 2},
+    {"[1,]", "", KOMBILAD_JSON_SYNTAX, 3},
+    {"1 2", "", KOMBILAD_JSON_SYNTAX, 2},
+    {"", "", KOMBILAD_JSON_END, 0},
+    {"[1", "", KOMBILAD_JSON_END, 2},
+    {"[1e999]", "", KOMBILAD_JSON_FLOAT, 1},
+    {"18446744073709551616", "", KOMBILAD_JSON_INTEGER_RANGE, 0},
+    {"-18446744073709551617", "", KOMBILAD_JSON_INTEGER_RANGE, 0},
+    {"{\"a\":1,\"a\":2}", "", KOMBILAD_JSON_DUPLICATE_KEY, 7},
+    {"{\"/\":\"bafkqaa\"}", "", KOMBILAD_JSON_LINK, 14},
+    {"{\"/\":{\"bytes\":\"aGk=\"}}", "", KOMBILAD_JSON_BYTES, 21},
+    {"{\"/\":\"bafkqaaa\",\"a\":1}", "", KOMBILAD_JSON_RESERVED, 21},
+};
+
+static void check_json(void) {
+    for (size_t at = 0; at < COUNT(same); at++) {
+        bytes block = from_hex(same[at].block), text = from_text(same[at].text);
+        check_written(same[at].text, kombilad_block_to_json, block, KOMBILAD_OK, text, 0);
+        check_written(same[at].text, kombilad_block_of_json, text, KOMBILAD_OK, block, 0);
+        free(block.at), free(text.at);
+    }
+    for (size_t at = 0; at < COUNT(shown); at++) {
+        bytes block = from_hex(shown[at].block), text = from_text(shown[at].text);
+        check_written(shown[at].block, kombilad_block_to_json, block, shown[at].status, text,
+                      shown[at].at);
+        free(block.at), free(text.at);
+    }
+    for (size_t at = 0; at < COUNT(read); at++) {
+        bytes block = from_hex(read[at].block), text = from_text(read[at].text);
+        check_written(read[at].text, kombilad_block_of_json, text, read[at].status, block,
+                      read[at].at);
+        free(block.at), free(text.at);
+    }
+    /* A link is two values of the text, one level deep. */
+    static const struct {
+        size_t levels, values;
+        uint32_t status;
+        size_t needed, offset;
+    } limits[] = {
+        {3, 4, KOMBILAD_TOO_SHORT, 10, NONE},
+        {2, 4, KOMBILAD_TOO_DEEP, NONE, 2},
+        {3, 3, KOMBILAD_TOO_MANY, NONE, 7},
+        {0, 0, KOMBILAD_TOO_DEEP, NONE, 0},
+    };
+    bytes text = from_text("[[{\"/\":\"bafkqaaa\"}]]");
+    for (size_t at = 0; at < COUNT(limits); at++) {
+        size_t needed = NONE, offset = NONE;
+        CHECK(kombilad_block_of_json(text.at, text.len, limits[at].levels, limits[at].values, NULL,
+                                     0, &needed, &offset) == limits[at].status);
+        CHECK(needed == limits[at].needed && offset == limits[at].offset);
+    }
+    free(text.at);
 }
 
 static void check_limits(void) {
@@ -679,7 +791,7 @@ static void check_limits(void) {
         size_t len = limits[at].is_cut ? 3 : 4, levels = limits[at].levels,
                values = limits[at].values, needed = NONE;
         uint32_t status = limits[at].status;
-        size_t offsets[7] = {NONE, NONE, NONE, NONE, NONE, NONE, NONE};
+        size_t offsets[8] = {NONE, NONE, NONE, NONE, NONE, NONE, NONE, NONE};
         CHECK(kombilad_block_check(block, len, levels, values, &offsets[0]) == status);
         CHECK(kombilad_block_check_canonical(block, len, levels, values, &offsets[1]) == status);
         CHECK(kombilad_block_canonicalize(block, len, levels, values, out, sizeof out, &needed,
@@ -689,6 +801,8 @@ static void check_limits(void) {
         CHECK(kombilad_link_positions(block, len, levels, values, NULL, 0, &needed, &offsets[5]) ==
               status);
         CHECK(kombilad_tape(block, len, levels, values, NULL, 0, &needed, &offsets[6]) ==
+              (status ? status : KOMBILAD_TOO_SHORT));
+        CHECK(kombilad_block_to_json(block, len, levels, values, NULL, 0, &needed, &offsets[7]) ==
               (status ? status : KOMBILAD_TOO_SHORT));
         for (size_t call = 0; call < COUNT(offsets); call++)
             CHECK(offsets[call] == limits[at].offset);
@@ -756,6 +870,22 @@ static uint32_t call_canonicalize(bytes block, void *out, size_t len, size_t *ne
     return kombilad_block_canonicalize(block.at, block.len, 100, 100, out, len, needed, &offset);
 }
 
+static uint32_t call_to_json(bytes block, void *out, size_t len, size_t *needed) {
+    size_t offset = 0;
+    uint32_t status = kombilad_block_to_json(block.at, block.len, 100, 100, out, len, needed,
+                                             &offset);
+    CHECK(offset <= block.len);
+    return status;
+}
+
+static uint32_t call_of_json(bytes text, void *out, size_t len, size_t *needed) {
+    size_t offset = 0;
+    uint32_t status = kombilad_block_of_json(text.at, text.len, 100, 100, out, len, needed,
+                                             &offset);
+    CHECK(offset <= text.len);
+    return status;
+}
+
 static uint32_t call_check_canonical(bytes block, void *out, size_t len, size_t *needed) {
     size_t offset;
     (void)out, (void)len, (void)needed;
@@ -797,6 +927,12 @@ static void check_refused(void) {
     CHECK(refuse_each(call_tape, block, 40 * sizeof(kombilad_entry)) > 0);
     CHECK(refuse_each(call_encode, block, 500) > 0);
     CHECK(refuse_each(call_canonicalize, block, 500) > 0);
+    CHECK(refuse_each(call_to_json, block, 500) > 0);
+    bytes json = from_text(
+        "{\"b\":[{\"/\":\"bafkqaaa\"},1.5,-7],\"aa\":{\"/\":{\"bytes\":\"aGk\"}},"
+        "\"\\u0061\":{\"c\":\"d\",\"\":[[]]}}");
+    CHECK(refuse_each(call_of_json, json, 500) > 0);
+    free(json.at);
     bytes node = from_hex("120c0a0401550000120161188001" PB_BARE PB_DATA);
     CHECK(refuse_each(call_pb_tape, node, sizeof pb_entries) > 0);
     free(node.at);
@@ -858,103 +994,146 @@ static const struct {
      52},
 };
 
-static uint32_t call_open(bytes car, void *out, size_t len, size_t *needed) {
-    kombilad_car opened;
-    size_t offset;
-    return kombilad_car_open(car.at, car.len, 1000, &opened, out, len / sizeof(kombilad_cid),
-                             needed, &offset);
+/* Of each CAR, by kombilad_car_open_part: what it returns with all bytes and with as many as are
+ * said, and how many more it needs. */
+static const struct {
+    const char *car;
+    size_t given;
+    uint64_t more;
+} starts[] = {
+    {HEADER, 0, 1},
+    {HEADER, 1, 17},
+    {HEADER, 17, 1},
+    {"8000", 1, 1},
+    {FRONT2 SIZED("35", "99") "0000" HEADER, 5, 6},
+    {FRONT2 SIZED("35", "99") "0000" HEADER, 11, 40},
+    {FRONT2 SIZED("35", "99") "0000" HEADER, 50, 1},
+    {FRONT2 SIZED("35", "99") "0000" HEADER, 51, 2},
+    {FRONT2 SIZED("35", "99") "0000" HEADER, 53, 1},
+    {FRONT2 SIZED("35", "99") "0000" HEADER, 54, 17},
+    /* A payload that ends before its header does. */
+    {FRONT2 SIZED("33", "10") HEADER, 52, 15},
+};
+
+static uint32_t call_open_part(bytes car, void *out, size_t len, size_t *needed) {
+    kombilad_car_place place;
+    uint64_t more, offset;
+    return kombilad_car_open_part(car.at, car.len, 1, 1000, &place, out, len / sizeof(kombilad_cid),
+                                  needed, &more, &offset);
 }
 
-static void check_opened(void) {
+static void check_opened_parts(void) {
     for (size_t at = 0; at < COUNT(cars); at++) {
         bytes car = from_hex(cars[at].car);
-        kombilad_car opened = {7, 7, 7};
-        size_t needed = NONE, offset = NONE;
-        CHECK_OF(cars[at].car, kombilad_car_open(car.at, car.len, 1000, &opened, NULL, 0, &needed,
-                                                 &offset) == cars[at].status);
+        kombilad_car_place place = {7, 7, 7};
+        size_t needed = NONE;
+        uint64_t more = 7, offset = 7;
+        CHECK_OF(cars[at].car, kombilad_car_open_part(car.at, car.len, 1, 1000, &place, NULL, 0,
+                                                      &needed, &more, &offset) == cars[at].status);
         if (cars[at].status) {
-            CHECK_OF(cars[at].car, opened.version == 7 && opened.sections == 7 && opened.end == 7 &&
+            CHECK_OF(cars[at].car, place.version == 7 && place.at == 7 && place.end == 7 &&
                                        needed == NONE && offset == cars[at].at_byte);
         } else {
-            CHECK_OF(cars[at].car, opened.version == cars[at].version &&
-                                       opened.sections == cars[at].sections &&
-                                       opened.end == cars[at].end);
-            CHECK_OF(cars[at].car, needed == 0 && offset == NONE);
+            CHECK_OF(cars[at].car,
+                     place.version == cars[at].version && place.at == cars[at].sections &&
+                         place.end == (place.version == 1 ? UINT64_MAX : cars[at].end));
+            CHECK_OF(cars[at].car, needed == 0 && offset == 7);
         }
+        CHECK_OF(cars[at].car, more == 7);
+        free(car.at);
+    }
+    for (size_t at = 0; at < COUNT(starts); at++) {
+        bytes car = from_hex(starts[at].car);
+        kombilad_car_place place = {7, 7, 7};
+        size_t needed = NONE;
+        uint64_t more = 7, offset = 7;
+        CHECK_OF(starts[at].car,
+                 kombilad_car_open_part(car.at, starts[at].given, 0, 1000, &place, NULL, 0, &needed,
+                                        &more, &offset) == KOMBILAD_CAR_MORE);
+        CHECK_OF(starts[at].car, more == starts[at].more && needed == NONE && offset == 7 &&
+                                     place.version == 7 && place.at == 7 && place.end == 7);
         free(car.at);
     }
     bytes car = from_hex("44a265726f6f747382" LINK(V1, "25") "d82a4500" LEAF "6776657273696f6e01");
     car.at[0] = (uint8_t)(car.len - 1);
-    kombilad_car opened;
+    kombilad_car_place place;
     kombilad_cid roots[3];
-    size_t needed, offset = NONE;
+    size_t needed;
+    uint64_t more = 7, offset = 7;
     memset(roots, '#', sizeof roots);
-    CHECK(kombilad_car_open(car.at, car.len, 1000, &opened, roots, 1, &needed, &offset) ==
-              KOMBILAD_TOO_SHORT &&
-          needed == 2);
-    CHECK(is_all((uint8_t *)roots, sizeof roots, '#') && opened.sections == car.len &&
-          opened.end == car.len);
-    CHECK(kombilad_car_open(car.at, car.len, 1000, &opened, roots, 3, &needed, &offset) ==
-              KOMBILAD_OK &&
+    CHECK(kombilad_car_open_part(car.at, car.len, 1, 1000, &place, roots, 1, &needed, &more,
+                                 &offset) == KOMBILAD_TOO_SHORT &&
+          needed == 2 && is_all((uint8_t *)roots, sizeof roots, '#') && place.at == car.len);
+    CHECK(kombilad_car_open_part(car.at, car.len, 1, 1000, &place, roots, 3, &needed, &more,
+                                 &offset) == KOMBILAD_OK &&
           needed == 2);
     CHECK(roots[0].len == 36 && roots[1].len == 4 && roots[1].bytes[1] == 0x55 &&
           is_all((uint8_t *)&roots[2], sizeof roots[2], '#'));
-    CHECK(kombilad_car_open(car.at, car.len, car.len - 2, &opened, roots, 3, &needed, &offset) ==
-              KOMBILAD_CAR_TOO_LONG &&
+    CHECK(more == 7 && offset == 7);
+    CHECK(kombilad_car_open_part(car.at, car.len, 1, car.len - 2, &place, roots, 3, &needed, &more,
+                                 &offset) == KOMBILAD_CAR_TOO_LONG &&
           offset == 0);
-    CHECK(refuse_each(call_open, car, sizeof roots) > 0);
+    CHECK(refuse_each(call_open_part, car, sizeof roots) > 0);
     free(car.at);
 }
 
 static const struct {
     const char *car;
-    size_t at, end;
+    uint32_t is_all;
+    size_t limit;
+    uint64_t version, at, end;
     uint32_t status;
-    size_t cid, block, next; /* or the offset and nothing */
-} sections[] = {
-    {"04" LEAF, 0, 5, KOMBILAD_OK, 1, 5, 5},
-    {"ff"
-     "06" LEAF "6869"
-     "ff",
-     1, 9, KOMBILAD_OK, 2, 6, 8},
-    {"22" V0, 0, 35, KOMBILAD_OK, 1, 35, 35},
-    {"04" LEAF, 5, 5, KOMBILAD_CAR_DONE, NONE, 0, 0},
-    {"04" LEAF, 9, 5, KOMBILAD_CAR_DONE, NONE, 0, 0},
-    {"", 0, 0, KOMBILAD_CAR_DONE, NONE, 0, 0},
-    {"04" LEAF, 5, 6, KOMBILAD_CAR_SHORT_PAYLOAD, 5, 0, 0},
-    {"04" LEAF, 8, SIZE_MAX, KOMBILAD_CAR_SHORT_PAYLOAD, 8, 0, 0},
-    {"040155", 0, 4, KOMBILAD_CAR_SHORT_PAYLOAD, 3, 0, 0},
-    {"040155", 0, 3, KOMBILAD_CAR_UNEXPECTED_END, 3, 0, 0},
-    {"04" LEAF, 0, 3, KOMBILAD_CAR_UNEXPECTED_END, 3, 0, 0},
-    {"80", 0, 1, KOMBILAD_CAR_UNEXPECTED_END, 1, 0, 0},
-    {"00", 0, 1, KOMBILAD_CAR_EMPTY, 0, 0, 0},
-    {"ff8000", 1, 3, KOMBILAD_CAR_LENGTH_NOT_SHORTEST, 2, 0, 0},
-    {"ffffffffffffffffff02", 0, 10, KOMBILAD_CAR_LENGTH_TOO_LARGE, 9, 0, 0},
-    {"0401550001", 0, 5, KOMBILAD_CID_END, 1, 0, 0},
-    {"ff0402550000", 1, 6, KOMBILAD_CID_UNKNOWN_VERSION, 2, 0, 0},
+    size_t cid, block, next; /* or the offset or the number of bytes, and nothing */
+} parts[] = {
+    {"04" LEAF, 0, 4, 1, 9, UINT64_MAX, KOMBILAD_OK, 1, 5, 5},
+    {"06" LEAF "6869ff", 0, 6, 2, 100, 107, KOMBILAD_OK, 1, 5, 7},
+    {"06" LEAF "6869ff", 0, 6, 2, 1ull << 40, 1ull << 41, KOMBILAD_OK, 1, 5, 7},
+    {"", 0, 9, 1, 9, UINT64_MAX, KOMBILAD_CAR_MORE, 1, 0, 0},
+    {"", 1, 9, 1, 9, UINT64_MAX, KOMBILAD_CAR_DONE, 0, 0, 0},
+    {"", 0, 9, 2, 9, 9, KOMBILAD_CAR_DONE, 0, 0, 0},
+    {"04", 0, 9, 2, 9, 8, KOMBILAD_CAR_DONE, 0, 0, 0},
+    {"", 1, 9, 2, 9, 10, KOMBILAD_CAR_SHORT_PAYLOAD, 9, 0, 0},
+    {"80", 0, 9, 1, 9, UINT64_MAX, KOMBILAD_CAR_MORE, 1, 0, 0},
+    {"04", 0, 9, 1, 9, UINT64_MAX, KOMBILAD_CAR_MORE, 4, 0, 0},
+    {"0401", 0, 9, 2, 9, 12, KOMBILAD_CAR_MORE, 1, 0, 0},
+    {"0401", 1, 9, 2, 9, 12, KOMBILAD_CAR_SHORT_PAYLOAD, 11, 0, 0},
+    {"0401", 1, 9, 1, 9, UINT64_MAX, KOMBILAD_CAR_UNEXPECTED_END, 11, 0, 0},
+    {"04015500", 0, 9, 2, 9, 12, KOMBILAD_CAR_UNEXPECTED_END, 12, 0, 0},
+    {"04", 0, 3, 1, 9, UINT64_MAX, KOMBILAD_CAR_TOO_LONG, 9, 0, 0},
+    {"04" LEAF, 1, 3, 1, 9, UINT64_MAX, KOMBILAD_CAR_TOO_LONG, 9, 0, 0},
+    {"00", 0, 9, 1, 9, UINT64_MAX, KOMBILAD_CAR_EMPTY, 9, 0, 0},
+    {"8000", 0, 9, 1, 9, UINT64_MAX, KOMBILAD_CAR_LENGTH_NOT_SHORTEST, 10, 0, 0},
+    {"ffffffffffffffffff02", 0, 9, 1, 9, UINT64_MAX, KOMBILAD_CAR_LENGTH_TOO_LARGE, 18, 0, 0},
+    {"0401550001", 0, 9, 1, 9, UINT64_MAX, KOMBILAD_CID_END, 10, 0, 0},
+    {"0402550000", 0, 9, 2, 9, 99, KOMBILAD_CID_UNKNOWN_VERSION, 10, 0, 0},
 };
 
-static void check_sections(void) {
-    for (size_t at = 0; at < COUNT(sections); at++) {
-        bytes car = from_hex(sections[at].car);
+static void check_parts(void) {
+    for (size_t at = 0; at < COUNT(parts); at++) {
+        bytes car = from_hex(parts[at].car);
+        kombilad_car_place place = {parts[at].version, parts[at].at, parts[at].end};
         kombilad_span cid = {7, 7}, block = {7, 7};
-        size_t next = 7, offset = NONE;
+        uint64_t more = 7, offset = 7;
         refused_at = 0;
-        CHECK_OF(sections[at].car,
-                 kombilad_car_next(car.at, car.len, sections[at].at, sections[at].end, &cid, &block,
-                                   &next, &offset) == sections[at].status);
+        CHECK_OF(parts[at].car,
+                 kombilad_car_next_part(car.at, car.len, parts[at].is_all, parts[at].limit, &place,
+                                        &cid, &block, &more, &offset) == parts[at].status);
         CHECK(refused_at == 0);
         refused_at = -1;
-        if (sections[at].status) {
-            CHECK_OF(sections[at].car, cid.offset == 7 && cid.len == 7 && block.offset == 7 &&
-                                           block.len == 7 && next == 7 &&
-                                           offset == sections[at].cid);
+        bool is_more = parts[at].status == KOMBILAD_CAR_MORE;
+        bool is_error = parts[at].status && parts[at].status != KOMBILAD_CAR_DONE && !is_more;
+        CHECK_OF(parts[at].car, more == (is_more ? parts[at].cid : 7));
+        CHECK_OF(parts[at].car, offset == (is_error ? parts[at].cid : 7));
+        CHECK_OF(parts[at].car, place.version == parts[at].version && place.end == parts[at].end);
+        if (parts[at].status) {
+            CHECK_OF(parts[at].car, cid.offset == 7 && cid.len == 7 && block.offset == 7 &&
+                                        block.len == 7 && place.at == parts[at].at);
         } else {
-            CHECK_OF(sections[at].car, cid.offset == sections[at].cid &&
-                                           cid.offset + cid.len == sections[at].block &&
-                                           block.offset == sections[at].block);
-            CHECK_OF(sections[at].car, block.offset + block.len == sections[at].next &&
-                                           next == sections[at].next && offset == NONE);
+            CHECK_OF(parts[at].car, cid.offset == parts[at].cid &&
+                                        cid.offset + cid.len == parts[at].block &&
+                                        block.offset == parts[at].block);
+            CHECK_OF(parts[at].car, block.offset + block.len == parts[at].next &&
+                                        place.at == parts[at].at + parts[at].next);
         }
         free(car.at);
     }
@@ -1081,7 +1260,7 @@ static void check_sentences(void) {
         CHECK(kombilad_status_text(status, text, len, &needed) == KOMBILAD_OK && needed == len);
         for (size_t at = 0; at < len; at++) CHECK(' ' <= text[at] && text[at] <= '~');
         CHECK(text[len - 1] != '.' && text[len] == 0xaa);
-        if (status > KOMBILAD_PB_UTF8)
+        if (status > KOMBILAD_CAR_MORE)
             CHECK(reports(status, "the status is not one of this version"));
     }
     CHECK(reports(KOMBILAD_OK, "the call succeeded"));
@@ -1098,6 +1277,9 @@ static void check_sentences(void) {
     CHECK(reports(KOMBILAD_WRONG_DIGEST, "the digest of the block is not that of the CID"));
     CHECK(reports(KOMBILAD_TAPE_DUPLICATE_KEY, "a map has the same key twice"));
     CHECK(reports(KOMBILAD_PB_UTF8, "the name of a link is not UTF-8"));
+    CHECK(reports(KOMBILAD_JSON_RESERVED_MAP,
+                  "a map would be read as a link or as bytes in DAG-JSON"));
+    CHECK(reports(KOMBILAD_CAR_MORE, "more bytes of the CAR are needed"));
 }
 
 int main(int count, char **words) {
@@ -1113,13 +1295,14 @@ int main(int count, char **words) {
     check_no_texts();
     check_cid_of_block();
     check_blocks();
+    check_json();
     check_each_kind();
     check_no_tapes();
     check_nodes();
     check_limits();
     check_refused();
-    check_opened();
-    check_sections();
+    check_opened_parts();
+    check_parts();
     check_digests();
     check_threads();
     puts("calls: ok");

@@ -43,6 +43,7 @@ class Bytes(unittest.TestCase):
                     self.assertIsNone(kombilad.check(block))
                     self.assertEqual(kombilad.canonicalize(block), BLOCK)
                     self.assertTrue(kombilad.is_canonical(block))
+                    self.assertEqual(kombilad.from_json(kombilad.to_json(block)), BLOCK)
                     self.assertEqual(Cid.of_block(block), Cid.of_block(BLOCK))
                 self.assertEqual(Cid(bytearray(bytes(SHORT))), SHORT)
 
@@ -55,6 +56,7 @@ class Bytes(unittest.TestCase):
                 kombilad.link_positions,
                 kombilad.canonicalize,
                 kombilad.is_canonical,
+                kombilad.to_json,
                 Cid.of_block,
             ):
                 self.assertRaises((TypeError, BufferError), call, wrong)
@@ -190,6 +192,7 @@ class Blocks(unittest.TestCase):
             kombilad.count_links,
             kombilad.canonicalize,
             kombilad.is_canonical,
+            kombilad.to_json,
         ):
             call(deep, levels=6, values=6)
             call(deep, levels=1 << 70, values=1 << 70)
@@ -221,6 +224,54 @@ class Blocks(unittest.TestCase):
                 call(wrong)
             self.assertEqual((raised.exception.name, raised.exception.offset), ("BLOCK_FLOAT", 1))
 
+    def test_json(self):
+        for text, block in (
+            ("null", "f6"),
+            ("18446744073709551615", "1bffffffffffffffff"),
+            ("-0.0", "fb8000000000000000"),
+            ('"\\"é\\u001f"', "6422c3a91f"),
+            ('{"/":{"bytes":"aGk"}}', "426869"),
+            ('[{"/":"bafkqaaa"},[],{}]', "83d82a45000155000080a0"),
+            ('{"aa":1,"b":{"/":2}}', "a26162a1612f0262616101"),
+        ):
+            self.assertEqual(kombilad.to_json(bytes.fromhex(block)), text)
+            for given in (text, text.encode(), memoryview(b" " + text.encode() + b"\n")):
+                self.assertEqual(kombilad.from_json(given).hex(), block)
+        long = '"' + "é" * 100_000 + '"'
+        self.assertEqual(kombilad.to_json(kombilad.from_json(long)), long)
+        floats = "[" + "1.5," * 9999 + "1.5]"
+        self.assertEqual(len(kombilad.from_json(floats)), 90_003)
+        escaped = b"\x7a" + (100_000).to_bytes(4, "big") + b"\x01" * 100_000
+        self.assertEqual(kombilad.to_json(escaped), '"' + "\\u0001" * 100_000 + '"')
+        for given, name, offset in (
+            (b'"\xff"', "JSON_UTF8", 1),
+            ('"\ud800"', "JSON_UTF8", 1),
+            ("[1,]", "JSON_SYNTAX", 3),
+            ("", "JSON_END", 0),
+            ("1e400", "JSON_FLOAT", 0),
+            (" 18446744073709551616", "JSON_INTEGER_RANGE", 1),
+            ('{"é":1,"\\u00e9":2}', "JSON_DUPLICATE_KEY", 8),
+            ('{"/":"bafkqaa"}', "JSON_LINK", 14),
+            ('{"/":{"bytes":"="}}', "JSON_BYTES", 18),
+            ('{"/":"bafkqaaa","0":1}', "JSON_RESERVED", 21),
+        ):
+            with self.assertRaises(kombilad.JsonError) as raised:
+                kombilad.from_json(given)
+            self.assertEqual((raised.exception.name, raised.exception.offset), (name, offset))
+        with self.assertRaises(kombilad.JsonError) as raised:
+            kombilad.to_json(bytes.fromhex("8200a1612fa16562797465736161"))
+        self.assertEqual((raised.exception.name, raised.exception.offset), ("JSON_RESERVED_MAP", 2))
+        for limits, name, offset in (
+            ({"levels": 1}, "TOO_DEEP", 1),
+            ({"levels": -1}, "TOO_DEEP", 0),
+            ({"values": 2}, "TOO_MANY", 6),
+        ):
+            with self.assertRaises(kombilad.LimitError) as raised:
+                kombilad.from_json('[{"/":"bafkqaaa"}]', **limits)
+            self.assertEqual((raised.exception.name, raised.exception.offset), (name, offset))
+        for wrong in (7, None, [0x80], memoryview(BLOCK)[::2]):
+            self.assertRaises((TypeError, BufferError), kombilad.from_json, wrong)
+
     def test_nothing_is_no_block(self):
         for call in (
             kombilad.check,
@@ -229,6 +280,7 @@ class Blocks(unittest.TestCase):
             kombilad.link_positions,
             kombilad.canonicalize,
             kombilad.is_canonical,
+            kombilad.to_json,
         ):
             for nothing in (b"", bytearray(), memoryview(b"")):
                 with self.assertRaises(kombilad.BlockError) as raised:

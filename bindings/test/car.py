@@ -198,7 +198,10 @@ class Cars(unittest.TestCase):
             for call in (kombilad.decode_car, sections):
                 self.assertEqual(outcome(call, passed), ("CAR_UNEXPECTED_END", 51 + 7 + size))
         huge = version2(header([]) + varint(1 << 50), size=1 << 40)
-        self.assertEqual(outcome(sections, huge), ("CAR_UNEXPECTED_END", 51 + (1 << 40)))
+        self.assertEqual(outcome(sections, huge), ("CAR_TOO_LONG", 51 + len(header([]))))
+        padded = version2(CAR, 17 << 20)
+        self.assertEqual(outcome(sections, padded), ("CAR_TOO_LONG", 27))
+        self.assertEqual(sections(padded, header_limit=9 << 20), (2, ROOTS, SECTIONS))
         self.assertEqual(
             outcome(sections, version2(CAR, size=len(CAR) + 1))[0], "CAR_SHORT_PAYLOAD"
         )

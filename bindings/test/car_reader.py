@@ -108,7 +108,7 @@ def cid_len(content):
     return at + size
 
 
-def section(data, at, end):
+def section(data, at, end, limit=NO_LIMIT):
     """
     Where the CID and the block of a section stand, and where the next begins; None where the
     sections end.
@@ -117,7 +117,7 @@ def section(data, at, end):
         return None
     if at >= len(data):
         raise Rejected("CAR_SHORT_PAYLOAD", at)
-    start, behind = framed(data, at, end, NO_LIMIT)
+    start, behind = framed(data, at, end, limit)
     try:
         middle = start + cid_len(data[start:behind])
     except Rejected as why:

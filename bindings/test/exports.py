@@ -1,4 +1,5 @@
-"""Checks that the libraries show only the calls of kombilad.h, and need only the C library.
+"""Checks that the libraries show only the calls of kombilad.h, in the shared one with the version of
+kombilad.map, and need only the C library.
 
 usage: python exports.py libkombilad.a libkombilad.so.0 ARCHIVE
 
@@ -11,6 +12,7 @@ import subprocess
 import sys
 
 HEADER = pathlib.Path(__file__).resolve().parent.parent / "c" / "kombilad.h"
+MAP = HEADER.with_suffix(".map")
 WANTED = {"free", "malloc", "memcpy", "memmove", "memset", "realloc"}
 # What the linker and the C compiler put into each shared library.
 WEAK = {
@@ -38,6 +40,17 @@ def same(what, seen, expected):
         sys.exit(f"exports: {what}: {sorted(seen ^ expected)}")
 
 
+def by_version():
+    """Returns the calls with the version that added each, by the linker's script."""
+    return {
+        f"{call}@@{version}"
+        for version, calls in re.findall(
+            r"^(KOMBILAD_[\d.]+) \{(.*?)^\}", MAP.read_text(), re.M | re.S
+        )
+        for call in re.findall(r"kombilad_\w+", calls)
+    }
+
+
 def main():
     archive, shared, compiled = sys.argv[1:]
     calls = set(re.findall(r"^(?:uint32_t|void) (kombilad_\w+)\(", HEADER.read_text(), re.M))
@@ -47,7 +60,10 @@ def main():
     # Compilers call different ones of these functions. Proved code doesn't reach its calls of abort.
     wanted = WANTED | {"abort"}
     same("the compiled archive wants", names(told("nm", "-u", compiled)) | wanted, wanted)
-    same("of the shared library", names(told("nm", "-D", "--defined-only", shared)), calls)
+    exported = told("nm", "-D", "--defined-only", "--with-symbol-versions", shared)
+    versioned = {line.split()[-1] for line in exported.splitlines() if " A " not in line}
+    same("of the shared library", {it.split("@")[0] for it in versioned}, calls)
+    same("the versions of the calls", versioned, by_version())
     same("the shared library wants", names(told("nm", "-D", "-u", shared)) - WEAK, WANTED)
     dynamic = told("readelf", "-d", shared)
     same("its libraries", set(re.findall(r"NEEDED.*\[(.*)\]", dynamic)), {"libc.so.6"})

@@ -103,10 +103,22 @@ def lines(native, source, count):
             limits,
             max(0, len(block) + choose.choice([-1, 0, 0, 0, 3])),
         )
+        yield from of_json(block, limits)
         yield line("links_count", block, limits)
         yield line("link_positions", block, limits, room, SPAN)
         if native.has_tape:
             yield line("tape", block, limits, choose.choice([0, 3, len(block), len(block)]), ENTRY)
+
+    def of_json(block, limits):
+        status, needed, _, text = native.call(
+            "block_to_json", block, (64, NO_LIMIT), 6 * len(block) + 64, 1
+        )
+        room = max(0, needed + choose.choice([-1, 0, 3])) if status == 0 else len(block)
+        yield line("block_to_json", block, limits, room)
+        if status == 0:
+            text = bytes.fromhex(text)[:needed]
+            text = choose.choice([text, source.changed(text)])
+            yield line("block_of_json", text, limits, len(block) + choose.choice([-1, 0, 9]))
 
     def of_cid(cid):
         yield line("cid_check", cid)

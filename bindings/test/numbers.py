@@ -28,6 +28,7 @@ def defined():
         "verify": "",
         "encode": "TAPE_",
         "pb": "PB_",
+        "json": "JSON_",
     }
     numbers = {}
     for kind, name, number in re.findall(
@@ -44,7 +45,7 @@ def defined():
             numbers.setdefault("NO_MEMORY", set()).add(int(number))
         elif number == "15":
             numbers.setdefault("OTHER", set()).add(15)
-        elif kind == "limit":
+        elif kind == "limit" or name in ("TooDeep", "TooMany"):
             numbers.setdefault(upper, set()).add(int(number))
         else:
             numbers.setdefault(f"{prefixes[kind]}{upper}", set()).add(int(number))

@@ -7,7 +7,9 @@ The values and keys that kombilad_tape lists are compared through ctypes, by LIB
 that the package has.
 """
 
+import base64
 import ctypes
+import json
 import random
 import struct
 import sys
@@ -226,6 +228,19 @@ def compare_tape(source, what, block, levels, values, read, library):
         )
 
 
+def as_json(value):
+    """What `json` reads of the DAG-JSON of a value."""
+    if isinstance(value, bytes):
+        return {"/": {"bytes": base64.b64encode(value).decode().rstrip("=")}}
+    if isinstance(value, kombilad.Cid):
+        return {"/": str(value)}
+    if isinstance(value, list):
+        return [as_json(it) for it in value]
+    if isinstance(value, dict):
+        return {key: as_json(value[key]) for key in sorted(value, key=str.encode)}
+    return value
+
+
 def compare_block(source, block, library):
     levels, values = source.random.choice(
         [(64, 10**6), (64, 10**6), (64, 10**6), (2, 10**6), (64, 7), (0, 3), (3, 0)]
@@ -269,6 +284,14 @@ def compare_block(source, block, library):
         outcome(kombilad.canonicalize, block, **limits),
         read.canonical if fine else read,
     )
+    text = outcome(kombilad.to_json, block, **limits)
+    if fine and isinstance(text, str):
+        value = as_json(kombilad.decode_dag_cbor(block))
+        compare("to_json", block, repr(json.loads(text)), repr(value))
+        compare("from_json of " + text, block, kombilad.from_json(text), read.canonical)
+    else:
+        reserved = fine and text[0] == "JSON_RESERVED_MAP" and b"\x61/" in block
+        compare("to_json " + what, block, text, text if reserved else read)
     return fine
 
 

@@ -6,7 +6,7 @@ usage: python random_cars.py [COUNT [SEED]]
 
 import ctypes
 import hashlib
-import struct
+import io
 import sys
 from ctypes import byref, c_size_t, c_uint32, c_uint64
 
@@ -15,13 +15,17 @@ import kombilad
 import random_blocks
 import raw
 import reader
+from car_cases import made, read
 
 NAMES = {status.value: status.name for status in kombilad.Status}
 NONE = 2**64 - 7
 
 
-class Car(ctypes.Structure):
-    _fields_ = [("version", c_uint64), ("sections", c_size_t), ("end", c_size_t)]
+class Place(ctypes.Structure):
+    _fields_ = [("version", c_uint64), ("at", c_uint64), ("end", c_uint64)]
+
+    def numbers(self):
+        return self.version, self.at, self.end
 
 
 class Span(ctypes.Structure):
@@ -35,66 +39,30 @@ def declared(name, *arguments):
 
 
 BYTES = (ctypes.c_char_p, c_size_t)
-car_open = declared(
-    "kombilad_car_open",
+car_open_part = declared(
+    "kombilad_car_open_part",
     *BYTES,
+    c_uint32,
     c_size_t,
-    ctypes.POINTER(Car),
+    ctypes.POINTER(Place),
     ctypes.c_void_p,
     c_size_t,
     ctypes.POINTER(c_size_t),
-    ctypes.POINTER(c_size_t),
+    ctypes.POINTER(c_uint64),
+    ctypes.POINTER(c_uint64),
 )
-car_next = declared(
-    "kombilad_car_next",
+car_next_part = declared(
+    "kombilad_car_next_part",
     *BYTES,
+    c_uint32,
     c_size_t,
-    c_size_t,
+    ctypes.POINTER(Place),
     ctypes.POINTER(Span),
     ctypes.POINTER(Span),
-    ctypes.POINTER(c_size_t),
-    ctypes.POINTER(c_size_t),
+    ctypes.POINTER(c_uint64),
+    ctypes.POINTER(c_uint64),
 )
 verify = declared("kombilad_verify", *BYTES, *BYTES)
-
-
-def opened(data, limit):
-    """What kombilad_car_open says, first with a buffer that is too short."""
-    car, roots, needed, offset = (
-        Car(7, 7, 7),
-        (raw.CidBytes * 300)(),
-        c_size_t(NONE),
-        c_size_t(NONE),
-    )
-    status = car_open(data, len(data), limit, byref(car), None, 0, byref(needed), byref(offset))
-    if NAMES[status] not in ("OK", "TOO_SHORT"):
-        if (car.version, car.sections, car.end, needed.value) != (7, 7, 7, NONE):
-            return "wrote where it failed"
-        return NAMES[status], offset.value
-    if (status == 0) != (needed.value == 0) or offset.value != NONE:
-        return "is wrong of an empty buffer"
-    if car_open(data, len(data), limit, byref(car), roots, 300, byref(needed), byref(offset)) != 0:
-        return "fails with a buffer"
-    return (
-        car.version,
-        car.sections,
-        car.end,
-        [bytes(root.bytes)[: root.len] for root in roots[: needed.value]],
-    )
-
-
-def section(data, at, end):
-    cid, block, following, offset = Span(7, 7), Span(7, 7), c_size_t(NONE), c_size_t(NONE)
-    status = car_next(
-        data, len(data), at, end, byref(cid), byref(block), byref(following), byref(offset)
-    )
-    if status == 0:
-        return (cid.offset, cid.len), (block.offset, block.len), following.value
-    if (cid.offset, cid.len, block.offset, block.len, following.value) != (7, 7, 7, 7, NONE):
-        return "wrote where it failed"
-    if NAMES[status] == "CAR_DONE":
-        return None if offset.value == NONE else "wrote an offset"
-    return NAMES[status], offset.value
 
 
 def expected(call, *arguments):
@@ -111,25 +79,151 @@ def compare(what, data, ours, theirs):
         )
 
 
-def compare_sections(data, at, end):
-    for _ in range(1000):
-        ours, theirs = section(data, at, end), expected(car_reader.section, data, at, end)
-        compare(f"the section at {at} up to {end}", data, ours, theirs)
-        if theirs is None or isinstance(theirs[0], str):
-            return theirs is None
-        at = theirs[2]
+def opened_part(data, is_all, limit):
+    """What kombilad_car_open_part says: ("MORE", n) if it needs n bytes more."""
+    place, needed = Place(7, 7, 7), c_size_t(NONE)
+    roots, more, offset = (raw.CidBytes * 300)(), c_uint64(NONE), c_uint64(NONE)
+    arguments = byref(place), roots, 300, byref(needed), byref(more), byref(offset)
+    status = car_open_part(data, len(data), is_all, limit, *arguments)
+    if status == 0:
+        if (more.value, offset.value) != (NONE, NONE):
+            return "wrote what it doesn't return"
+        return place.numbers(), [bytes(root.bytes)[: root.len] for root in roots[: needed.value]]
+    if (place.numbers(), needed.value) != ((7, 7, 7), NONE):
+        return "wrote where it failed"
+    if NAMES[status] == "CAR_MORE":
+        return "MORE", more.value if offset.value == NONE else "and an offset"
+    return NAMES[status], offset.value if more.value == NONE else "and a number"
+
+
+def section_part(data, is_all, limit, numbers):
+    """What kombilad_car_next_part says of the bytes from a place on."""
+    place, cid, block = Place(*numbers), Span(7, 7), Span(7, 7)
+    more, offset = c_uint64(NONE), c_uint64(NONE)
+    arguments = byref(place), byref(cid), byref(block), byref(more), byref(offset)
+    status = car_next_part(data, len(data), is_all, limit, *arguments)
+    if status == 0:
+        if (more.value, offset.value) != (NONE, NONE):
+            return "wrote what it doesn't return"
+        return (cid.offset, cid.len), (block.offset, block.len), place.numbers()
+    if (place.numbers(), cid.offset, cid.len, block.offset, block.len) != (numbers, 7, 7, 7, 7):
+        return "wrote where it failed"
+    if NAMES[status] == "CAR_DONE":
+        return None if (more.value, offset.value) == (NONE, NONE) else "wrote an offset"
+    if NAMES[status] == "CAR_MORE":
+        return "MORE", more.value if offset.value == NONE else "and an offset"
+    return NAMES[status], offset.value if more.value == NONE else "and a number"
+
+
+def is_cut(call, data, *arguments):
+    """Whether the plain reader runs into the end of the bytes."""
+    found = expected(call, data, *arguments)
+    return found in (("CAR_UNEXPECTED_END", len(data)), ("CAR_SHORT_PAYLOAD", len(data)))
+
+
+def fed(source, data, at, read, what):
+    """
+    What a call says that is given the bytes from a place on, a few at first and then as many as it
+    asks for.
+    """
+    last = at + source.random.choice([0, 0, 1, 9, 30, 200])
+    for _ in range(100):
+        last = min(last, len(data))
+        found = read(data[at:last], 0)
+        if found is None or found[0] != "MORE":
+            compare(f"{what} of a part", data, read(data[at:], 1), found)
+            return found
+        if last == len(data):
+            return read(data[at:], 1)
+        compare(f"{what} up to {last} asks for bytes", data, found[1] >= 1, True)
+        last += found[1] + source.random.choice([0, 0, 0, 1, 50])
     raise AssertionError
 
 
-def compare_car(source, data):
+def end_of(theirs, data):
+    """Where the sections end, by the place of the library: of version 1 at no byte that it knows."""
+    return 2**64 - 1 if theirs[0] == 1 else theirs[2]
+
+
+def compare_part(source, data):
+    """Compares the calls on parts of a CAR. Returns whether it is valid to its end."""
     limit = source.random.choice([10**6, 10**6, 10**6, 50, 10, 9])
-    ours, theirs = opened(data, limit), expected(car_reader.opened, data, limit)
-    compare(f"open within {limit}", data, ours, theirs)
+    theirs = expected(car_reader.opened, data, limit)
+    ours = fed(source, data, 0, lambda part, is_all: opened_part(part, is_all, limit), "open")
     if isinstance(theirs[0], str):
+        compare(f"open parts within {limit}", data, ours, theirs)
         return False
-    at, end = source.random.randrange(len(data) + 9), source.random.randrange(len(data) + 9)
-    compare_sections(data, at, end)
-    return compare_sections(data, theirs[1], theirs[2])
+    version, at, end, roots = theirs
+    compare("open parts", data, ours, ((version, at, end_of(theirs, data)), roots))
+    limit = source.random.choice([10**6, 10**6, 10**6, 30, 5, 4])
+    for _ in range(1000):
+        theirs = expected(car_reader.section, data, at, end, limit)
+        place = version, at, 2**64 - 1 if version == 1 else end
+        ours = fed(
+            source,
+            data,
+            at,
+            lambda part, is_all: section_part(part, is_all, limit, place),
+            "section",
+        )
+        if theirs is None or isinstance(theirs[0], str):
+            compare(f"the section at {at} of parts", data, ours, theirs)
+            return theirs is None
+        (cid, cid_len), (block, block_len), following = theirs
+        plain = (cid - at, cid_len), (block - at, block_len), (version, following, place[2])
+        compare(f"the section at {at} of parts", data, ours, plain)
+        at = following
+    raise AssertionError
+
+
+class Trickle(io.BytesIO):
+    """A file that gives few bytes at a time."""
+
+    def __init__(self, source, data):
+        super().__init__(data)
+        self.most = source.random.choice([1, 7, 60, 10**6])
+
+    def read(self, size=-1):
+        return super().read(min(size, self.most))
+
+
+def compare_package(source, data):
+    """The package's reader of a file."""
+    limits = source.random.choice([10**6, 50, 10]), source.random.choice([10**6, 30, 5])
+    head, sections, error = read(data, *limits)
+    ours, found, failed = None, [], None
+    try:
+        reader_of = kombilad.CarReader(
+            Trickle(source, data), header_limit=limits[0], section_limit=limits[1]
+        )
+        ours = [reader_of.version, [bytes(root).hex() for root in reader_of.roots]]
+        for cid, block in reader_of:
+            found.append([bytes(cid).hex(), block.hex()])
+    except kombilad.KombiladError as why:
+        failed = [why.name, why.offset]
+    theirs = head, [section[:2] for section in sections], error
+    compare(f"CarReader within {limits}", data, (ours, found, failed), theirs)
+
+
+def compare_needs(data):
+    """
+    How many bytes a part needs: with fewer, the plain reader runs into the end of the bytes, and
+    with as many it doesn't, or has read one thing more: a length, or what comes before a payload.
+    """
+    for end in range(len(data)):
+        found = opened_part(data[:end], 0, 10**6)
+        cut = is_cut(car_reader.opened, data[:end], 10**6)
+        if found[0] != "MORE":
+            compare(f"open up to {end}", data, found, opened_part(data, 1, 10**6))
+            continue
+        compare(f"open up to {end} needs more", data, cut, True)
+        for more in range(min(found[1], len(data) - end)):
+            compare(
+                f"open up to {end} needs more than {more}",
+                data,
+                is_cut(car_reader.opened, data[: end + more], 10**6),
+                True,
+            )
 
 
 def compare_digest(source):
@@ -157,35 +251,6 @@ def compare_digest(source):
     )
 
 
-def made(source):
-    choose = source.random
-    blocks = [
-        (source.cid(), choose.randbytes(choose.choice([0, 1, 5, 200])))
-        for _ in range(choose.choice([0, 1, 2, 5]))
-    ]
-    head = car_reader.header([source.cid() for _ in range(choose.choice([0, 1, 1, 2, 30]))])
-    whole = (
-        random_blocks.varint(len(head))
-        + head
-        + b"".join(
-            random_blocks.varint(len(cid) + len(block)) + cid + block for cid, block in blocks
-        )
-    )
-    if choose.random() < 0.5:
-        return whole
-    padding = choose.choice([0, 0, 1, 70])
-    size = max(0, len(whole) + choose.choice([0, 0, 0, 0, 1, -1, 100, -len(whole)]))
-    return (
-        b"\x0a"
-        + car_reader.PRAGMA
-        + bytes(16)
-        + struct.pack("<QQQ", 51 + padding, size, 0)
-        + bytes(padding)
-        + whole
-        + choose.randbytes(choose.choice([0, 0, 9]))
-    )
-
-
 def main():
     count = int(sys.argv[1]) if len(sys.argv) > 1 else 10_000
     source = random_blocks.Source(int(sys.argv[2]) if len(sys.argv) > 2 else 1)
@@ -194,11 +259,13 @@ def main():
         data = made(source)
         if at % 2:
             data = source.changed(data)
-        whole += compare_car(source, data)
+        whole += compare_part(source, data)
+        compare_package(source, data)
         compare_digest(source)
         if at % 500 == 0:
             for end in range(len(data)):
-                compare_car(source, data[:end])
+                compare_part(source, data[:end])
+            compare_needs(data)
     print(
         f"random_cars: {count} CARs, of which {whole} are whole, their beginnings and as many digests: no difference"
     )

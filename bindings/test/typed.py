@@ -32,6 +32,10 @@ def texts_of(cid: Cid) -> List[str]:
     return [str(cid), cid.to_text("base16"), f"{cid:base36}", str(Cid(cid)), str(Cid(bytes(cid)))]
 
 
+def json_of(block: bytes, text: str) -> Tuple[str, bytes]:
+    return kombilad.to_json(block, levels=3), kombilad.from_json(text) + kombilad.from_json(block)
+
+
 class Named(Cid):
     pass
 
@@ -55,6 +59,8 @@ def reason(block: bytes) -> str:
 kombilad.check("text")  # type: ignore[arg-type]
 kombilad.links(None)  # type: ignore[arg-type]
 kombilad.check(b"", 3)  # type: ignore[misc]
+kombilad.to_json("text")  # type: ignore[arg-type]
+kombilad.from_json(7)  # type: ignore[arg-type]
 kombilad.decode_dag_cbor(b"", cids=int)  # type: ignore[arg-type]
 Cid(7)  # type: ignore[arg-type]
 Cid("bafkqaaa") < "bafkqaaa"  # type: ignore[operator]

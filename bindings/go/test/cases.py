@@ -26,11 +26,13 @@ sys.modules["raw"] = types.SimpleNamespace(
     library=collections.defaultdict(types.SimpleNamespace), CidBytes=None
 )
 
-import car_reader  # noqa: E402
+import car_cases  # noqa: E402
 import random_blocks  # noqa: E402
-import random_cars  # noqa: E402
 import random_pb  # noqa: E402
 import reader  # noqa: E402
+
+# The greatest int of Go.
+NO_LIMIT = 2**63 - 1
 
 
 def value_text(data, tape, at):
@@ -116,35 +118,14 @@ def pb_case(block):
     return {**case, "node": links, "data": data}
 
 
-def car_case(data, limit):
-    """Returns the sections up to the first error.
-
-    Go's reader knows the length of a section before it knows whether the file is long enough. So a
-    section that ends after the payload, or whose length isn't an int, is an error at once.
-    """
-    case = {"case": "car", "input": data.hex(), "limit": limit, "sections": []}
-    try:
-        version, at, end, roots = car_reader.opened(data, limit)
-    except reader.Rejected as why:
-        return {**case, **failed(why.name, why.offset)}
-    case.update(version=version, roots=[it.hex() for it in roots])
-    try:
-        while (found := car_reader.section(data, at, end)) is not None:
-            *places, after = found
-            case["sections"].append([data[it : it + size].hex() for it, size in places])
-            at = after
-    except reader.Rejected as why:
-        if why.name in ("CAR_SHORT_PAYLOAD", "CAR_UNEXPECTED_END") and at < len(data):
-            try:
-                size, start = car_reader.length(data, at, end, why.name)
-                if version == 2 and start + size > end:
-                    why = reader.Rejected("CAR_UNEXPECTED_END", end)
-                elif start - at + size >= 1 << 63:
-                    why = reader.Rejected("CAR_TOO_LONG", at)
-            except reader.Rejected:
-                pass
-        case.update(failed(why.name, why.offset))
-    return case
+def car_case(data, limit, section_limit):
+    """Returns the sections up to the first error."""
+    head, sections, error = car_cases.read(data, limit, section_limit)
+    case = {"case": "car", "input": data.hex(), "limit": limit, "sectionLimit": section_limit}
+    case["sections"] = [section[:2] for section in sections]
+    if head is not None:
+        case["version"], case["roots"] = head
+    return {**case, **failed(*error)} if error else case
 
 
 def digest_case(source):
@@ -174,7 +155,7 @@ def cases(count, seed):
     source, nodes = random_blocks.Source(seed), random_pb.PbSource(seed)
     for number in range(count):
         source.floats = 0.3 if number % 3 == 0 else 0.0
-        block, node, car = source.block(number % 4), nodes.node(), random_cars.made(source)
+        block, node, car = source.block(number % 4), nodes.node(), car_cases.made(source)
         if number % 5 > 1:
             block, node = source.changed(block), nodes.changed_node(node)
         if number % 2:
@@ -182,12 +163,13 @@ def cases(count, seed):
         yield block_case(source, block)
         yield cid_case(source)
         yield pb_case(node)
-        yield car_case(car, source.random.choice([10**6, 10**6, 10**6, 50, 10, 9]))
+        limit = source.random.choice([10**6, 10**6, 10**6, 50, 10, 9])
+        yield car_case(car, limit, source.random.choice([NO_LIMIT, NO_LIMIT, 10**6, 30, 5, 4]))
         yield digest_case(source)
         if number % 500 == 0:
             yield from (block_case(source, block[:end]) for end in range(len(block)))
             yield from (pb_case(node[:end]) for end in range(len(node)))
-            yield from (car_case(car[:end], 10**6) for end in range(len(car)))
+            yield from (car_case(car[:end], 10**6, NO_LIMIT) for end in range(len(car)))
 
 
 def main():

@@ -1,13 +1,21 @@
-import { CID, checkedCid, firstLength, isCid, keyOf } from './cid.js'
-import { bytesOf, run } from './core.js'
-import { decode } from './block.js'
-import { ofName } from './errors.js'
+import { checkedCid, keyOf } from './cid.js'
+import { bytesOf, place, run } from './core.js'
+import { ofName, ofStatus } from './errors.js'
 
 /** How many bytes a header and a section may have. */
 const LONGEST_HEADER = 8 << 20
 const LONGEST_SECTION = 32 << 20
-/** The header of version 2 that stands behind the eleven bytes of its pragma. */
-const V2_HEADER = 40
+/** How many bytes may stand before the sections, with the padding of version 2 among them. */
+const LONGEST_FRONT = 2 * LONGEST_HEADER + 65536
+/** The byte of version 2 at which the number stands that places the payload. */
+const PLACE_OF_PAYLOAD = 27
+/** How many bytes the core is given at once, at most, where it doesn't need more. */
+const CHUNK = 65536
+const MORE = 176
+const DONE = 96
+/** The bytes of the core's record of a CID, and of those that its calls for a CAR write. */
+const CID_RECORD = 88
+const CALL_RECORDS = 72
 
 /** Bytes that come in chunks, of which those that are not yet taken are kept. */
 class Source {
@@ -19,10 +27,10 @@ class Source {
     this.ended = false
   }
 
-  /** Whether so many bytes are there; it reads on until they are. */
-  async has (count) {
+  /** Reads on until so many bytes are there, or the chunks end. Returns how many are there. */
+  async fill (count) {
     let there = this.kept.length - this.at
-    if (there >= count) return true
+    if (there >= count) return there
     const parts = [this.kept.subarray(this.at)]
     while (there < count && !this.ended) {
       const { done, value } = await this.chunks.next()
@@ -47,120 +55,117 @@ class Source {
       this.kept = joined
       this.at = 0
     }
-    return there >= count
+    return there
   }
 
-  /** The next bytes, which are there. */
-  take (count) {
-    const taken = this.kept.subarray(this.at, this.at + count)
+  /**
+   * Returns the bytes that come next, at least so many where there are, and whether they are all
+   * that are left.
+   */
+  async next (least) {
+    const there = await this.fill(least)
+    const size = Math.min(there, Math.max(least, CHUNK))
+    return { bytes: this.kept.subarray(this.at, this.at + size), isAll: this.ended && size === there }
+  }
+
+  /** Passes over bytes that are there. */
+  skip (count) {
     this.at += count
     this.offset += count
-    return taken
-  }
-
-  /** Passes over bytes, and says whether they were there. */
-  async skip (count) {
-    while (count > 0) {
-      if (!await this.has(1)) return false
-      count -= this.take(Math.min(count, this.kept.length - this.at)).length
-    }
-    return true
   }
 
   /** Lets go of what the bytes come from, which is a file that is open, perhaps. */
   async close () { if (!this.ended) await this.chunks.return?.() }
+}
 
-  /** The length before a header or a section; undefined where the bytes have ended. */
-  async length (limit) {
-    const begins = this.offset
-    let number = 0
-    for (let place = 0; ; place++) {
-      if (!await this.has(1)) {
-        if (place === 0) return undefined
-        throw ofName('CAR_UNEXPECTED_END', this.offset)
-      }
-      const byte = this.take(1)[0]
-      if (place === 9 && byte > 1) throw ofName('CAR_LENGTH_TOO_LARGE', begins)
-      number += (byte & 127) * 2 ** (7 * place)
-      if (byte < 128) {
-        if (byte === 0 && place > 0) throw ofName('CAR_LENGTH_NOT_SHORTEST', begins)
-        break
-      }
+/** Returns the error of a status, with its offset unless memory ran out. */
+function wrong (status, offset) { return ofStatus(status, status === 1 ? undefined : offset) }
+
+/** Returns the number of 64 bits at a place of the core's memory. */
+function numberAt (core, at) { return Number(core.numbers.getBigUint64(at, true)) }
+
+/**
+ * Reads what comes before the sections, of the bytes that a CAR begins with. Returns how many bytes
+ * more it needs, or the version, the roots, and the place of the sections.
+ */
+function openPart (core, bytes, isAll) {
+  for (let most = 8; ;) {
+    const records = place(core, bytes, bytes.length, CALL_RECORDS + most * CID_RECORD)
+    const roots = records + CALL_RECORDS
+    const [more, offset] = [records + 24, records + 32]
+    const status = core.calls.kombilad_car_open_part(core.room, bytes.length, isAll ? 1 : 0, LONGEST_HEADER, records, roots, most, core.neededAt, more, offset)
+    const count = core.needed()
+    if (status === MORE) return { more: numberAt(core, more) }
+    if (status === 2) {
+      most = count
+      continue
     }
-    if (number === 0) throw ofName('CAR_EMPTY', begins)
-    if (number > limit) throw ofName('CAR_TOO_LONG', begins)
-    return number
+    if (status !== 0) throw wrong(status, numberAt(core, offset))
+    const found = []
+    for (let at = roots; found.length < count; at += CID_RECORD) found.push(checkedCid(core.bytes.slice(at + 1, at + 1 + core.bytes[at])))
+    const [version, at, end] = [0, 8, 16].map((field) => core.numbers.getBigUint64(records + field, true))
+    return { version: Number(version), roots: found, place: { version, at, end } }
   }
-}
-
-/** The header's value, of which the block may have any order of keys. */
-function headerOf (bytes, offset) {
-  try {
-    return decode(bytes)
-  } catch (error) {
-    if (error.offset !== undefined) throw ofName(error.code, offset + error.offset)
-    throw error
-  }
-}
-
-async function readHeader (source) {
-  const begins = source.offset
-  const length = await source.length(LONGEST_HEADER)
-  if (length === undefined || !await source.has(length)) throw ofName('CAR_UNEXPECTED_END', length === undefined ? source.offset : begins)
-  const at = source.offset
-  const header = headerOf(source.take(length), at)
-  const fits = header !== null && typeof header === 'object' && !Array.isArray(header) && !(header instanceof Uint8Array) && !(header instanceof CID)
-  return { header: fits ? header : {}, at }
 }
 
 /**
- * Reads what stands before the sections. Returns the version, the roots, and where the last section
- * ends.
+ * Reads the sections in the bytes that come from a place of a CAR on. Returns them, how many bytes
+ * they have, and what comes after them: the end, an error, or how many bytes more the next section
+ * needs. Moves the place to there.
  */
+function sectionsIn (core, bytes, isAll, at) {
+  const records = place(core, bytes, bytes.length, CALL_RECORDS)
+  const { numbers } = core
+  const [cid, block, more, offset] = [records + 24, records + 40, records + 56, records + 64]
+  const found = []
+  numbers.setBigUint64(records, at.version, true)
+  numbers.setBigUint64(records + 8, at.at, true)
+  numbers.setBigUint64(records + 16, at.end, true)
+  for (let used = 0; ;) {
+    const status = core.calls.kombilad_car_next_part(core.room + used, bytes.length - used, isAll ? 1 : 0, LONGEST_SECTION, records, cid, block, more, offset)
+    if (status !== 0) {
+      at.at = numbers.getBigUint64(records + 8, true)
+      const rest = status === MORE ? { more: numberAt(core, more) } : { error: status === DONE ? undefined : wrong(status, numberAt(core, offset)) }
+      return { found, used, ...rest }
+    }
+    const begins = used + numberAt(core, cid)
+    const middle = used + numberAt(core, block)
+    const ends = middle + numberAt(core, block + 8)
+    found.push({ cid: checkedCid(bytes.slice(begins, middle)), bytes: bytes.slice(middle, ends), begins: used, offset: middle, length: ends - used })
+    used = ends
+  }
+}
+
+/** Reads what comes before the sections. Returns the version, the roots and the place of the sections. */
 async function open (source) {
-  const { header, at } = await readHeader(source)
-  if (header.version === 2 && Object.keys(header).length === 1) {
-    if (!await source.has(V2_HEADER)) throw ofName('CAR_UNEXPECTED_END', source.offset)
-    const head = source.take(V2_HEADER)
-    const numbers = new DataView(head.buffer, head.byteOffset, head.length)
-    const begins = Number(numbers.getBigUint64(16, true))
-    const end = begins + Number(numbers.getBigUint64(24, true))
-    if (begins < source.offset || end >= 2 ** 64) throw ofName('CAR_PAYLOAD', source.offset - V2_HEADER + 16)
-    if (!await source.skip(begins - source.offset)) throw ofName('CAR_SHORT_PAYLOAD', source.offset)
-    const inner = await readHeader(source)
-    return { version: 2, roots: rootsOf(inner), end }
+  for (let least = 1; ;) {
+    const { bytes, isAll } = await source.next(Math.min(least, LONGEST_FRONT))
+    const opened = run(openPart, bytes, isAll)
+    if (opened.more === undefined) {
+      source.skip(Number(opened.place.at))
+      return opened
+    }
+    if (bytes.length >= LONGEST_FRONT) throw ofName('CAR_TOO_LONG', PLACE_OF_PAYLOAD)
+    least = bytes.length + opened.more
   }
-  return { version: 1, roots: rootsOf({ header, at }), end: Infinity }
 }
 
-function rootsOf ({ header, at }) {
-  const { version, roots } = header
-  if (version !== 1 || Object.keys(header).length !== 2 || !Array.isArray(roots) || !roots.every((root) => root instanceof CID)) throw ofName('CAR_NOT_A_HEADER', at)
-  return roots
-}
-
-/** The next section: its CID and block, and where they stand; undefined behind the last. */
-async function section (source, end) {
-  const begins = source.offset
-  if (begins >= end) return undefined
-  const length = await source.length(LONGEST_SECTION)
-  if (length === undefined) {
-    if (end === Infinity) return undefined
-    throw ofName('CAR_SHORT_PAYLOAD', source.offset)
+/** The sections from a place on: of each the CID and the block, and where they stand. */
+async function * sections (source, at) {
+  for (let least = 1; ;) {
+    const { bytes, isAll } = await source.next(least)
+    const { found, used, more, error } = run(sectionsIn, bytes, isAll, at)
+    const begins = source.offset
+    source.skip(used)
+    for (const section of found) {
+      section.begins += begins
+      section.offset += begins
+      yield section
+    }
+    if (error !== undefined) throw error
+    if (more === undefined) return
+    least = bytes.length - used + more
   }
-  const offset = source.offset
-  if (offset + length > end) throw ofName('CAR_UNEXPECTED_END', begins)
-  if (!await source.has(length)) throw ofName(end === Infinity ? 'CAR_UNEXPECTED_END' : 'CAR_SHORT_PAYLOAD', begins)
-  const bytes = source.take(length)
-  const size = firstLength(bytes)
-  const own = bytes.slice(0, size)
-  try {
-    run(isCid, own)
-  } catch (error) {
-    if (error.code?.startsWith('CID_')) throw ofName(error.code, offset)
-    throw error
-  }
-  return { cid: checkedCid(own), bytes: bytes.slice(size), begins, offset: offset + size, length: source.offset - begins }
 }
 
 function chunksOf (chunks) {
@@ -173,8 +178,8 @@ function chunksOf (chunks) {
 async function begun (Iterator, chunks) {
   const source = new Source(chunksOf(chunks))
   try {
-    const { version, roots, end } = await open(source)
-    return new Iterator(version, roots, source, end)
+    const { version, roots, place } = await open(source)
+    return new Iterator(version, roots, source, place)
   } catch (error) {
     await source.close()
     throw error
@@ -186,11 +191,11 @@ async function begun (Iterator, chunks) {
  * `for await (const { cid, bytes } of iterator)`.
  */
 export class CarBlockIterator {
-  constructor (version, roots, source, end) {
+  constructor (version, roots, source, place) {
     this.version = version
     this._roots = roots
     this._source = source
-    this._end = end
+    this._place = place
     this._begun = false
   }
 
@@ -204,7 +209,7 @@ export class CarBlockIterator {
     if (this._begun) throw ofName('CAR_READ_ONCE')
     this._begun = true
     try {
-      for (let next; (next = await section(this._source, this._end)) !== undefined;) yield next
+      yield * sections(this._source, this._place)
     } finally {
       await this._source.close()
     }

@@ -58,7 +58,7 @@ function varintBytes (number) {
 }
 
 /** Throws what is wrong where the bytes are no CID; a call for `run`. */
-export function isCid (core, bytes) {
+function isCid (core, bytes) {
   const size = sizeOf(bytes)
   place(core, bytes, size, 0)
   const status = core.calls.kombilad_cid_check(core.room, size)
@@ -277,7 +277,7 @@ export function checkedCid (bytes) { return new CID(CHECKED, bytes) }
  * How many bytes the CID at the beginning has, by its varints alone: the core then checks just
  * these. Where they end too soon it is all of them, so that the core says what is wrong.
  */
-export function firstLength (bytes) {
+function firstLength (bytes) {
   if (bytes[0] === 0x12 && bytes[1] === 0x20) return Math.min(34, bytes.length)
   let at = 0
   let number = 0

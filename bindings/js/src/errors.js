@@ -51,7 +51,18 @@ const NAMES = {
   146: 'PB_UNKNOWN_FIELD',
   147: 'PB_FIELD_ORDER',
   148: 'PB_NO_HASH',
-  149: 'PB_UTF8'
+  149: 'PB_UTF8',
+  160: 'JSON_UTF8',
+  161: 'JSON_SYNTAX',
+  162: 'JSON_END',
+  163: 'JSON_FLOAT',
+  164: 'JSON_INTEGER_RANGE',
+  165: 'JSON_DUPLICATE_KEY',
+  166: 'JSON_LINK',
+  167: 'JSON_BYTES',
+  168: 'JSON_RESERVED',
+  169: 'JSON_RESERVED_MAP',
+  176: 'CAR_MORE'
 }
 
 /** The sentences of these statuses, which the core gives when it is first started, and what starts it. */

@@ -23,6 +23,7 @@ export type ErrorCode =
   | 'LINK_END' | 'LINK_NOT_SHORTEST' | 'LINK_VARINT_TOO_LARGE' | 'LINK_EXPLICIT_VERSION_0' | 'LINK_UNKNOWN_VERSION' | 'LINK_DIGEST_TOO_LONG' | 'LINK_TRAILING_BYTES'
   | 'CAR_UNEXPECTED_END' | 'CAR_LENGTH_NOT_SHORTEST' | 'CAR_LENGTH_TOO_LARGE' | 'CAR_EMPTY' | 'CAR_TOO_LONG' | 'CAR_NOT_A_HEADER' | 'CAR_PAYLOAD' | 'CAR_SHORT_PAYLOAD' | 'CAR_READ_ONCE'
   | 'PB_END' | 'PB_VARINT_TOO_LARGE' | 'PB_UNKNOWN_FIELD' | 'PB_FIELD_ORDER' | 'PB_NO_HASH' | 'PB_UTF8'
+  | 'JSON_UTF8' | 'JSON_SYNTAX' | 'JSON_END' | 'JSON_FLOAT' | 'JSON_INTEGER_RANGE' | 'JSON_DUPLICATE_KEY' | 'JSON_LINK' | 'JSON_BYTES' | 'JSON_RESERVED' | 'JSON_RESERVED_MAP'
   | 'ENCODE_UNSUPPORTED' | 'ENCODE_NUMBER' | 'ENCODE_STRING' | 'ENCODE_TOO_DEEP' | 'WRONG_VERSION' | 'INPUT' | 'NO_TAPE' | 'NOT_STARTED' | 'TRAP'
 
 /** Why a call failed. */
@@ -138,6 +139,16 @@ export function check(bytes: Bytes, limits?: Limits): void
 export function isCanonical(bytes: Bytes, limits?: Limits): boolean
 /** The block with the keys of each map in order, and all else as it stands. */
 export function canonicalize(bytes: Bytes, limits?: Limits): Uint8Array
+/**
+ * Returns the DAG-JSON of a block, without blanks. Throws `JSON_RESERVED_MAP` if a map of the block
+ * would be read as a link or as bytes.
+ */
+export function toJSON(bytes: Bytes, limits?: Limits): string
+/**
+ * Returns the canonical block of a text in DAG-JSON, or of its UTF-8. The offset of an error is a
+ * byte of the UTF-8. The limits count the arrays, objects and values of the text.
+ */
+export function fromJSON(text: string | Bytes, limits?: Limits): Uint8Array
 /** The CIDs of the block's links in the order of its bytes, each as often as it stands there. */
 export function links(bytes: Bytes, limits?: Limits): CID[]
 /** Where the CIDs of the block's links stand in it, in the same order. */

@@ -9,7 +9,8 @@ const sliceOf = latin1Slice === undefined
   ? (bytes, from, to) => latin1.decode(bytes.subarray(from, to))
   : (bytes, from, to) => latin1Slice.call(bytes, from, to)
 
-const textOfUtf8 = utf8Slice === undefined
+/** Returns the text of these bytes. */
+export const textOfUtf8 = utf8Slice === undefined
   ? (bytes, from, to) => utf8.decode(bytes.subarray(from, to))
   : (bytes, from, to) => utf8Slice.call(bytes, from, to)
 

@@ -241,7 +241,8 @@ function checkUnicode (text) {
   if (text.isWellFormed !== undefined ? !text.isWellFormed() : LONE.test(text)) throw ofName('ENCODE_STRING')
 }
 
-function utf8 (text) {
+/** Returns the UTF-8 of a text. Throws ENCODE_STRING if a surrogate has no partner. */
+export function utf8 (text) {
   checkUnicode(text)
   return encoder.encode(text)
 }

@@ -8,7 +8,7 @@ import { inspect, types } from 'node:util'
 import { runInNewContext } from 'node:vm'
 import { core, errors, fresh, kombilad, needsTape } from './package.mjs'
 
-const { CID, KombiladError, check, canonicalize, countLinks, decode, encode, isCanonical, linkPositions, links, setMemoryLimit, sha256, tape, verify } = kombilad
+const { CID, KombiladError, check, canonicalize, countLinks, decode, encode, fromJSON, isCanonical, linkPositions, links, setMemoryLimit, sha256, tape, toJSON, verify } = kombilad
 const hex = (text) => Uint8Array.from(Buffer.from(text, 'hex'))
 const toHex = (bytes) => Buffer.from(bytes).toString('hex')
 
@@ -357,6 +357,32 @@ describe('blocks', () => {
     assert.equal(canonicalize(hex('997530' + link.repeat(30000))).length, 240003)
   })
 
+  test('have a text in DAG-JSON, and are made of one', () => {
+    for (const [text, block] of [
+      ['null', 'f6'], ['18446744073709551615', '1bffffffffffffffff'], ['-0.0', 'fb8000000000000000'], ['"\\"é\\u001f"', '6422c3a91f'],
+      ['{"/":{"bytes":"aGk"}}', '426869'], ['[{"/":"bafkqaaa"},[],{}]', '83d82a45000155000080a0'], ['{"aa":1,"b":{"/":2}}', 'a26162a1612f0262616101']
+    ]) {
+      assert.equal(toJSON(hex(block)), text)
+      for (const given of [text, Buffer.from(` ${text}\n`)]) assert.equal(toHex(fromJSON(given)), block)
+    }
+    assert.equal(toHex(fromJSON('[1e2, {"b": 1, "a": "\\ud83d\\ude00"}]')), '82fb4059000000000000a2616164f09f9880616201')
+    assert.equal(toJSON(hex('a2626161f6616201')), '{"aa":null,"b":1}')
+    const long = '"' + '東'.repeat(100000) + '"'
+    assert.equal(toJSON(fromJSON(long)), long)
+    assert.equal(toJSON(hex('7a000186a0' + '01'.repeat(100000))), '"' + '\\u0001'.repeat(100000) + '"')
+    assert.equal(fromJSON('[' + '1.5,'.repeat(9999) + '1.5]').length, 90003)
+    for (const [text, code, offset] of [
+      [hex('22ff22'), 'JSON_UTF8', 1], ['[1,]', 'JSON_SYNTAX', 3], ['', 'JSON_END', 0], ['1e400', 'JSON_FLOAT', 0], [' 18446744073709551616', 'JSON_INTEGER_RANGE', 1],
+      ['{"é":1,"\\u00e9":2}', 'JSON_DUPLICATE_KEY', 8], ['{"/":"bafkqaa"}', 'JSON_LINK', 14], ['{"/":{"bytes":"="}}', 'JSON_BYTES', 18], ['{"/":"bafkqaaa","0":1}', 'JSON_RESERVED', 21],
+      ['"\ud800"', 'ENCODE_STRING', undefined]
+    ]) fails(() => fromJSON(text), code, offset)
+    for (const [limits, code, offset] of [[{ levels: 1 }, 'TOO_DEEP', 1], [{ levels: 0 }, 'TOO_DEEP', 0], [{ values: 2 }, 'TOO_MANY', 6]]) fails(() => fromJSON('[{"/":"bafkqaaa"}]', limits), code, offset)
+    fails(() => toJSON(hex('8200a1612fa16562797465736161')), 'JSON_RESERVED_MAP', 2)
+    fails(() => toJSON(hex('8181')), 'BLOCK_END', 2)
+    fails(() => toJSON(hex('818180'), { levels: 2 }), 'TOO_DEEP', 2)
+    for (const text of [undefined, null, 7, {}, ['1']]) fails(() => fromJSON(text), 'INPUT')
+  })
+
   test('have tapes', needsTape, () => {
     assert.deepEqual(tape(hex(`a26161820102616238ff`)), [
       { kind: 10, length: 6, value: 2 }, { kind: 11, length: 1, value: 2 }, { kind: 9, length: 3, value: 2 },
@@ -404,7 +430,7 @@ describe('the instance', () => {
 
   test('keeps to a limit of memory, and goes on after it', needsTape, () => {
     const wide = hex('81'.repeat(200000) + '80')
-    setMemoryLimit(4 << 20)
+    setMemoryLimit(6 << 20)
     fails(() => check(wide, { levels: Infinity }), 'NO_MEMORY')
     check(hex('a0'))
     fails(() => check(new Uint8Array(8 << 20)), 'NO_MEMORY')
@@ -415,7 +441,7 @@ describe('the instance', () => {
 
   test('frees what it took', needsTape, () => {
     for (const block of ['81'.repeat(5000) + '80', '81'.repeat(5000), 'a2616202616101', '1b00']) {
-      for (const call of [check, decode, links, canonicalize, isCanonical]) {
+      for (const call of [check, decode, links, canonicalize, isCanonical, toJSON]) {
         try { call(hex(block), { levels: Infinity }) } catch (error) { assert.ok(error instanceof KombiladError) }
         core.run((instance) => assert.equal(instance.calls.kombilad_wasm_live(), 0))
       }
@@ -620,6 +646,8 @@ describe('hostile inputs', needsTape, () => {
     isCanonical: [isCanonical, block, true],
     canonicalize: [(input) => toHex(canonicalize(input)), hex('a2616202616101'), 'a2616101616202'],
     tape: [tape, hex('01'), [{ kind: 3, length: 0, value: 1 }]],
+    toJSON: [toJSON, block, '[{"/":{"bytes":"AQID"}},{"/":"bafkqaaa"}]'],
+    fromJSON: [(input) => toHex(fromJSON(input)), Buffer.from('[1]'), '8101'],
     'dagPb.decode': [(input) => parts(dagPb.decode(input)), hex('0a0178'), ['78', []]],
     'CID.decode': [(input) => toHex(CID.decode(input).bytes), hex(cid), cid],
     'CID.decodeFirst': [(input) => CID.decodeFirst(input).map((it) => toHex(it.bytes ?? it)), hex(cid + '0a0b'), [cid, '0a0b']],
@@ -720,7 +748,7 @@ describe('hostile inputs', needsTape, () => {
       return bytes
     }
     for (const change of [(buffer) => structuredClone(buffer, { transfer: [buffer] }), (buffer) => buffer.resize(2)]) {
-      for (const call of [check, decode, links, linkPositions, countLinks, isCanonical, canonicalize, tape]) {
+      for (const call of [check, decode, links, linkPositions, countLinks, isCanonical, canonicalize, tape, toJSON, fromJSON]) {
         leaveSecret()
         const bytes = list(3)
         fails(() => call(bytes, { get levels () { change(bytes.buffer); return 9 } }), 'INPUT')
@@ -756,7 +784,7 @@ describe('hostile inputs', needsTape, () => {
     assert.deepEqual(made, [{}, hex('010203'), 'a', [CID.parse('bafkqaaa')]])
     assert.equal(toHex(encode([{ get a () { return encode(SECRET.repeat(100)).length } }, { get b () { return 2 } }])), '82a161611902bfa1616202')
     // A limit that is set while a call works holds for the next.
-    Object.defineProperty(Object.prototype, 'hostile', { configurable: true, get: () => undefined, set () { setMemoryLimit(2 << 20) } })
+    Object.defineProperty(Object.prototype, 'hostile', { configurable: true, get: () => undefined, set () { setMemoryLimit(4 << 20) } })
     try {
       decode(hex('a167686f7374696c6501'))
       fails(() => check(new Uint8Array(4 << 20)), 'NO_MEMORY')

@@ -89,7 +89,7 @@ export async function browse (url, width = 1280, height = 1000) {
       await call('Input.dispatchKeyEvent', { type: 'rawKeyDown', ...event })
       await call('Input.dispatchKeyEvent', { type: 'keyUp', ...event })
     },
-    async screenshot () { return Buffer.from((await call('Page.captureScreenshot', { format: 'png', captureBeyondViewport: true })).data, 'base64') },
+    async screenshot (clip) { return Buffer.from((await call('Page.captureScreenshot', { format: 'png', captureBeyondViewport: true, clip })).data, 'base64') },
     async close () {
       await send('Browser.close').catch(() => {})
       await new Promise((resolve) => browser.exitCode === null ? browser.on('exit', resolve) : resolve())

@@ -82,6 +82,14 @@ function writeLarge () {
 const server = await serve(inspector)
 const page = await browse(server.url)
 const picture = async (name) => { if (screenshots) writeFileSync(`${screenshots}/${name}.png`, await page.screenshot()) }
+// A part of the page as docs/ shows it: from the top of an element, in a window of 760 pixels.
+const part = async (name, id, height) => {
+  const window = (width) => page.call('Emulation.setDeviceMetricsOverride', { width, height: 1000, deviceScaleFactor: 1, mobile: false })
+  await window(760)
+  const y = await page.value(`document.getElementById('${id}').getBoundingClientRect().top + scrollY`)
+  if (screenshots) writeFileSync(`${screenshots}/${name}.png`, await page.screenshot({ x: 12, y: y - 8, width: 736, height, scale: 1 }))
+  await window(1280)
+}
 const said = (id) => page.value(`document.getElementById('${id}').innerText`)
 const fact = (id, term) => page.value(`[...document.querySelectorAll('#${id} dt')].find((it) => it.textContent === ${JSON.stringify(term)})?.nextElementSibling.innerText`)
 const chosen = () => page.value("document.activeElement.getAttribute('aria-label')")
@@ -95,7 +103,7 @@ try {
   await page.until("document.querySelectorAll('#list li').length === 7")
   assert.deepEqual(await Promise.all(['blocks', 'wrong digests', 'other hashes', 'not of their codec', 'keys out of order', 'missing'].map((term) => fact('facts', term))), ['7', '1', '1', '1', '1', '1'])
   assert.equal(await fact('facts', 'format'), 'CAR version 1')
-  await picture('inspector-car')
+  await part('inspector-car', 'graph', 634)
   await page.value("(() => { const which = document.getElementById('which'); which.value = 'wrong'; which.dispatchEvent(new Event('change')) })()")
   await page.until("document.querySelectorAll('#list li').length === 1")
   assert.match(await said('list'), /wrong digest/)
@@ -139,6 +147,9 @@ try {
   await page.until("document.activeElement.getAttribute('aria-label') === 'map map of 5'")
   assert.match(await said('tree'), /size: 9007199254740992\n/)
   assert.match(await said('tree'), /missing: bafy\w+ \(not in the file\)/)
+  for (const key of ['ArrowDown', 'ArrowDown', 'ArrowDown']) await page.press(key)
+  assert.equal(await chosen(), 'text: string "Grüße aus Zürich"')
+  await part('inspector-block', 'block', 569)
   await page.value("[...document.querySelectorAll('#tree [aria-level=\"2\"] > .row')].find((it) => it.textContent.includes('scores')).click()")
   assert.equal(await page.value("document.querySelectorAll('#tree [aria-level=\"3\"]').length"), 201)
   await page.value("document.querySelector('#tree [aria-level=\"3\"]:last-child > .row').click()")
@@ -167,7 +178,7 @@ try {
   await page.until("document.getElementById('error').innerText.includes('BLOCK_NOT_SHORTEST')")
   assert.equal(await page.value("document.querySelector('#hex mark.at').textContent"), '18')
   assert.match(await said('hex-range'), /the error is at byte 182$/)
-  await picture('inspector-error')
+  await part('inspector-error', 'block', 590)
 
   // A node of DAG-PB: its links, one of which is there, and its data at their bytes; and a block
   // that is none.

@@ -34,14 +34,16 @@ enum call {
     BLOCK_CHECK,
     BLOCK_CHECK_CANONICAL,
     BLOCK_CANONICALIZE,
+    BLOCK_TO_JSON,
+    BLOCK_OF_JSON,
     LINKS_COUNT,
     LINKS,
     LINK_POSITIONS,
     TAPE,
     ENCODE,
     PB_TAPE,
-    CAR_OPEN,
-    CAR_NEXT,
+    CAR_OPEN_PART,
+    CAR_NEXT_PART,
     VERIFY,
     STATUS_TEXT,
     VERSION
@@ -170,22 +172,32 @@ static room read_bytes(void) {
 
 static size_t cut(uint64_t number) { return number > SIZE_MAX ? SIZE_MAX : (size_t)number; }
 
-/* Runs a call that walks a CAR: each section, up to the first status that isn't OK. */
+/* Runs a call that walks a CAR: each section, up to the first status that isn't OK. The first number
+ * of the case has whether the bytes are all, the version and the limit: a bit, 7 bits and the
+ * rest. */
 static uint32_t walk(const input *of) {
-    size_t at = cut(of->numbers[0]), end = cut(of->numbers[1]), offset = UNWRITTEN;
+    kombilad_car_place place = {of->numbers[0] >> 1 & 127, of->numbers[1], of->numbers[2]};
     kombilad_span cid, block;
+    uint64_t more, offset;
+    size_t begin = 0;
     uint32_t status;
     int most = 100;
     do {
         memset(&cid, 0x4d, sizeof cid);
         memset(&block, 0x4d, sizeof block);
-        status = kombilad_car_next(of->first.at, of->first.size, at, end, &cid, &block, &at,
-                                   &offset);
+        more = offset = UNWRITTEN;
+        status = kombilad_car_next_part(of->first.at + begin, of->first.size - begin,
+                                        (uint32_t)of->numbers[0] & 1, cut(of->numbers[0] >> 8),
+                                        &place, &cid, &block, &more, &offset);
         note(status);
-        note(at);
+        note(place.version);
+        note(place.at);
+        note(place.end);
+        note(more);
         note(offset);
         note_spans(&cid, 1);
         note_spans(&block, 1);
+        if (status == KOMBILAD_OK) begin += block.offset + block.len;
     } while (status == KOMBILAD_OK && --most);
     return status;
 }
@@ -235,6 +247,16 @@ static uint32_t run(const input *of, size_t count, size_t *needed) {
         out = make_room(count);
         status = kombilad_block_canonicalize(first, len, levels, values, out.at, count, needed,
                                              &offset);
+        note_bytes(out.at, count);
+        break;
+    case BLOCK_TO_JSON:
+        out = make_room(count);
+        status = kombilad_block_to_json(first, len, levels, values, out.at, count, needed, &offset);
+        note_bytes(out.at, count);
+        break;
+    case BLOCK_OF_JSON:
+        out = make_room(count);
+        status = kombilad_block_of_json(first, len, levels, values, out.at, count, needed, &offset);
         note_bytes(out.at, count);
         break;
     case LINKS_COUNT: {
@@ -289,19 +311,22 @@ static uint32_t run(const input *of, size_t count, size_t *needed) {
         free_room(entries);
         break;
     }
-    case CAR_OPEN: {
-        kombilad_car opened;
-        memset(&opened, 0x4d, sizeof opened);
+    case CAR_OPEN_PART: {
+        kombilad_car_place place;
+        uint64_t more = UNWRITTEN, at = UNWRITTEN;
+        memset(&place, 0x4d, sizeof place);
         out = make_room(count * sizeof(kombilad_cid));
-        status = kombilad_car_open(first, len, levels, &opened, (kombilad_cid *)(void *)out.at,
-                                   count, needed, &offset);
-        note(opened.version);
-        note(opened.sections);
-        note(opened.end);
+        status = kombilad_car_open_part(first, len, (uint32_t)of->numbers[1], levels, &place,
+                                        (kombilad_cid *)(void *)out.at, count, needed, &more, &at);
+        note(place.version);
+        note(place.at);
+        note(place.end);
+        note(more);
+        note(at);
         note_cids((kombilad_cid *)(void *)out.at, count);
         break;
     }
-    case CAR_NEXT: status = walk(of); break;
+    case CAR_NEXT_PART: status = walk(of); break;
     case VERIFY: status = kombilad_verify(first, len, of->second.at, of->second.size); break;
     case STATUS_TEXT:
         out = make_room(count);

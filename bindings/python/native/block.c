@@ -1,4 +1,4 @@
-/* Blocks of DAG-CBOR without their values: checks, links and the canonical form. */
+/* Blocks of DAG-CBOR without their values: checks, links, the canonical form and DAG-JSON. */
 #include "native.h"
 
 /* A block, and its limits. */
@@ -94,6 +94,18 @@ static uint32_t fill_canonical(const struct asked *asked, void *room, size_t cap
                                size_t *needed, size_t *offset) {
     return kombilad_block_canonicalize(asked->block.bytes, asked->block.len, asked->levels,
                                        asked->values, room, capacity, needed, offset);
+}
+
+static uint32_t fill_json(const struct asked *asked, void *room, size_t capacity, size_t *needed,
+                          size_t *offset) {
+    return kombilad_block_to_json(asked->block.bytes, asked->block.len, asked->levels,
+                                  asked->values, room, capacity, needed, offset);
+}
+
+static uint32_t fill_of_json(const struct asked *asked, void *room, size_t capacity, size_t *needed,
+                             size_t *offset) {
+    return kombilad_block_of_json(asked->block.bytes, asked->block.len, asked->levels,
+                                  asked->values, room, capacity, needed, offset);
 }
 
 /* What a call filled. */
@@ -195,6 +207,36 @@ PyObject *block_canonicalize(PyObject *module, PyObject *arguments) {
     /* Sorting its keys leaves a block as long as it was. */
     size_t capacity = asked.block.len > 0 ? asked.block.len : 1;
     int failed = fill(state_of(module), &asked, fill_canonical, 1, capacity, &filled);
+    take_back(&asked.block);
+    if (failed < 0) return NULL;
+    PyObject *block = PyBytes_FromStringAndSize(filled.room, (Py_ssize_t)filled.count);
+    PyMem_Free(filled.room);
+    return block;
+}
+
+/* Most texts in DAG-JSON have at most twice as many bytes as the block, and so many more. */
+#define SPARE 64
+
+PyObject *block_to_json(PyObject *module, PyObject *arguments) {
+    struct asked asked;
+    struct filled filled;
+    if (read_asked(arguments, "to_json", &asked) < 0) return NULL;
+    size_t capacity = 2 * asked.block.len + SPARE;
+    int failed = fill(state_of(module), &asked, fill_json, 1, capacity, &filled);
+    take_back(&asked.block);
+    if (failed < 0) return NULL;
+    PyObject *text = PyUnicode_FromStringAndSize(filled.room, (Py_ssize_t)filled.count);
+    PyMem_Free(filled.room);
+    return text;
+}
+
+PyObject *block_from_json(PyObject *module, PyObject *arguments) {
+    struct asked asked;
+    struct filled filled;
+    if (read_asked(arguments, "from_json", &asked) < 0) return NULL;
+    /* Only a float, or a string with a long head, takes more bytes than its text. */
+    size_t capacity = asked.block.len + SPARE;
+    int failed = fill(state_of(module), &asked, fill_of_json, 1, capacity, &filled);
     take_back(&asked.block);
     if (failed < 0) return NULL;
     PyObject *block = PyBytes_FromStringAndSize(filled.room, (Py_ssize_t)filled.count);

@@ -16,67 +16,85 @@ static PyObject *roots_of(const kombilad_cid *records, size_t len) {
     return roots;
 }
 
-/* Reads what stands before the sections; the roots as a list of bytes. NULL with an exception. */
-static PyObject *opened_car(const struct state *state, const struct lent *car, size_t limit,
-                            kombilad_car *opened) {
-    kombilad_cid few[FEW_ROOTS], *records = few;
-    size_t needed = 0, offset = 0;
-    uint32_t status = kombilad_car_open(car->bytes, car->len, limit, opened, few, FEW_ROOTS,
-                                        &needed, &offset);
-    if (status == KOMBILAD_TOO_SHORT) {
-        records = PyMem_Malloc(needed * sizeof *records);
-        if (records == NULL) return PyErr_NoMemory();
-        status = kombilad_car_open(car->bytes, car->len, limit, opened, records, needed, &needed,
-                                   &offset);
-    }
-    PyObject *roots = NULL;
-    if (status == KOMBILAD_OK)
-        roots = roots_of(records, needed);
-    else
-        set_failed(state, status, offset);
-    if (records != few) PyMem_Free(records);
-    return roots;
+/* Reads the part of a CAR before its sections. Returns the status. The roots of the records, which
+ * the caller frees if they are not `few`, go to `records`. */
+static uint32_t opened(const struct lent *bytes, int is_all, size_t limit,
+                       kombilad_car_place *place, kombilad_cid *few, kombilad_cid **records,
+                       size_t *needed, uint64_t *more, uint64_t *offset) {
+    *records = few;
+    uint32_t status = kombilad_car_open_part(bytes->bytes, bytes->len, (uint32_t)is_all, limit,
+                                             place, few, FEW_ROOTS, needed, more, offset);
+    if (status != KOMBILAD_TOO_SHORT) return status;
+    *records = PyMem_Malloc(*needed * sizeof **records);
+    if (*records == NULL) return KOMBILAD_NO_MEMORY;
+    return kombilad_car_open_part(bytes->bytes, bytes->len, (uint32_t)is_all, limit, place,
+                                  *records, *needed, needed, more, offset);
 }
 
-/* open_car(car, limit): (version, where the sections begin, where they end, roots as bytes). */
-PyObject *open_car(PyObject *module, PyObject *arguments) {
+/* open_part(window, is_all, limit): of the beginning of a CAR how many bytes more are needed, or
+ * (version, where the sections begin, where they end, roots as bytes). */
+PyObject *open_part(PyObject *module, PyObject *arguments) {
     PyObject *given, *given_limit;
-    struct lent car;
-    size_t limit;
-    if (!PyArg_UnpackTuple(arguments, "open_car", 2, 2, &given, &given_limit)) return NULL;
-    if (limit_of(given_limit, &limit) < 0 || lend(given, &car) < 0) return NULL;
-    kombilad_car opened;
-    PyObject *roots = opened_car(state_of(module), &car, limit, &opened);
-    take_back(&car);
-    if (roots == NULL) return NULL;
-    return Py_BuildValue("KnKN", (unsigned long long)opened.version, (Py_ssize_t)opened.sections,
-                         (unsigned long long)opened.end, roots);
+    struct lent window;
+    int is_all;
+    size_t limit, needed = 0;
+    if (!PyArg_ParseTuple(arguments, "OpO", &given, &is_all, &given_limit)) return NULL;
+    if (limit_of(given_limit, &limit) < 0 || lend(given, &window) < 0) return NULL;
+    kombilad_cid few[FEW_ROOTS], *records;
+    kombilad_car_place place;
+    uint64_t more = 0, offset = 0;
+    uint32_t status = opened(&window, is_all, limit, &place, few, &records, &needed, &more,
+                             &offset);
+    take_back(&window);
+    PyObject *found = NULL;
+    if (status == KOMBILAD_CAR_MORE) {
+        found = PyLong_FromUnsignedLongLong(more);
+    } else if (status == KOMBILAD_OK) {
+        PyObject *roots = roots_of(records, needed);
+        if (roots != NULL)
+            found = Py_BuildValue("KKKN", (unsigned long long)place.version,
+                                  (unsigned long long)place.at, (unsigned long long)place.end,
+                                  roots);
+    } else {
+        set_failed(state_of(module), status, (size_t)offset);
+    }
+    if (records != few) PyMem_Free(records);
+    return found;
 }
 
-/* section(window, end, base): of the section at the beginning of the bytes the CID's bytes and
- * where its data begin and end; None where `end` is 0. An error's offset counts from `base` bytes
- * before the window on. */
-PyObject *section(PyObject *module, PyObject *arguments) {
-    PyObject *given, *given_end, *given_base;
+/* next_part(window, begin, is_all, limit, version, at, end): of the section that the bytes from
+ * `begin` on begin with, which is at the byte `at` of the CAR, how many bytes more it needs, or the
+ * CID's bytes and where in the window its data begin and end; None after the last one. */
+PyObject *next_part(PyObject *module, PyObject *arguments) {
+    PyObject *given, *given_limit;
     struct lent window;
-    size_t end, base, next = 0, offset = 0;
-    if (!PyArg_UnpackTuple(arguments, "section", 3, 3, &given, &given_end, &given_base))
+    Py_ssize_t begin;
+    int is_all;
+    size_t limit;
+    unsigned long long version, at, end;
+    if (!PyArg_ParseTuple(arguments, "OnpOKKK", &given, &begin, &is_all, &given_limit, &version,
+                          &at, &end))
         return NULL;
-    if (limit_of(given_end, &end) < 0 || limit_of(given_base, &base) < 0 ||
-        lend(given, &window) < 0)
-        return NULL;
+    if (limit_of(given_limit, &limit) < 0 || lend(given, &window) < 0) return NULL;
+    if (begin < 0 || (size_t)begin > window.len) begin = (Py_ssize_t)window.len;
+    const uint8_t *bytes = window.bytes + begin;
+    kombilad_car_place place = {version, at, end};
     kombilad_span cid, data;
-    uint32_t status = kombilad_car_next(window.bytes, window.len, 0, end, &cid, &data, &next,
-                                        &offset);
+    uint64_t more = 0, offset = 0;
+    uint32_t status = kombilad_car_next_part(bytes, window.len - (size_t)begin, (uint32_t)is_all,
+                                             limit, &place, &cid, &data, &more, &offset);
     PyObject *found = NULL;
     if (status == KOMBILAD_CAR_DONE) {
         found = Py_None;
         Py_INCREF(found);
+    } else if (status == KOMBILAD_CAR_MORE) {
+        found = PyLong_FromUnsignedLongLong(more);
     } else if (status == KOMBILAD_OK) {
-        found = Py_BuildValue("y#nn", (const char *)window.bytes + cid.offset, (Py_ssize_t)cid.len,
-                              (Py_ssize_t)data.offset, (Py_ssize_t)(data.offset + data.len));
+        found = Py_BuildValue("y#nn", (const char *)bytes + cid.offset, (Py_ssize_t)cid.len,
+                              begin + (Py_ssize_t)data.offset,
+                              begin + (Py_ssize_t)(data.offset + data.len));
     } else {
-        set_failed(state_of(module), status, base + offset);
+        set_failed(state_of(module), status, (size_t)offset);
     }
     take_back(&window);
     return found;
@@ -145,20 +163,22 @@ static PyObject *value_of_section(struct state *state, const struct wanted *want
 }
 
 /* Puts the block of each section into a dict. -1 with an exception. */
-static int all_sections(struct state *state, const struct wanted *wanted,
-                        const kombilad_car *opened, PyObject *blocks) {
-    /* On 32 bits the end may be past what a size_t counts. */
-    size_t at = opened->sections, offset = 0,
-           end = opened->end < SIZE_MAX ? (size_t)opened->end : SIZE_MAX;
-    kombilad_span cid, data;
+static int all_sections(struct state *state, const struct wanted *wanted, kombilad_car_place place,
+                        PyObject *blocks) {
     for (;;) {
-        uint32_t status = kombilad_car_next(wanted->car.bytes, wanted->car.len, at, end, &cid,
-                                            &data, &at, &offset);
+        kombilad_span cid, data;
+        uint64_t more, offset = 0;
+        /* The place is at most the number of bytes, so it is a size_t. */
+        size_t at = (size_t)place.at;
+        uint32_t status = kombilad_car_next_part(wanted->car.bytes + at, wanted->car.len - at, 1,
+                                                 SIZE_MAX, &place, &cid, &data, &more, &offset);
         if (status == KOMBILAD_CAR_DONE) return 0;
         if (status != KOMBILAD_OK) {
-            set_failed(state, status, offset);
+            set_failed(state, status, (size_t)offset);
             return -1;
         }
+        cid.offset += at;
+        data.offset += at;
         PyObject *value = value_of_section(state, wanted, cid, data);
         PyObject *key = value == NULL ? NULL
                                       : cid_object(state, wanted->kind,
@@ -186,13 +206,22 @@ PyObject *decode_car(PyObject *module, PyObject *arguments) {
     wanted.verified = PyObject_IsTrue(verified);
     if (wanted.verified < 0 || limit_of(given_limit, &limit) < 0 || lend(given, &wanted.car) < 0)
         return NULL;
-    kombilad_car opened;
-    PyObject *roots = opened_car(state, &wanted.car, limit, &opened);
+    kombilad_cid few[FEW_ROOTS], *records;
+    kombilad_car_place place;
+    size_t needed = 0;
+    uint64_t more = 0, offset = 0;
+    uint32_t status = opened(&wanted.car, 1, limit, &place, few, &records, &needed, &more, &offset);
+    PyObject *roots = NULL;
+    if (status == KOMBILAD_OK)
+        roots = roots_of(records, needed);
+    else
+        set_failed(state, status, (size_t)offset);
+    if (records != few) PyMem_Free(records);
     PyObject *blocks = roots == NULL ? NULL : PyDict_New();
-    if (blocks != NULL && all_sections(state, &wanted, &opened, blocks) < 0) Py_CLEAR(blocks);
+    if (blocks != NULL && all_sections(state, &wanted, place, blocks) < 0) Py_CLEAR(blocks);
     take_back(&wanted.car);
     if (blocks != NULL)
-        return Py_BuildValue("KNN", (unsigned long long)opened.version, roots, blocks);
+        return Py_BuildValue("KNN", (unsigned long long)place.version, roots, blocks);
     Py_XDECREF(roots);
     return NULL;
 }

@@ -130,6 +130,8 @@ PyObject *block_count_links(PyObject *module, PyObject *arguments);
 PyObject *block_links(PyObject *module, PyObject *arguments);
 PyObject *block_link_positions(PyObject *module, PyObject *arguments);
 PyObject *block_canonicalize(PyObject *module, PyObject *arguments);
+PyObject *block_to_json(PyObject *module, PyObject *arguments);
+PyObject *block_from_json(PyObject *module, PyObject *arguments);
 
 /* The text of a key. NULL with an exception. */
 PyObject *key_text(struct state *state, const uint8_t *bytes, size_t len);
@@ -142,8 +144,8 @@ PyObject *decode_block(struct state *state, const struct lent *block, enum cid_k
 PyObject *decode(PyObject *module, PyObject *arguments);
 PyObject *decode_multi(PyObject *module, PyObject *arguments);
 PyObject *decode_pb(PyObject *module, PyObject *arguments);
-PyObject *open_car(PyObject *module, PyObject *arguments);
-PyObject *section(PyObject *module, PyObject *arguments);
+PyObject *open_part(PyObject *module, PyObject *arguments);
+PyObject *next_part(PyObject *module, PyObject *arguments);
 PyObject *verify(PyObject *module, PyObject *arguments);
 PyObject *decode_car(PyObject *module, PyObject *arguments);
 

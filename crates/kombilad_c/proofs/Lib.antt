@@ -3,5 +3,7 @@ pub mod AsciiTexts
 pub mod Answering
 pub mod Listing
 pub mod LinkRecords
-pub mod CarSpans
 pub mod PbTapes
+pub mod CarLengths
+pub mod CarParts
+pub mod CarFronts

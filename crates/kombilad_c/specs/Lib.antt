@@ -6,7 +6,11 @@ pub mod Block
 pub mod Tape
 pub mod Encode
 pub mod Rewrite
+pub mod ToJson
+pub mod OfJson
 pub mod PbTape
 pub mod Car
+pub mod CarLength
+pub mod CarPart
 pub mod Digest
 pub mod StatusText

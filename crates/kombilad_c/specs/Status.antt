@@ -12,6 +12,8 @@ use Rattle.dag_cbor_tape.specs.declared.error.EncodeErrorKind.{EncodeErrorKind}
 use Rattle.dag_cbor_tape.specs.declared.error.EncodeErrorKind.TheVariants as tape
 use Rattle.dag_cbor_blocks.specs.declared.block_error.BlockErrorKind.{BlockErrorKind}
 use Rattle.dag_cbor_blocks.specs.declared.block_error.BlockErrorKind.TheVariants.{TooDeep, TooMany, Cbor}
+use Rattle.dag_json.specs.declared.read_error.ReadErrorKind.{ReadErrorKind}
+use Rattle.dag_json.specs.declared.read_error.ReadErrorKind.TheVariants as json
 use Rattle.dag_pb.specs.declared.error.PbErrorKind.{PbErrorKind}
 use Rattle.dag_pb.specs.declared.error.PbErrorKind.TheVariants as pb
 use Rattle.ipld_car.specs.declared.error.CarErrorKind.{CarErrorKind}
@@ -123,3 +125,20 @@ pb_status pb.FieldOrder = 147
 pb_status pb.NoHash = 148
 pb_status pb.Utf8 = 149
 pb_status (pb.Cid error) = link_status error
+
+-- The status of an error of a text that is not DAG-JSON, named in `bindings/c/kombilad.h`. No
+-- export returns 15.
+abbrev pub json_status : ReadErrorKind → ℕ
+json_status json.Memory = 1
+json_status json.TooDeep = 6
+json_status json.TooMany = 7
+json_status json.Utf8 = 160
+json_status json.Syntax = 161
+json_status json.End = 162
+json_status json.Float = 163
+json_status json.IntegerRange = 164
+json_status json.DuplicateKey = 165
+json_status json.Link = 166
+json_status json.Bytes = 167
+json_status json.Reserved = 168
+json_status json.NotCanonical = 15

@@ -110,6 +110,25 @@ pb_sentence n =
     else if n == 5 then Some (codes "the name of a link is not UTF-8")
     else None
 
+-- The sentences of the statuses from 160 on: a text that is not DAG-JSON, and a map that has no text
+abbrev pub json_sentence : ℕ → Option (List ℕ)
+json_sentence n =
+    if n == 0 then Some (codes "the text is not UTF-8")
+    else if n == 1 then Some (codes "the text is not JSON")
+    else if n == 2 then Some (codes "the text ends before its value does")
+    else if n == 3 then Some (codes "a number is too large for a float of 64 bits")
+    else if n == 4 then Some (codes "an integer is below -2^64 or above 2^64 - 1")
+    else if n == 5 then Some (codes "an object has the same key twice")
+    else if n == 6 then Some (codes "the text of a link is not that of a CID")
+    else if n == 7 then Some (codes "the text of bytes is not base64 without padding")
+    else if n == 8 then Some (codes "an object is reserved for links and bytes, and is neither")
+    else if n == 9 then Some (codes "a map would be read as a link or as bytes in DAG-JSON")
+    else None
+
+-- The sentences of the statuses from 176 on: a part of a CAR
+abbrev pub part_sentence : ℕ → Option (List ℕ)
+part_sentence n = if n == 0 then Some (codes "more bytes of the CAR are needed") else None
+
 -- The sentence of the number `n` in a family, if it has one
 abbrev pub sentence_in : ℕ → ℕ → Option (List ℕ)
 sentence_in family n =
@@ -122,6 +141,8 @@ sentence_in family n =
     else if family == 7 then digest_sentence n
     else if family == 8 then tape_sentence n
     else if family == 9 then pb_sentence n
+    else if family == 10 then json_sentence n
+    else if family == 11 then part_sentence n
     else None
 
 -- The sentence of a status, in ASCII and without a full stop.

@@ -1,5 +1,5 @@
-//! The library `libkombilad`: CIDs, blocks of DAG-CBOR and DAG-PB, and CARs for C and for languages
-//! that call C.
+//! The library `libkombilad`: CIDs, blocks of DAG-CBOR and DAG-PB, their DAG-JSON, and CARs for C and
+//! for languages that call C.
 //!
 //! Each export calls the libraries below, and its clauses state its result and its output. The
 //! numbers that the exports return are those of `status`. `bindings/c/kombilad.h` declares the
@@ -7,8 +7,9 @@
 #![tactic(auto)]
 
 mod base32;
-mod car_next;
-mod car_open;
+mod car_next_part;
+mod car_open_part;
+mod car_place;
 mod cid;
 mod cid_record;
 mod digest;
@@ -16,11 +17,13 @@ mod encode;
 mod fill;
 mod links;
 mod naming;
+mod of_json;
 mod pb_tape;
 mod positions;
 mod rewrite;
 mod status;
 mod status_text;
 mod tape;
+mod to_json;
 mod verify;
 mod version;

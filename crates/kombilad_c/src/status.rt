@@ -6,6 +6,7 @@ ghost use Rattle.kombilad_c.specs.Status as numbers;
 use dag_cbor_blocks::{BlockError, BlockErrorKind};
 use dag_cbor_format::CborError;
 use dag_cbor_tape::EncodeErrorKind;
+use dag_json::ReadErrorKind;
 use dag_pb::PbErrorKind;
 use ipld_block::VerifyError;
 use ipld_car::CarErrorKind;
@@ -32,6 +33,11 @@ const OTHER: u32 = 15;
 pub(crate) const TEXT_UTF8: u32 = 37;
 /// No section of a CAR is left.
 pub(crate) const CAR_DONE: u32 = 96;
+/// A map would be read as a link or as bytes in DAG-JSON.
+pub(crate) const JSON_RESERVED_MAP: u32 = 169;
+
+/// More bytes of a CAR are needed.
+pub(crate) const CAR_MORE: u32 = 176;
 
 /// Returns the number of the reason why bytes are not a CID.
 pub(crate) fn cid_status(error: CidError) -> u32
@@ -185,5 +191,26 @@ pub(crate) fn pb_status(kind: PbErrorKind) -> u32
         PbErrorKind::NoHash => 148,
         PbErrorKind::Utf8 => 149,
         PbErrorKind::Cid(error) => link_status(error),
+    }
+}
+
+/// Returns the number of the reason why a text is not read as DAG-JSON within limits.
+pub(crate) fn json_status(kind: ReadErrorKind) -> u32
+    ensures { result ≡ numbers.json_status kind }
+{
+    match kind {
+        ReadErrorKind::Memory => MEMORY,
+        ReadErrorKind::TooDeep => 6,
+        ReadErrorKind::TooMany => 7,
+        ReadErrorKind::Utf8 => 160,
+        ReadErrorKind::Syntax => 161,
+        ReadErrorKind::End => 162,
+        ReadErrorKind::Float => 163,
+        ReadErrorKind::IntegerRange => 164,
+        ReadErrorKind::DuplicateKey => 165,
+        ReadErrorKind::Link => 166,
+        ReadErrorKind::Bytes => 167,
+        ReadErrorKind::Reserved => 168,
+        ReadErrorKind::NotCanonical => OTHER,
     }
 }

@@ -2,7 +2,7 @@
 
 ghost use Rattle.std.specs.Prelude.{◌≡◌, option_map};
 ghost use Rattle.kombilad_c.specs.Fill.{Fills};
-ghost use Rattle.kombilad_c.specs.StatusText.{any_sentence, cid_sentence, text_sentence, block_sentence, link_sentence, car_sentence, digest_sentence, tape_sentence, pb_sentence, status_sentence};
+ghost use Rattle.kombilad_c.specs.StatusText.{any_sentence, cid_sentence, text_sentence, block_sentence, link_sentence, car_sentence, digest_sentence, tape_sentence, pb_sentence, json_sentence, part_sentence, status_sentence};
 
 use crate::fill::fill;
 
@@ -163,6 +163,36 @@ fn pb_text(number: u32) -> Option<&'static str>
     Some(text)
 }
 
+// Returns why a text is not read as DAG-JSON, or a block not written as it, by the status minus 160.
+fn json_text(number: u32) -> Option<&'static str>
+    ensures { option_map (λ text. text.now) result ≡ json_sentence number }
+{
+    let text = match number {
+        0 => "the text is not UTF-8",
+        1 => "the text is not JSON",
+        2 => "the text ends before its value does",
+        3 => "a number is too large for a float of 64 bits",
+        4 => "an integer is below -2^64 or above 2^64 - 1",
+        5 => "an object has the same key twice",
+        6 => "the text of a link is not that of a CID",
+        7 => "the text of bytes is not base64 without padding",
+        8 => "an object is reserved for links and bytes, and is neither",
+        9 => "a map would be read as a link or as bytes in DAG-JSON",
+        _ => return None,
+    };
+    Some(text)
+}
+
+// Returns why a part of a CAR is not read, by the status minus 176.
+fn part_text(number: u32) -> Option<&'static str>
+    ensures { option_map (λ text. text.now) result ≡ part_sentence number }
+{
+    match number {
+        0 => Some("more bytes of the CAR are needed"),
+        _ => None,
+    }
+}
+
 // Returns the sentence of a status, without a full stop. It is ASCII.
 fn sentence(status: u32) -> &'static str
     ensures { result.now ≡ status_sentence status }
@@ -178,6 +208,8 @@ fn sentence(status: u32) -> &'static str
         7 => digest_text(number),
         8 => tape_text(number),
         9 => pb_text(number),
+        10 => json_text(number),
+        11 => part_text(number),
         _ => None,
     };
     found.unwrap_or(OTHER)

@@ -6,7 +6,7 @@ ghost use Rattle.std.specs.Prelude.{◌≡◌};
 /// number, plus the patch number.
 #[unsafe(no_mangle)]
 pub extern "C" fn kombilad_version() -> u32
-    ensures { result ≡ 0x000100 }
+    ensures { result ≡ 0x000200 }
 {
-    0x000100
+    0x000200
 }

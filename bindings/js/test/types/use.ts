@@ -1,4 +1,4 @@
-import { CID, CarBlockIterator, CarIndexedReader, CarIndexer, CarReader, KombiladError, check, code, countLinks, decode, encode, isCanonical, linkPositions, links, name, setMemoryLimit, sha256, tape, verify, dagCbor, dagPb } from 'kombilad'
+import { CID, CarBlockIterator, CarIndexedReader, CarIndexer, CarReader, KombiladError, check, code, countLinks, decode, encode, fromJSON, isCanonical, linkPositions, links, name, setMemoryLimit, sha256, tape, toJSON, verify, dagCbor, dagPb } from 'kombilad'
 
 const cid: CID = CID.parse('bafkqaaa')
 const version: 0 | 1 = cid.version
@@ -11,6 +11,8 @@ const count: number = countLinks(bytes) + linkPositions(bytes)[0].offset + tape(
 const same: boolean | undefined = verify(CID.create(1, code, sha256.digest(bytes)), bytes)
 check(bytes)
 setMemoryLimit(1e8)
+const json: string = toJSON(bytes, { levels: 3 })
+const again: Uint8Array = fromJSON(json, { values: 10 }) ?? fromJSON(bytes)
 
 // A codec as multiformats takes one.
 interface Codec<Code extends number, T> { name: string, code: Code, encode(value: T): Uint8Array, decode(bytes: Uint8Array): T }

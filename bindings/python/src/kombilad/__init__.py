@@ -1,5 +1,5 @@
-"""Content identifiers (CIDs), blocks of DAG-CBOR and DAG-PB, and CAR files, read by proved code:
-the library `libkombilad`.
+"""Content identifiers (CIDs), blocks of DAG-CBOR and DAG-PB, their DAG-JSON, and CAR files, read by
+proved code: the library `libkombilad`.
 
 >>> import kombilad
 >>> block = bytes.fromhex("a1646c696e6bd82a450001550000")
@@ -12,6 +12,7 @@ the library `libkombilad`.
   are in order, and `canonicalize` puts them in order.
 - `decode_dag_cbor` returns the value of a block: dicts, lists, strings, bytes, numbers and CIDs.
   `encode_dag_cbor` returns the block of a value.
+- `to_json` returns the DAG-JSON of a block, and `from_json` the block of a text in DAG-JSON.
 - `decode_dag_pb` returns the node of a block of DAG-PB.
 - `CarReader` reads the blocks of a CAR file one at a time, and `decode_car` returns the values of
   all blocks of a CAR in memory. `verify` compares a block with its CID.
@@ -33,9 +34,11 @@ from ._block import (
     canonicalize,
     check,
     count_links,
+    from_json,
     is_canonical,
     link_positions,
     links,
+    to_json,
 )
 from ._car import CarReader, decode_car, verify
 from ._cid import DAG_CBOR, DAG_PB, RAW, SHA2_256, Cid
@@ -45,6 +48,7 @@ from ._errors import (
     CarError,
     CidError,
     EncodeError,
+    JsonError,
     KombiladError,
     LimitError,
     TextError,
@@ -71,6 +75,7 @@ __all__ = [
     "Cid",
     "CidError",
     "EncodeError",
+    "JsonError",
     "KombiladError",
     "LimitError",
     "Status",
@@ -84,9 +89,11 @@ __all__ = [
     "decode_dag_cbor_multi",
     "decode_dag_pb",
     "encode_dag_cbor",
+    "from_json",
     "is_canonical",
     "link_positions",
     "links",
+    "to_json",
     "verify",
     "version",
 ]
@@ -101,7 +108,7 @@ def version() -> str:
     """Returns the version of libkombilad.
 
     >>> version()
-    '0.1.0'
+    '0.2.0'
     """
     number = _native.version()
     return f"{number >> 16}.{number >> 8 & 255}.{number & 255}"

@@ -1,6 +1,6 @@
 """Blocks of DAG-CBOR."""
 
-from typing import List, Optional, Tuple
+from typing import List, Optional, Tuple, Union
 
 from . import _native
 from ._cid import Cid
@@ -77,3 +77,41 @@ def is_canonical(block: BytesLike, *, levels: int = 1024, values: Optional[int] 
     (True, False)
     """
     return _native.is_canonical(block, levels, values)
+
+
+def to_json(block: BytesLike, *, levels: int = 1024, values: Optional[int] = None) -> str:
+    """Returns the DAG-JSON of the block: without blanks, and with the keys of each object in the
+    order of their bytes. A link is the object `{"/":"bafy.."}` and bytes are
+    `{"/":{"bytes":"aGk"}}`.
+
+    >>> to_json(bytes.fromhex("a26162fb3ff80000000000006161d82a450001550000"))
+    '{"a":{"/":"bafkqaaa"},"b":1.5}'
+
+    Raises the errors of `check`, and `JsonError` if a map would be read as a link or as bytes.
+
+    >>> to_json(bytes.fromhex("81a1612f6161"))
+    Traceback (most recent call last):
+    kombilad.JsonError: a map would be read as a link or as bytes in DAG-JSON, at byte 1
+    """
+    return _native.to_json(block, levels, values)
+
+
+def from_json(
+    text: Union[str, BytesLike], *, levels: int = 1024, values: Optional[int] = None
+) -> bytes:
+    """Returns the canonical block of a text in DAG-JSON, or of its UTF-8. The text may have blanks,
+    and the keys of an object in any order.
+
+    >>> from_json('{"bb": 1, "a": [2.0, {"/": "bafkqaaa"}]}').hex()
+    'a2616182fb4000000000000000d82a45000155000062626201'
+
+    Raises `JsonError`, with the first error, unless the text is DAG-JSON. Raises `LimitError` if it
+    exceeds a limit before that. The limits count the arrays, objects and values of the text, so a
+    link is two values.
+
+    >>> from_json("[1, 2")
+    Traceback (most recent call last):
+    kombilad.JsonError: the text ends before its value does, at byte 5
+    """
+    given = text.encode("utf-8", "surrogatepass") if isinstance(text, str) else text
+    return _native.from_json(given, levels, values)

@@ -1,11 +1,11 @@
 """CAR files: all of one in memory, or one section after another."""
 
 import io
-from typing import Any, BinaryIO, Dict, Iterator, List, NoReturn, Optional, Tuple, Type, Union
+from typing import Any, BinaryIO, Dict, Iterator, List, Optional, Tuple, Type, Union
 
 from . import _native
 from ._cid import Cid
-from ._errors import KombiladError, failed
+from ._errors import failed
 from ._status import BytesLike, Status
 
 # The default limits on the bytes of a header and of a section.
@@ -13,7 +13,8 @@ HEADER_LIMIT = 8 << 20
 SECTION_LIMIT = 32 << 20
 # The least number of bytes that are read at once.
 _CHUNK = 1 << 16
-_LONGEST_VARINT = 10
+# The byte of a CAR of version 2 at which its header places the payload.
+_PLACE_OF_PAYLOAD = 27
 
 
 def _shown(kind: Type[Union[Cid, str, bytes]], roots: List[bytes]) -> List[Any]:
@@ -99,15 +100,14 @@ class CarReader:
         self._file: Any = source if hasattr(source, "read") else io.BytesIO(source)
         self._window = bytearray()
         self._begin = 0  # where in the window the next section begins
-        self._at = 0  # and where in the file
         self._ended = False
+        self._done = False
         self._verify, self._section_limit = verify, section_limit
-        self._end: Optional[int] = None
         self._open(header_limit)
 
-    def _more(self, wanted: int) -> bool:
+    def _more(self, wanted: int) -> None:
         """
-        Reads until the window has this many bytes from `_begin` on, and returns whether it has.
+        Reads until the window has this many bytes from `_begin` on, or the file ends.
         """
         while len(self._window) - self._begin < wanted and not self._ended:
             if self._begin >= _CHUNK:
@@ -116,95 +116,54 @@ class CarReader:
             chunk = self._file.read(min(max(_CHUNK, len(self._window)), 1 << 20))
             self._ended = not chunk
             self._window += chunk
-        return len(self._window) - self._begin >= wanted
 
     def _open(self, limit: int) -> None:
-        wanted = _CHUNK
+        # This many bytes contain a header within the limit, and the padding before one in version 2.
+        most = 2 * limit + _CHUNK
+        self._more(_CHUNK)
         while True:
-            all_there = not self._more(wanted)
-            try:
-                version, sections, end, roots = _native.open_car(bytes(self._window), limit)
+            found = _native.open_part(self._window, self._ended, limit)
+            if not isinstance(found, int):
                 break
-            except KombiladError as error:
-                short = error.status in (
-                    Status.CAR_UNEXPECTED_END,
-                    Status.CAR_SHORT_PAYLOAD,
-                )
-                # This many bytes contain a header within the limit, and the padding before one in
-                # version 2.
-                if all_there or not short:
-                    raise
-                if wanted > 2 * limit + _CHUNK:
-                    raise failed(Status.CAR_TOO_LONG, offset=error.offset) from None
-            wanted *= 2
-        self.version, self.roots = version, [_native.cid_of(Cid, root) for root in roots]
-        self._begin = self._at = sections
-        self._end = end if version == 2 else None
-
-    def _length(self) -> Optional[int]:
-        """
-        Returns the number of bytes of the section at `_begin`, with its length; None if no length
-        is there.
-        """
-        self._more(_LONGEST_VARINT)
-        number = 0
-        for place, byte in enumerate(self._window[self._begin : self._begin + _LONGEST_VARINT]):
-            number |= (byte & 127) << 7 * place
-            if byte < 128:
-                return number + place + 1
-        return None
-
-    def _past_the_payload(self, left: int) -> NoReturn:
-        """
-        Raises the error of a section that goes on past the payload: that of its length, or else
-        that the payload ends within it.
-        """
-        window = bytes(self._window[self._begin : self._begin + min(_LONGEST_VARINT, left)])
-        try:
-            _native.section(window, len(window), self._at)
-        except KombiladError as error:
-            if error.status != Status.CAR_UNEXPECTED_END:
-                raise
-        raise failed(Status.CAR_UNEXPECTED_END, offset=self._end)
+            if len(self._window) >= most:
+                raise failed(Status.CAR_TOO_LONG, offset=_PLACE_OF_PAYLOAD)
+            self._more(min(len(self._window) + found, most))
+        self.version, self._at, self._end, roots = found
+        self.roots = [_native.cid_of(Cid, root) for root in roots]
+        self._begin = self._at
 
     def __iter__(self) -> Iterator[Tuple[Cid, bytes]]:
         return self
 
     def __next__(self) -> Tuple[Cid, bytes]:
+        if self._done:
+            raise StopIteration
         try:
             found = self._section()
         except BaseException:
-            self._window, self._begin, self._ended, self._end = (
-                bytearray(),
-                0,
-                True,
-                None,
-            )
+            self._window, self._begin, self._ended = bytearray(), 0, True
+            self._done = True
             raise
         if found is None:
             raise StopIteration
         return found
 
     def _section(self) -> Optional[Tuple[Cid, bytes]]:
-        if self._end is not None and self._at >= self._end:
-            return None
-        length = self._length()
-        left = self._end - self._at if self._end is not None else None
-        if length is None:
-            length = _LONGEST_VARINT
-        elif left is not None and length > left:
-            self._past_the_payload(left)
-        elif length > self._section_limit:
-            raise failed(Status.CAR_TOO_LONG, offset=self._at)
-        self._more(length)
-        window = bytes(self._window[self._begin : self._begin + length])
-        found = _native.section(window, len(window) if left is None else left, self._at)
-        if found is None:
-            return None
+        place = self.version, self._at, self._end
+        while True:
+            found = _native.next_part(
+                self._window, self._begin, self._ended, self._section_limit, *place
+            )
+            if found is None:
+                return None
+            if not isinstance(found, int):
+                break
+            self._more(len(self._window) - self._begin + found)
         cid, begin, end = found
-        self._begin += end
-        self._at += end
-        block = window[begin:end]
+        with memoryview(self._window) as window:
+            block = bytes(window[begin:end])
+        self._at += end - self._begin
+        self._begin = end
         if self._verify:
             _native.verify(cid, block)
         return _native.cid_of(Cid, cid), block

@@ -55,8 +55,15 @@ class BlockError(KombiladError):
     """
 
 
+class JsonError(KombiladError):
+    """The text is not DAG-JSON: the first token with an error. `offset` is the byte at fault in its
+    UTF-8. Also, with `JSON_RESERVED_MAP`, a map of a block has no DAG-JSON, and `offset` is its
+    first byte in the block.
+    """
+
+
 class LimitError(KombiladError):
-    """A block exceeds a limit. `offset` is the first byte of the item that does. It is None for
+    """A block or a text exceeds a limit. `offset` is the first byte of the item that does. It is None for
     `TOO_LONG`: a string of 2^32 bytes or more, or a list or map of as many values and keys."""
 
 
@@ -137,6 +144,8 @@ def failed(status: int, place: Optional[int] = None, offset: Optional[int] = Non
         return CarError(known, offset=offset)
     if known in (Status.UNKNOWN_HASH, Status.WRONG_DIGEST):
         return VerifyError(known, offset=offset or None)
+    if Status.JSON_UTF8 <= known <= Status.JSON_RESERVED_MAP:
+        return JsonError(known, offset=offset)
     if Status.TEXT_UNKNOWN_BASE <= known <= Status.TEXT_UTF8:
         return TextError(known, place)
     return BlockError(known, offset=offset)

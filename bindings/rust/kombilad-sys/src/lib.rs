@@ -57,15 +57,16 @@ pub struct kombilad_entry {
     pub value: u64,
 }
 
-/// Where the sections of a CAR stand in its bytes.
+/// The place of the next section of a CAR.
 #[repr(C)]
 #[derive(Clone, Copy, Debug, PartialEq, Eq)]
-pub struct kombilad_car {
+pub struct kombilad_car_place {
     /// The version, 1 or 2.
     pub version: u64,
-    /// The byte at which the first section begins.
-    pub sections: u64,
-    /// The byte at which the last one ends.
+    /// The byte at which the section begins.
+    pub at: u64,
+    /// The byte at which the last section ends, by the header of version 2; `u64::MAX` for version
+    /// 1.
     pub end: u64,
 }
 
@@ -162,7 +163,7 @@ pub const KOMBILAD_CAR_LENGTH_NOT_SHORTEST: u32 = 98;
 pub const KOMBILAD_CAR_LENGTH_TOO_LARGE: u32 = 99;
 /// A header or a section has the length zero.
 pub const KOMBILAD_CAR_EMPTY: u32 = 100;
-/// A header is longer than the limit.
+/// A header or a section is longer than the limit.
 pub const KOMBILAD_CAR_TOO_LONG: u32 = 101;
 /// The header is a block, but not a map of roots and of the version 1.
 pub const KOMBILAD_CAR_NOT_A_HEADER: u32 = 102;
@@ -204,6 +205,28 @@ pub const KOMBILAD_PB_FIELD_ORDER: u32 = 147;
 pub const KOMBILAD_PB_NO_HASH: u32 = 148;
 /// The name of a link is not UTF-8.
 pub const KOMBILAD_PB_UTF8: u32 = 149;
+/// The text is not UTF-8.
+pub const KOMBILAD_JSON_UTF8: u32 = 160;
+/// The text is not JSON, or continues after its value.
+pub const KOMBILAD_JSON_SYNTAX: u32 = 161;
+/// The text ends before its value does.
+pub const KOMBILAD_JSON_END: u32 = 162;
+/// A number with a fraction or an exponent is beyond the greatest float of 64 bits.
+pub const KOMBILAD_JSON_FLOAT: u32 = 163;
+/// An integer is below -2^64 or above 2^64 - 1.
+pub const KOMBILAD_JSON_INTEGER_RANGE: u32 = 164;
+/// An object has the same key twice.
+pub const KOMBILAD_JSON_DUPLICATE_KEY: u32 = 165;
+/// The text of a link is not that of a CID in DAG-JSON.
+pub const KOMBILAD_JSON_LINK: u32 = 166;
+/// The text of bytes is not base64 without padding.
+pub const KOMBILAD_JSON_BYTES: u32 = 167;
+/// An object has the key `/` as links and bytes do, and is neither.
+pub const KOMBILAD_JSON_RESERVED: u32 = 168;
+/// A map of the block has no DAG-JSON: its text would be read as a link or as bytes.
+pub const KOMBILAD_JSON_RESERVED_MAP: u32 = 169;
+/// More bytes of a CAR are needed.
+pub const KOMBILAD_CAR_MORE: u32 = 176;
 
 /// The text of a CID, base32 in lower case of version 1, base58btc of version 0.
 pub const KOMBILAD_BASE_USUAL: u32 = 0;
@@ -283,6 +306,28 @@ extern "C" {
         needed: *mut usize,
         offset: *mut usize,
     ) -> u32;
+    /// Writes the DAG-JSON of the block.
+    pub fn kombilad_block_to_json(
+        block: *const u8,
+        len: usize,
+        levels: usize,
+        values: usize,
+        text: *mut u8,
+        text_len: usize,
+        needed: *mut usize,
+        offset: *mut usize,
+    ) -> u32;
+    /// Writes the canonical block of a text in DAG-JSON.
+    pub fn kombilad_block_of_json(
+        text: *const u8,
+        len: usize,
+        levels: usize,
+        values: usize,
+        out: *mut u8,
+        out_len: usize,
+        needed: *mut usize,
+        offset: *mut usize,
+    ) -> u32;
     /// Counts the links of the block.
     pub fn kombilad_links_count(
         block: *const u8,
@@ -348,27 +393,30 @@ extern "C" {
         offset: *mut usize,
     ) -> u32;
 
-    /// Reads what stands before the sections of a CAR.
-    pub fn kombilad_car_open(
-        car: *const u8,
+    /// Reads the header of a CAR that begins with these bytes.
+    pub fn kombilad_car_open_part(
+        bytes: *const u8,
         len: usize,
+        is_all: u32,
         limit: usize,
-        opened: *mut kombilad_car,
+        place: *mut kombilad_car_place,
         roots: *mut kombilad_cid,
         roots_len: usize,
         needed: *mut usize,
-        offset: *mut usize,
+        more: *mut u64,
+        offset: *mut u64,
     ) -> u32;
-    /// Finds the section that begins at a byte of a CAR.
-    pub fn kombilad_car_next(
-        car: *const u8,
+    /// Finds the section at a place of a CAR, whose bytes begin with these from there on.
+    pub fn kombilad_car_next_part(
+        bytes: *const u8,
         len: usize,
-        at: usize,
-        end: usize,
+        is_all: u32,
+        limit: usize,
+        place: *mut kombilad_car_place,
         cid: *mut kombilad_span,
         block: *mut kombilad_span,
-        next: *mut usize,
-        offset: *mut usize,
+        more: *mut u64,
+        offset: *mut u64,
     ) -> u32;
     /// Compares the digest of a block with that of a CID.
     pub fn kombilad_verify(cid: *const u8, cid_len: usize, block: *const u8, len: usize) -> u32;

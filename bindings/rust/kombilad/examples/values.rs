@@ -1,4 +1,5 @@
-//! Prints the value of the block in a file, and the block of a value that holds its CID.
+//! Prints the items of the block in a file, and a struct that holds its CID, written as a block and
+//! read from it.
 
 use std::error::Error;
 use std::{env, fs};
@@ -25,6 +26,7 @@ fn main() -> Result<(), Box<dyn Error>> {
     let post = Post { text: "hi", of: Cid::of_block(kombilad::DAG_CBOR, &block) };
     let encoded = kombilad::to_vec(&post)?;
     let read: Post = kombilad::from_slice(&encoded)?;
+    println!("{} {}", read.text, read.of);
     // [end: values]
     assert_eq!((read.text, read.of), (post.text, post.of));
     Ok(())

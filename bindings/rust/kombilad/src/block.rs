@@ -129,6 +129,28 @@ impl Limits {
     pub fn canonicalize(&self, block: &[u8]) -> Result<Vec<u8>, Error> {
         self.of(block).canonicalize().map_err(Error::of_block)
     }
+
+    /// The DAG-JSON of a block: without blanks, and with the keys of each object in the order of
+    /// their bytes.
+    ///
+    /// # Errors
+    ///
+    /// Those of [`Limits`], and [`Error::ReservedMap`].
+    pub fn to_json(&self, block: &[u8]) -> Result<String, Error> {
+        self.of(block).to_json().map_err(Error::of_block)
+    }
+
+    /// The canonical block of a text in DAG-JSON, which may have blanks, and the keys of an object in
+    /// any order. The limits count the arrays, objects and values of the text, so a link is two
+    /// values.
+    ///
+    /// # Errors
+    ///
+    /// [`Error::Json`] with the first error, [`Error::TooDeep`] and [`Error::TooMany`] if the text
+    /// exceeds a limit before that, and [`Error::OutOfMemory`].
+    pub fn from_json(&self, text: impl AsRef<[u8]>) -> Result<Vec<u8>, Error> {
+        self.of(text.as_ref()).of_json().map_err(Error::of_json)
+    }
 }
 
 fn capacity_for(block: &[u8]) -> usize {
@@ -226,6 +248,39 @@ pub fn is_canonical(block: &[u8]) -> Result<bool, Error> {
 /// Those of [`Limits`], and [`Error::TooLong`].
 pub fn canonicalize(block: &[u8]) -> Result<Vec<u8>, Error> {
     Limits::default().canonicalize(block)
+}
+
+/// The DAG-JSON of a block: [`Limits::to_json`] within the default limits.
+///
+/// ```
+/// let block = b"\xa2\x61b\xfb\x3f\xf8\0\0\0\0\0\0\x61a\xd8\x2a\x45\0\x01\x55\0\0";
+/// assert_eq!(kombilad::to_json(block)?, r#"{"a":{"/":"bafkqaaa"},"b":1.5}"#);
+/// # Ok::<(), kombilad::Error>(())
+/// ```
+///
+/// # Errors
+///
+/// Those of [`Limits`], and [`Error::ReservedMap`].
+pub fn to_json(block: &[u8]) -> Result<String, Error> {
+    Limits::default().to_json(block)
+}
+
+/// The canonical block of a text in DAG-JSON: [`Limits::from_json`] within the default limits.
+///
+/// ```
+/// use kombilad::{Error, JsonError};
+///
+/// assert_eq!(kombilad::from_json(r#"{"bb": 1, "a": [2]}"#)?, b"\xa2\x61a\x81\x02\x62bb\x01");
+/// let ends = Error::Json { error: JsonError::End, offset: 5 };
+/// assert_eq!(kombilad::from_json("[1, 2"), Err(ends));
+/// # Ok::<(), kombilad::Error>(())
+/// ```
+///
+/// # Errors
+///
+/// Those of [`Limits::from_json`].
+pub fn from_json(text: impl AsRef<[u8]>) -> Result<Vec<u8>, Error> {
+    Limits::default().from_json(text)
 }
 
 /// The links of a block, as an iterator that holds them.

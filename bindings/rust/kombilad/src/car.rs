@@ -7,12 +7,12 @@ use std::{error, fmt};
 
 use crate::cid::Cid;
 use crate::error::{CarError, Error};
-use crate::ffi;
+use crate::ffi::{self, CarPart, Place};
 
 /// As many bytes are asked for at once, at least.
 const CHUNK: usize = 1 << 16;
-/// As many bytes as a length has at most.
-const LONGEST_VARINT: usize = 10;
+/// The byte of a CAR of version 2 at which its header places the payload.
+const PLACE_OF_PAYLOAD: usize = 27;
 
 /// Why a CAR can't be read.
 #[derive(Debug)]
@@ -90,12 +90,11 @@ pub struct CarReader<R> {
     /// What was read and not yet taken: from `begin` on.
     window: Vec<u8>,
     begin: usize,
-    /// Where in the file the next section begins.
-    at: usize,
-    /// Where the last one ends, of version 2.
-    end: Option<usize>,
+    /// Whether the reader has ended.
+    ended: bool,
+    /// Where in the file the next section begins, and the last one ends.
+    place: Place,
     done: bool,
-    version: u64,
     roots: Vec<Cid>,
     section_limit: usize,
 }
@@ -117,38 +116,32 @@ impl<R: Read> CarReader<R> {
             reader,
             window: Vec::new(),
             begin: 0,
-            at: 0,
-            end: None,
+            ended: false,
+            place: Place { version: 0, at: 0, end: 0 },
             done: false,
-            version: 0,
             roots: Vec::new(),
             section_limit: Self::SECTION_LIMIT,
         };
+        let most = 2 * Self::HEADER_LIMIT + CHUNK;
         let mut wanted = CHUNK;
-        let (opened, roots) = loop {
-            let all = car.fill(wanted)? < wanted;
-            match ffi::car_open(&car.window, Self::HEADER_LIMIT).map_err(Error::of_car) {
-                Ok(found) => break found,
-                Err(Error::Car {
-                    error: CarError::UnexpectedEnd | CarError::ShortPayload,
-                    offset,
-                }) if !all => {
-                    if wanted > 2 * Self::HEADER_LIMIT {
-                        return Err(Error::Car { error: CarError::TooLong, offset }.into());
-                    }
-                    wanted *= 2;
+        loop {
+            car.fill(wanted)?;
+            let found = ffi::car_open_part(&car.window, car.ended, Self::HEADER_LIMIT);
+            match found.map_err(Error::of_car)? {
+                CarPart::Found((place, roots)) => {
+                    // The header is in memory.
+                    car.begin = place.at as usize;
+                    car.place = place;
+                    car.roots = roots;
+                    return Ok(car);
                 }
-                Err(error) => return Err(error.into()),
+                CarPart::More(_) if car.window.len() >= most => {
+                    let (error, offset) = (CarError::TooLong, PLACE_OF_PAYLOAD);
+                    return Err(Error::Car { error, offset }.into());
+                }
+                CarPart::More(more) => wanted = with(car.window.len(), more).min(most),
             }
-        };
-        // The header is in memory, but the end of a CAR may be past what a `usize` counts.
-        car.begin = opened.sections as usize;
-        car.at = car.begin;
-        let end = usize::try_from(opened.end).unwrap_or(usize::MAX);
-        car.end = (opened.version == 2).then_some(end);
-        car.version = opened.version;
-        car.roots = roots;
-        Ok(car)
+        }
     }
 
     /// The same reader with another limit for how many bytes a section may have.
@@ -160,7 +153,7 @@ impl<R: Read> CarReader<R> {
 
     /// The version, 1 or 2.
     pub fn version(&self) -> u64 {
-        self.version
+        self.place.version
     }
 
     /// The roots.
@@ -186,54 +179,28 @@ impl<R: Read> CarReader<R> {
         let (window, length) = (&self.window[self.begin..], data.end);
         let section = Section { cid: Cid::of_valid(&window[cid]), data: &window[data] };
         self.begin += length;
-        self.at += length;
         Ok(Some(section))
     }
 
     /// The spans of the next section, from the beginning of the window's rest on.
     fn read_section(&mut self) -> Result<Option<(Range<usize>, Range<usize>)>, CarReadError> {
-        let left = self.end.map(|end| end.saturating_sub(self.at));
-        if left == Some(0) {
-            return Ok(None);
-        }
-        let there = self.fill(LONGEST_VARINT)?;
-        let length = length_of(&self.window[self.begin..][..there.min(LONGEST_VARINT)]);
-        if let (Some(length), Some(left)) = (length, left) {
-            if length > left {
-                return self.past_the_payload(there.min(LONGEST_VARINT).min(left));
+        loop {
+            let window = &self.window[self.begin..];
+            let found = ffi::car_next_part(window, self.ended, self.section_limit, &mut self.place);
+            match found.map_err(Error::of_car)? {
+                Some(CarPart::Found(spans)) => return Ok(Some(spans)),
+                Some(CarPart::More(more)) => {
+                    let wanted = with(window.len(), more);
+                    self.fill(wanted)?;
+                }
+                None => return Ok(None),
             }
         }
-        if length > Some(self.section_limit) {
-            return Err(Error::Car { error: CarError::TooLong, offset: self.at }.into());
-        }
-        let length = length.unwrap_or(LONGEST_VARINT);
-        let there = self.fill(length)?;
-        let window = &self.window[self.begin..][..there.min(length)];
-        ffi::car_next(window, 0, left.unwrap_or(window.len()))
-            .map_err(|(status, offset)| Error::of_car((status, self.at + offset)).into())
     }
 
-    /// What is wrong with the length of a section that goes on past the payload; with nothing else
-    /// that is where the payload ends.
-    fn past_the_payload<T>(&self, there: usize) -> Result<T, CarReadError> {
-        let window = &self.window[self.begin..][..there];
-        let error = match ffi::car_next(window, 0, there) {
-            Err((status, offset)) => Error::of_car((status, self.at + offset)),
-            Ok(_) => Error::Car { error: CarError::UnexpectedEnd, offset: 0 },
-        };
-        Err(match (error, self.end) {
-            (Error::Car { error: CarError::UnexpectedEnd, .. }, Some(end)) => {
-                Error::Car { error: CarError::UnexpectedEnd, offset: end }
-            }
-            (error, _) => error,
-        }
-        .into())
-    }
-
-    /// Reads until the window has so many bytes from `begin` on, or the reader ends. How many there
-    /// are.
-    fn fill(&mut self, wanted: usize) -> Result<usize, CarReadError> {
-        while self.window.len() - self.begin < wanted {
+    /// Reads until the window has so many bytes from `begin` on, or the reader ends.
+    fn fill(&mut self, wanted: usize) -> Result<(), CarReadError> {
+        while !self.ended && self.window.len() - self.begin < wanted {
             if self.begin >= CHUNK {
                 self.window.drain(..self.begin);
                 self.begin = 0;
@@ -245,29 +212,18 @@ impl<R: Read> CarReader<R> {
             let found = self.reader.read(&mut self.window[len..]);
             self.window.truncate(len + found.as_ref().map_or(0, |count| *count));
             match found {
-                Ok(0) => break,
+                Ok(0) => self.ended = true,
                 Err(error) if error.kind() != ErrorKind::Interrupted => return Err(error.into()),
                 _ => {}
             }
         }
-        Ok(self.window.len() - self.begin)
+        Ok(())
     }
 }
 
-/// How long a section is, its length included, that begins with these bytes; nothing where they
-/// begin with no length.
-fn length_of(bytes: &[u8]) -> Option<usize> {
-    let mut length = 0u64;
-    for (place, byte) in bytes.iter().enumerate() {
-        length |= u64::from(byte & 127).wrapping_shl(7 * place as u32);
-        if *byte < 128 {
-            return Some(
-                usize::try_from(length)
-                    .map_or(usize::MAX, |length| length.saturating_add(place + 1)),
-            );
-        }
-    }
-    None
+/// So many bytes and more, as far as there can be as many.
+fn with(there: usize, more: u64) -> usize {
+    there.saturating_add(usize::try_from(more).unwrap_or(usize::MAX))
 }
 
 impl<R: Read> FusedIterator for CarReader<R> {}

@@ -114,6 +114,31 @@ pub enum PbError {
     Utf8,
 }
 
+/// Why a text is not DAG-JSON: the first token with an error.
+#[derive(Clone, Copy, Debug, PartialEq, Eq, Hash)]
+#[non_exhaustive]
+pub enum JsonError {
+    /// The text is not UTF-8.
+    Utf8,
+    /// The text is not JSON, or continues after its value.
+    Syntax,
+    /// The text ends before its value does.
+    End,
+    /// A number with a fraction or an exponent is beyond the greatest float of 64 bits.
+    Float,
+    /// An integer is below -2^64 or above 2^64 - 1.
+    IntegerRange,
+    /// An object has the same key twice.
+    DuplicateKey,
+    /// The text of a link is not that of a CID: base58btc for version 0, and base32 after a `b` for
+    /// version 1.
+    Link,
+    /// The text of bytes is not base64 without padding.
+    Bytes,
+    /// An object has the key `/` as links and bytes do, and is neither.
+    Reserved,
+}
+
 /// Why a call fails.
 #[derive(Clone, Copy, Debug, PartialEq, Eq, Hash)]
 #[non_exhaustive]
@@ -160,6 +185,19 @@ pub enum Error {
         /// Why.
         error: PbError,
         /// The byte at which the field begins that is wrong.
+        offset: usize,
+    },
+    /// A text is not DAG-JSON.
+    Json {
+        /// Why.
+        error: JsonError,
+        /// The byte of the text at which the token at fault begins, or its length if it ends too
+        /// early.
+        offset: usize,
+    },
+    /// A map of a block has no DAG-JSON: its text would be read as a link or as bytes.
+    ReservedMap {
+        /// The byte of the block at which the map begins.
         offset: usize,
     },
     /// The hash function of a CID is neither SHA2-256, SHA2-512 nor identity, so that no block can
@@ -307,9 +345,27 @@ impl Error {
         }
     }
 
+    /// The same of a call that reads a text in DAG-JSON.
+    pub(crate) fn of_json((status, offset): (u32, usize)) -> Self {
+        let error = match status {
+            sys::KOMBILAD_JSON_UTF8 => JsonError::Utf8,
+            sys::KOMBILAD_JSON_SYNTAX => JsonError::Syntax,
+            sys::KOMBILAD_JSON_END => JsonError::End,
+            sys::KOMBILAD_JSON_FLOAT => JsonError::Float,
+            sys::KOMBILAD_JSON_INTEGER_RANGE => JsonError::IntegerRange,
+            sys::KOMBILAD_JSON_DUPLICATE_KEY => JsonError::DuplicateKey,
+            sys::KOMBILAD_JSON_LINK => JsonError::Link,
+            sys::KOMBILAD_JSON_BYTES => JsonError::Bytes,
+            sys::KOMBILAD_JSON_RESERVED => JsonError::Reserved,
+            _ => return Error::of_block((status, offset)),
+        };
+        Error::Json { error, offset }
+    }
+
     /// The same of a call that reads a block.
     pub(crate) fn of_block((status, offset): (u32, usize)) -> Self {
         let error = match status {
+            sys::KOMBILAD_JSON_RESERVED_MAP => return Error::ReservedMap { offset },
             sys::KOMBILAD_NO_MEMORY => return Error::OutOfMemory,
             sys::KOMBILAD_TOO_DEEP => return Error::TooDeep { offset },
             sys::KOMBILAD_TOO_MANY => return Error::TooMany { offset },
@@ -442,6 +498,23 @@ impl fmt::Display for PbError {
     }
 }
 
+impl fmt::Display for JsonError {
+    fn fmt(&self, f: &mut fmt::Formatter<'_>) -> fmt::Result {
+        let status = match *self {
+            JsonError::Utf8 => sys::KOMBILAD_JSON_UTF8,
+            JsonError::Syntax => sys::KOMBILAD_JSON_SYNTAX,
+            JsonError::End => sys::KOMBILAD_JSON_END,
+            JsonError::Float => sys::KOMBILAD_JSON_FLOAT,
+            JsonError::IntegerRange => sys::KOMBILAD_JSON_INTEGER_RANGE,
+            JsonError::DuplicateKey => sys::KOMBILAD_JSON_DUPLICATE_KEY,
+            JsonError::Link => sys::KOMBILAD_JSON_LINK,
+            JsonError::Bytes => sys::KOMBILAD_JSON_BYTES,
+            JsonError::Reserved => sys::KOMBILAD_JSON_RESERVED,
+        };
+        write_status(f, status)
+    }
+}
+
 impl fmt::Display for Error {
     fn fmt(&self, f: &mut fmt::Formatter<'_>) -> fmt::Result {
         let (status, offset) = match *self {
@@ -455,6 +528,8 @@ impl fmt::Display for Error {
             Error::Block { error, offset } => return write!(f, "{error}, at byte {offset}"),
             Error::Car { error, offset } => return write!(f, "{error}, at byte {offset}"),
             Error::Pb { error, offset } => return write!(f, "{error}, at byte {offset}"),
+            Error::Json { error, offset } => return write!(f, "{error}, at byte {offset}"),
+            Error::ReservedMap { offset } => (sys::KOMBILAD_JSON_RESERVED_MAP, Some(offset)),
             Error::UnknownHash => (sys::KOMBILAD_UNKNOWN_HASH, None),
             Error::WrongDigest => (sys::KOMBILAD_WRONG_DIGEST, None),
             Error::Other(status) => return write!(f, "the status {status} of libkombilad"),
@@ -502,4 +577,5 @@ impl error::Error for CidError {}
 impl error::Error for TextError {}
 impl error::Error for BlockError {}
 impl error::Error for PbError {}
+impl error::Error for JsonError {}
 impl error::Error for Error {}

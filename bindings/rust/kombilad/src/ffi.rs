@@ -15,7 +15,7 @@ use crate::cid::Cid;
 use crate::room::Entries;
 
 pub(crate) use kombilad_sys::{
-    kombilad_car as Opened, kombilad_cid as CidBytes, kombilad_cid_parts as CidParts,
+    kombilad_car_place as Place, kombilad_cid as CidBytes, kombilad_cid_parts as CidParts,
     kombilad_entry as Entry,
 };
 
@@ -219,6 +219,43 @@ impl Block<'_> {
             )
         })
     }
+
+    /// The block as DAG-JSON.
+    pub(crate) fn to_json(self) -> Result<String, Stopped> {
+        let capacity = self.bytes.len().saturating_mul(2).saturating_add(SPARE_TEXT);
+        let text = filled(capacity, |text, capacity, needed, offset| unsafe {
+            sys::kombilad_block_to_json(
+                self.bytes.as_ptr(),
+                self.bytes.len(),
+                self.levels,
+                self.values,
+                text,
+                capacity,
+                needed,
+                offset,
+            )
+        })?;
+        // SAFETY: the text is UTF-8, and the call has written these bytes.
+        Ok(unsafe { String::from_utf8_unchecked(text) })
+    }
+
+    /// The block of these bytes, if they are a text in DAG-JSON.
+    pub(crate) fn of_json(self) -> Result<Vec<u8>, Stopped> {
+        // Only a float, or a string with a long head, takes more bytes than its text.
+        let capacity = self.bytes.len().saturating_add(SPARE_TEXT);
+        filled(capacity, |out, capacity, needed, offset| unsafe {
+            sys::kombilad_block_of_json(
+                self.bytes.as_ptr(),
+                self.bytes.len(),
+                self.levels,
+                self.values,
+                out,
+                capacity,
+                needed,
+                offset,
+            )
+        })
+    }
 }
 
 /// The canonical block of the value that entries describe, over the data to which they refer; or
@@ -238,56 +275,82 @@ pub(crate) fn encode(entries: &[Entry], data: &[u8], size: usize) -> Result<Vec<
     })
 }
 
-/// What stands before the sections of a CAR, and its roots. A `Cid` is laid out as the record that
-/// it holds.
-pub(crate) fn car_open(car: &[u8], limit: usize) -> Result<(Opened, Vec<Cid>), Stopped> {
-    let opened = Cell::new(Opened { version: 0, sections: 0, end: 0 });
-    let roots = filled(1, |roots: *mut Cid, capacity, needed, offset| unsafe {
-        sys::kombilad_car_open(
-            car.as_ptr(),
-            car.len(),
+/// What a call finds in the bytes of a CAR that are at hand.
+pub(crate) enum CarPart<T> {
+    Found(T),
+    /// It needs at least so many bytes more.
+    More(u64),
+}
+
+/// The place of the first section of a CAR that begins with these bytes, and its roots. They are
+/// all of it if `is_all`. A `Cid` is laid out as the record that it holds.
+pub(crate) fn car_open_part(
+    bytes: &[u8],
+    is_all: bool,
+    limit: usize,
+) -> Result<CarPart<(Place, Vec<Cid>)>, Stopped> {
+    let place = Cell::new(Place { version: 0, at: 0, end: 0 });
+    let (more, offset) = (Cell::new(0), Cell::new(0));
+    let roots = filled(1, |roots: *mut Cid, capacity, needed, _| unsafe {
+        sys::kombilad_car_open_part(
+            bytes.as_ptr(),
+            bytes.len(),
+            u32::from(is_all),
             limit,
-            opened.as_ptr(),
+            place.as_ptr(),
             roots.cast(),
             capacity,
             needed,
-            offset,
+            more.as_ptr(),
+            offset.as_ptr(),
         )
-    })?;
-    Ok((opened.get(), roots))
+    });
+    match roots {
+        Ok(roots) => Ok(CarPart::Found((place.get(), roots))),
+        Err((sys::KOMBILAD_CAR_MORE, _)) => Ok(CarPart::More(more.get())),
+        Err((status, _)) => Err((status, offset.get() as usize)),
+    }
 }
 
-/// Returns where the CID and the data of the section that begins at a byte are. The sections go on
-/// to `end`. If there is no other section, returns `None`.
-pub(crate) fn car_next(
-    car: &[u8],
-    at: usize,
-    end: usize,
-) -> Result<Option<(Range<usize>, Range<usize>)>, Stopped> {
-    let (mut cid, mut data, mut next, mut offset) =
-        (Span { offset: 0, len: 0 }, Span { offset: 0, len: 0 }, 0, 0);
+/// Returns where in the bytes the CID and the data of the section are that begins with them, which
+/// is at this place of a CAR, and moves the place to the next one. The CAR ends with the bytes if
+/// `is_all`. If there is no other section, returns `None`.
+pub(crate) fn car_next_part(
+    bytes: &[u8],
+    is_all: bool,
+    limit: usize,
+    place: &mut Place,
+) -> Result<Option<CarPart<(Range<usize>, Range<usize>)>>, Stopped> {
+    let (mut cid, mut data) = (Span { offset: 0, len: 0 }, Span { offset: 0, len: 0 });
+    let (mut more, mut offset) = (0, 0);
     let status = unsafe {
-        sys::kombilad_car_next(
-            car.as_ptr(),
-            car.len(),
-            at,
-            end,
+        sys::kombilad_car_next_part(
+            bytes.as_ptr(),
+            bytes.len(),
+            u32::from(is_all),
+            limit,
+            place,
             &mut cid,
             &mut data,
-            &mut next,
+            &mut more,
             &mut offset,
         )
     };
     match status {
-        sys::KOMBILAD_OK => Ok(Some((range(cid), range(data)))),
+        sys::KOMBILAD_OK => Ok(Some(CarPart::Found((range(cid), range(data))))),
         sys::KOMBILAD_CAR_DONE => Ok(None),
-        status => Err((status, offset)),
+        sys::KOMBILAD_CAR_MORE => Ok(Some(CarPart::More(more))),
+        status => Err((status, offset as usize)),
     }
 }
 
 pub(crate) fn verify(cid: &[u8], block: &[u8]) -> Result<(), u32> {
     done(unsafe { sys::kombilad_verify(cid.as_ptr(), cid.len(), block.as_ptr(), block.len()) })
 }
+
+/// The text of a block in DAG-JSON takes at most twice as many bytes as the block, as a rule, and so
+/// many more.
+const SPARE_TEXT: usize = 64;
 
 /// Room for so many entries is made at once.
 const SMALL_TAPE: usize = 2048;

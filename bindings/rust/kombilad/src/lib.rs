@@ -12,7 +12,7 @@
 //!
 //! [`Cid`] is a CID with a digest of at most 64 bytes. [`links`] finds every link of a block,
 //! [`check`] says whether bytes are a block, and [`canonicalize`] rewrites one with its keys in
-//! order.
+//! order. [`to_json`] writes the DAG-JSON of a block, and [`from_json`] the block of a text.
 //!
 //! A [`Tape`] has the values of a block where they stand, an [`Ipld`] has them as a tree, and with
 //! the feature `serde`, which is a default, `from_slice` and `to_vec` read and write types of
@@ -43,7 +43,8 @@ mod tape;
 mod write;
 
 pub use block::{
-    canonicalize, check, count_links, is_canonical, link_positions, links, Limits, Links,
+    canonicalize, check, count_links, from_json, is_canonical, link_positions, links, to_json,
+    Limits, Links,
 };
 pub use car::{CarReadError, CarReader, Section};
 pub use car_writer::CarWriter;
@@ -52,7 +53,9 @@ pub use cid::{Base, Cid, Version};
 pub use de::{from_slice, SERDE_LEVELS};
 #[cfg(feature = "serde")]
 pub use error::DecodeError;
-pub use error::{BlockError, CarError, CidError, EncodeError, Error, PbError, TextError};
+pub use error::{
+    BlockError, CarError, CidError, EncodeError, Error, JsonError, PbError, TextError,
+};
 pub use ipld::Ipld;
 pub use pb::{PbLink, PbNode};
 #[cfg(feature = "serde")]

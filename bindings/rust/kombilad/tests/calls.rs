@@ -4,7 +4,9 @@
 use std::collections::{BTreeSet, HashSet};
 use std::thread;
 
-use kombilad::{Base, BlockError, Cid, CidError, Error, Limits, Links, TextError, Version};
+use kombilad::{
+    Base, BlockError, Cid, CidError, Error, JsonError, Limits, Links, TextError, Version,
+};
 
 const EMPTY_MAP: &str = "bafyreigbtj4x7ip5legnfznufuopl4sg4knzc2cof6duas4b3q2fy6swua";
 const VERSION_0: &str = "QmdfTbBqBPQ7VNxZEYEj14VmRuZBkqFbiwReogJgS1zR1n";
@@ -233,6 +235,59 @@ fn blocks_are_rewritten() {
     let float = b"\xa2\x61b\xfb\x80\0\0\0\0\0\0\0\x61a\xfb\x3f\xf0\0\0\0\0\0\0";
     let ordered = b"\xa2\x61a\xfb\x3f\xf0\0\0\0\0\0\0\x61b\xfb\x80\0\0\0\0\0\0\0";
     assert_eq!(kombilad::canonicalize(float).as_deref(), Ok(&ordered[..]));
+}
+
+#[test]
+fn blocks_are_json() {
+    let link = b"\x83\xd8\x2a\x45\0\x01\x55\0\0\x80\xa0";
+    let map = b"\xa2\x61b\xa1\x61/\x02\x62aa\x01";
+    let same: [(&str, &[u8]); 7] = [
+        ("null", b"\xf6"),
+        ("18446744073709551615", b"\x1b\xff\xff\xff\xff\xff\xff\xff\xff"),
+        ("-0.0", b"\xfb\x80\0\0\0\0\0\0\0"),
+        (r#""\"é\u001f""#, b"\x64\x22\xc3\xa9\x1f"),
+        (r#"{"/":{"bytes":"aGk"}}"#, b"\x42hi"),
+        (r#"[{"/":"bafkqaaa"},[],{}]"#, link),
+        (r#"{"aa":1,"b":{"/":2}}"#, map),
+    ];
+    for (text, block) in same {
+        assert_eq!(kombilad::to_json(block).as_deref(), Ok(text));
+        assert_eq!(kombilad::from_json(text).as_deref(), Ok(block));
+        assert_eq!(kombilad::from_json(format!(" {text}\n")).as_deref(), Ok(block));
+    }
+    let unordered = b"\xa2\x62aa\x01\x61b\x02";
+    assert_eq!(kombilad::to_json(unordered).as_deref(), Ok(r#"{"aa":1,"b":2}"#));
+    // More bytes than there is room for at first.
+    let escaped = [&b"\x7a\0\x01\x86\xa0"[..], &[1; 100_000]].concat();
+    let text = format!(r#""{}""#, r"\u0001".repeat(100_000));
+    assert_eq!(kombilad::to_json(&escaped).as_ref(), Ok(&text));
+    let floats = format!("[{}1.5]", "1.5,".repeat(9999));
+    assert_eq!(kombilad::from_json(floats).map(|block| block.len()), Ok(90_003));
+    let wrong: [(&[u8], JsonError, usize); 9] = [
+        (b"\"\xff\"", JsonError::Utf8, 1),
+        (b"[1,]", JsonError::Syntax, 3),
+        (b"", JsonError::End, 0),
+        (b"1e400", JsonError::Float, 0),
+        (b" 18446744073709551616", JsonError::IntegerRange, 1),
+        (br#"{"a":1,"\u0061":2}"#, JsonError::DuplicateKey, 7),
+        (br#"{"/":"bafkqaa"}"#, JsonError::Link, 14),
+        (br#"{"/":{"bytes":"="}}"#, JsonError::Bytes, 18),
+        (br#"{"/":"bafkqaaa","0":1}"#, JsonError::Reserved, 21),
+    ];
+    for (text, error, offset) in wrong {
+        assert_eq!(kombilad::from_json(text), Err(Error::Json { error, offset }));
+    }
+    let reserved = b"\x82\0\xa1\x61/\x61a";
+    assert_eq!(kombilad::to_json(reserved), Err(Error::ReservedMap { offset: 2 }));
+    let sentence = "a map would be read as a link or as bytes in DAG-JSON, at byte 2";
+    assert_eq!(Error::ReservedMap { offset: 2 }.to_string(), sentence);
+    let cut = Error::Json { error: JsonError::End, offset: 1 };
+    assert_eq!(cut.to_string(), "the text ends before its value does, at byte 1");
+    let flat = Limits { levels: 1, ..Limits::default() };
+    assert_eq!(flat.from_json("[[]]"), Err(Error::TooDeep { offset: 1 }));
+    assert_eq!(flat.to_json(b"\x81\x80"), Err(Error::TooDeep { offset: 1 }));
+    let few = Limits { values: 2, ..Limits::default() };
+    assert_eq!(few.from_json(r#"[{"/":"bafkqaaa"}]"#), Err(Error::TooMany { offset: 6 }));
 }
 
 #[test]

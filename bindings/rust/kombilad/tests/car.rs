@@ -95,7 +95,9 @@ fn version_2_has_a_payload() {
         1 << 40,
         b"",
     );
-    assert_eq!(error(&huge[..]), (CarError::UnexpectedEnd, 51 + (1 << 40)));
+    assert_eq!(error(&huge[..]), (CarError::TooLong, 51 + written(&[], &[]).len()));
+    let padded = version_2(&payload, 17 << 20, payload.len(), b"");
+    assert_eq!(error(&padded[..]), (CarError::TooLong, 27));
 }
 
 #[test]
@@ -164,4 +166,64 @@ fn blocks_are_verified() {
     }
     let unknown = Cid::try_from(&b"\x01\x55\x11\x02hi"[..]).unwrap();
     assert_eq!(unknown.verify(b"hi"), Err(Error::UnknownHash));
+}
+
+fn from_hex(text: &str) -> Vec<u8> {
+    (0..text.len() / 2)
+        .map(|at| u8::from_str_radix(&text[2 * at..2 * at + 2], 16).unwrap())
+        .collect()
+}
+
+/// The strings of a part of a line of JSON, which has no escapes.
+fn strings(part: &str) -> Vec<Vec<u8>> {
+    part.split('"').skip(1).step_by(2).map(from_hex).collect()
+}
+
+/// The letters of a name, in lower case.
+fn letters(name: &str) -> String {
+    name.chars().filter(|letter| letter.is_alphanumeric()).collect::<String>().to_lowercase()
+}
+
+/// `bindings/test/car_cases.py` wrote the file that CARS names.
+#[test]
+fn random_cars_are_read_as_the_plain_reader_reads_them() {
+    let file = match std::env::var_os("CARS") {
+        Some(path) => std::fs::read_to_string(path).unwrap(),
+        None => return,
+    };
+    for line in file.lines() {
+        let (car, rest) = line[2..].split_once("\",").unwrap();
+        let (head, rest) = match rest.strip_prefix("null,") {
+            Some(rest) => (None, rest),
+            None => rest.split_once("]],").map(|(head, rest)| (Some(head), rest)).unwrap(),
+        };
+        let (sections, failed) = rest.rsplit_once("],").unwrap();
+        let car = from_hex(car);
+        let (mut version, mut roots, mut found, mut why) = (None, Vec::new(), Vec::new(), None);
+        match CarReader::new(Trickle(&car, car.len())) {
+            Ok(mut reader) => {
+                version = Some(reader.version().to_string());
+                roots = reader.roots().iter().map(|cid| cid.as_bytes().to_vec()).collect();
+                for section in reader.by_ref() {
+                    match section {
+                        Ok((cid, block)) => found.extend([cid.as_bytes().to_vec(), block]),
+                        Err(error) => why = Some(error),
+                    }
+                }
+            }
+            Err(error) => why = Some(error),
+        }
+        assert_eq!(version.as_deref(), head.map(|head| &head[1..2]), "{line}");
+        assert_eq!(roots, strings(head.unwrap_or_default()), "{line}");
+        assert_eq!(found, strings(sections), "{line}");
+        let name = failed.split('"').nth(1);
+        assert_eq!(why.is_some(), name.is_some(), "{line}");
+        if let (Some(why), Some(name)) = (why, name) {
+            let (_, name) = name.split_once('_').unwrap();
+            let offset = failed.rsplit_once(',').unwrap().1.trim_end_matches(']');
+            let told = format!("{why:?}");
+            assert!(letters(&told).contains(&letters(name)), "{line}: {told}");
+            assert!(told.contains(&format!("offset: {offset} }}")), "{line}: {told}");
+        }
+    }
 }

@@ -2,7 +2,7 @@ use Rattle.std.proofs.Common.{◌≡◌, ◌≤◌, length}
 use Rattle.ipld_cid.specs.LinkOf.{link_of}
 use Rattle.kombilad_c.specs.CidRecord.{record_of}
 use Rattle.kombilad_c.proofs.Listing.{filled}
-use Rattle.kombilad_c.proofs.car_open.fill_roots.Given as goal
+use Rattle.kombilad_c.proofs.car_open_part.fill_roots.Given as goal
 
 abbrev pub invariant-loop-at : goal.invariant-loop-at
 invariant-loop-at l = record {

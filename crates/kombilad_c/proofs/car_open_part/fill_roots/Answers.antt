@@ -3,7 +3,7 @@ use Rattle.ipld_cid.specs.LinkOf.{link_of}
 use Rattle.kombilad_c.specs.declared.cid_record.CidBytes.{CidBytes}
 use Rattle.kombilad_c.specs.CidRecord.{record_of}
 use Rattle.kombilad_c.proofs.Listing.{filled_next}
-use Rattle.kombilad_c.proofs.car_open.fill_roots.Goals as goal
+use Rattle.kombilad_c.proofs.car_open_part.fill_roots.Goals as goal
 
 pub loop-at-preserved : goal.loop-at-preserved
 loop-at-preserved c = record {
