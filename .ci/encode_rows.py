@@ -94,21 +94,21 @@ def bytes_in(value):
 
 # What is none, the line and the column at which it isn't, the byte, and what is wrong.
 JSON, END, FLOAT = (
-    "the text is no JSON",
-    "the text ends before its value does",
-    "the number is a float",
+    "not valid JSON",
+    "unexpected end of the text",
+    "a float (only --codec dag-cbor allows floats)",
 )
 GREAT, WIDE = (
-    "the number is beyond the floats of 64 bits",
+    "the number is too large for a 64-bit float",
     "the integer is below -2^64 or above 2^64 - 1",
 )
 LINK, BYTES = (
-    "the text of the link is no CID of DAG-JSON",
-    "the text of the bytes is no base64 without padding",
+    "invalid link: not a CID in base32 (version 1) or base58btc (version 0)",
+    "invalid bytes: not base64 without padding",
 )
 RESERVED, KEY = (
-    "the object is reserved for links and bytes, and is neither",
-    "the object has the key already",
+    'DAG-JSON reserves this object: it must be {"/":"CID"} or {"/":{"bytes":".."}}',
+    "duplicate key",
 )
 BAD = [
     ("empty", b"", 1, 1, 0, END),
@@ -133,6 +133,9 @@ BAD = [
     ("wide", b"[18446744073709551616]", 1, 2, 1, WIDE),
     ("wide_below", b"[-18446744073709551617]", 1, 2, 1, WIDE),
     ("twice_float", b'{"a":1.5,\n "\\u0061":2}', 2, 2, 11, KEY),
+    ("twice_plain", b'{"a":1, "a":2}', 1, 9, 8, f'{KEY} "a"'),
+    ("twice_long", b'{"%b":1,"%b":2}' % (64 * b"a", 64 * b"a"), 1, 71, 70, f'{KEY} "{64 * "a"}"'),
+    ("twice_longer", b'{"%b":1,"%b":2}' % (65 * b"a", 65 * b"a"), 1, 72, 71, KEY),
     ("float_in_link", b'{"/":{"bytes":1.5},"a":{"/":"x","b":0.5}}', 1, 40, 39, RESERVED),
     ("twice", b'{"a":1,\n "\\u0061":2}', 2, 2, 9, KEY),
     ("no_cid", b'{"/":"bafk"}', 1, 12, 11, LINK),
@@ -141,8 +144,8 @@ BAD = [
     ("bits", b'{"/":{"bytes":"aGl"}}', 1, 21, 20, BYTES),
     ("more", b'{"/":"x","a":1}', 1, 15, 14, RESERVED),
     ("more_bytes", b'{"/":{"bytes":"","c":1}}', 1, 24, 23, RESERVED),
-    ("deep", b"[" * 1025, 1, 1025, 1024, "arrays and objects nest deeper than the limit"),
-    ("latin", b'["\xe9"]', 1, 3, 2, "the bytes are not UTF-8"),
+    ("deep", b"[" * 1025, 1, 1025, 1024, "arrays and objects nest deeper than 1024 levels"),
+    ("latin", b'["\xe9"]', 1, 3, 2, "the text is not valid UTF-8"),
 ]
 
 
@@ -185,7 +188,7 @@ def rows(links, link, text_of, cbor, read):
     yield ["encode", "-c", "raw", "bytes.json"], (read(b"\xfb\xff\xbf"), "", DONE)
     yield ["encode", "-c", "raw", "value.json"], (
         "",
-        "ipld: value.json: the value is no bytes, and only bytes are a block of raw\n",
+        'ipld: value.json: --codec raw requires a value that is bytes: {"/":{"bytes":".."}}\n',
         NOT_SO,
     )
     yield ["encode", "floats.json"], (read(cbor(bytes_in(json.loads(TYPED_FLOATS)))), "", DONE)
@@ -197,14 +200,14 @@ def rows(links, link, text_of, cbor, read):
     for codec in ("dag-json", "raw"):
         yield ["encode", "-c", codec, "float.json"], (
             "",
-            f"ipld: float.json: line 2, column 2: {FLOAT} at byte 7\n",
+            f"ipld: float.json: line 2, column 2 (byte 7): {FLOAT}\n",
             NOT_SO,
         )
     yield ["encode", "-c", "dag-json", "wide.json"], ("[18446744073709551616]", "", DONE)
-    bits = "ipld: too_wide.json: line 1, column 2: the integer has more than 128 bits at byte 1\n"
+    bits = "ipld: too_wide.json: line 1, column 2 (byte 1): the integer is below -2^127 or above 2^127 - 1\n"
     yield ["encode", "-c", "dag-json", "too_wide.json"], ("", bits, NOT_SO)
     yield ["encode", "level.json"], (read(b"\x81" * 1023 + b"\x80"), "", DONE)
-    canonical = "the text is not the canonical one at byte"
+    canonical = "not canonical DAG-JSON (without --canonical, it is read)"
     for name, column, byte in (
         ("unsorted", 3, 2),
         ("line", 4, 3),
@@ -212,12 +215,12 @@ def rows(links, link, text_of, cbor, read):
         ("long", 5, 4),
         ("hundred", 3, 2),
     ):
-        why = f"ipld: {name}.json: line 1, column {column}: {canonical} {byte}\n"
+        why = f"ipld: {name}.json: line 1, column {column} (byte {byte}): {canonical}\n"
         yield ["encode", "--canonical", f"{name}.json"], ("", why, NOT_SO)
     for name, _, line, column, byte, why in BAD:
         yield ["encode", f"{name}.json"], (
             "",
-            f"ipld: {name}.json: line {line}, column {column}: {why} at byte {byte}\n",
+            f"ipld: {name}.json: line {line}, column {column} (byte {byte}): {why}\n",
             NOT_SO,
         )
     yield ["encode", "no-such"], ("", re.compile("ipld: no-such: .*\n"), FAILED)
@@ -236,8 +239,8 @@ def outputs(folder, wrote, links, link, text_of, cbor):
     (room / "value.json").write_bytes(text)
     (room / "none.json").write_bytes(b"[1")
     exists = "ipld: new: the file exists; --force replaces it\n"
-    is_input = "ipld: value.json: the output is one of the files that are read\n"
-    none = "ipld: none.json: line 1, column 3: the text ends before its value does at byte 2\n"
+    is_input = "ipld: value.json: the output is also an input; choose another name\n"
+    none = "ipld: none.json: line 1, column 3 (byte 2): unexpected end of the text\n"
     for arguments, expected, new in [
         (["-o", "new", "none.json"], ("", none, NOT_SO), None),
         (["-o", "new", "value.json"], ("", "", DONE), block),
