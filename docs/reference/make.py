@@ -6,9 +6,11 @@ The pages go to the folder `out/doc` of the repository, or to FOLDER, whose page
 are replaced. They can be read from there without a server. A library has two pages: its public
 items, each with its comment, its signature, its clauses and the definitions that these use; and the
 definitions, file by file, each with its comment. The toolchain's definitions, which have no file
-here, have a page as well, made of the table of `docs/DEFINITIONS.md`.
+here, have a page as well, made of the table of `docs/DEFINITIONS.md`. Another page has all errors,
+with what to do (`errors.py`).
 
-It fails if a public item has no comment, and if a link leads nowhere: a link from page to page, or
+It fails if a public item or a status of the C library has no comment, if `errors.json` lacks a
+status or names an error that isn't there, and if a link leads nowhere: a link from page to page, or
 one in a comment to an item, as [`Cid`]. The status is then 1, after a line for each, and otherwise
 0.
 """
@@ -26,7 +28,8 @@ sys.dont_write_bytecode = True
 HERE = pathlib.Path(__file__).resolve().parent
 sys.path.insert(0, str(HERE.parent.parent / ".ci"))
 from built import NotBuilt, kit  # noqa: E402
-from markup import Markup  # noqa: E402
+from errors import PAGE as ERRORS, Errors  # noqa: E402
+from markup import Markup, code, escape, link, table  # noqa: E402
 from sources import (  # noqa: E402
     CITED,
     CRATES,
@@ -62,24 +65,6 @@ PRIMITIVES = set(
 LONGEST_VALUE = 120
 # Makes HTML of what links to no item.
 plain = Markup(None)
-
-
-def escape(text):
-    return html.escape(text, quote=False)
-
-
-def code(text):
-    return f"<code>{escape(text)}</code>"
-
-
-def link(to, shown):
-    return f'<a href="{html.escape(to)}">{shown}</a>'
-
-
-def table(heads, rows):
-    """Returns a table of HTML, of rows of cells."""
-    lines = [f"<tr>{''.join(f'<td>{it}' for it in row)}</tr>" for row in rows]
-    return f"<table><tr>{''.join(f'<th>{it}' for it in heads)}</tr>{''.join(lines)}</table>"
 
 
 def kind_of(head):
@@ -120,6 +105,7 @@ class Reference:
         for library in self.libraries:
             self.gather(library)
         self.others = None
+        self.errors_page = Errors(self)
 
     # What there is
 
@@ -400,11 +386,14 @@ class Reference:
             more = f" ({link(f'{crate}.definitions.html', 'definitions')})" if specs(crate) else ""
             rows.append((link(f"{crate}.html", code(crate)), said + more))
         yield table(["library", "what it has"], rows)
+        yield f"<p>{link(ERRORS, 'All errors')}, with what they mean and what to do.</p>"
         yield f"<p>{link(f'{STANDARD}.html', 'Definitions of the toolchain')}.</p>"
 
-    def contents(self, crate):
+    def contents(self, crate, name):
         """Yields the lists beside a page."""
-        lists = [[link("index.html", "All libraries")]]
+        lists = [[link("index.html", "All libraries"), link(ERRORS, "All errors")]]
+        if name == ERRORS:
+            lists.append(self.errors_page.contents())
         if crate:
             page = f"{crate}.html"
             items = (link(f"{page}#{it.anchor}", code(it.anchor)) for it in self.entries[crate])
@@ -418,23 +407,28 @@ class Reference:
     def put(self, name, title, crate, lines):
         """Adds a page."""
         self.pages[name] = self.template.substitute(
-            title=escape(title), contents="".join(self.contents(crate)), content="\n".join(lines)
+            title=escape(title),
+            contents="".join(self.contents(crate, name)),
+            content="\n".join(lines),
         )
 
     def index(self):
         """Yields what the search finds: the path, the kind, the link and a sentence of each."""
         for crate, entries in self.entries.items():
             for entry in [each for one in entries for each in (one, *one.members)]:
-                yield entry.path, entry.kind, entry.href, Markup.plain(entry.item.sentence)
+                if entry not in self.errors_page.variants:
+                    yield entry.path, entry.kind, entry.href, Markup.plain(entry.item.sentence)
             for path in specs(crate):
                 for word, said in self.definitions_of(crate, path.stem).items():
                     to = self.word(crate, path.stem, word)
                     yield f"{crate}::{word}", "definition", to, Markup.plain(said)
+        yield from self.errors_page.index()
 
     def make(self):
         """Makes all pages, and finds what is wrong with them."""
         self.put("index.html", "Kombilad", None, self.front())
         self.put(f"{STANDARD}.html", "Definitions of the toolchain", None, self.standard())
+        self.put(ERRORS, "Errors", None, self.errors_page.content())
         for library in self.libraries:
             crate = library.crate
             self.put(f"{crate}.html", crate, crate, self.items(library))

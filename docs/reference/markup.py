@@ -13,6 +13,20 @@ def escape(text):
     return html.escape(text, quote=False)
 
 
+def code(text):
+    return f"<code>{escape(text)}</code>"
+
+
+def link(to, shown):
+    return f'<a href="{html.escape(to)}">{shown}</a>'
+
+
+def table(heads, rows):
+    """Returns a table of HTML, of rows of cells."""
+    lines = [f"<tr>{''.join(f'<td>{it}' for it in row)}</tr>" for row in rows]
+    return f"<table><tr>{''.join(f'<th>{it}' for it in heads)}</tr>{''.join(lines)}</table>"
+
+
 class Markup:
     """
     Makes HTML of paragraphs, lists, tables, headings and code. `link` returns the link to an item
