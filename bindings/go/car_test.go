@@ -180,7 +180,7 @@ func TestCarErrors(t *testing.T) {
 	same(t, "OpenCar", errors.Is(err, io.ErrNoProgress), true)
 	for cut := 59; cut < len(car); cut++ {
 		source := func() io.Reader { return io.MultiReader(bytes.NewReader(car[:cut]), iotest.ErrReader(broken)) }
-		once := io.MultiReader(bytes.NewReader(car[:cut]), &brokenOnce{broken}, bytes.NewReader(car[cut:]))
+		once := io.MultiReader(&brokenOnce{car[:cut], broken}, bytes.NewReader(car[cut:]))
 		for _, source := range []io.Reader{source(), iotest.DataErrReader(source()), once} {
 			r, err := OpenCar(source)
 			same(t, "OpenCar", err, nil)
@@ -272,13 +272,19 @@ func TestALengthTakesNoMemory(t *testing.T) {
 	}
 }
 
-// brokenOnce is a reader that returns its error once.
-type brokenOnce struct{ err error }
+// brokenOnce is a reader that returns its error once, with its last bytes.
+type brokenOnce struct {
+	bytes []byte
+	err   error
+}
 
-func (b *brokenOnce) Read([]byte) (int, error) {
-	err := b.err
-	b.err = io.EOF
-	return 0, err
+func (b *brokenOnce) Read(to []byte) (count int, err error) {
+	count = copy(to, b.bytes)
+	b.bytes = b.bytes[count:]
+	if len(b.bytes) == 0 {
+		err, b.err = b.err, io.EOF
+	}
+	return count, err
 }
 
 // stuck is a reader that reads nothing and has no error.
