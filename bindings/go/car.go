@@ -39,6 +39,9 @@ type CarReader struct {
 // carChunk is the number of bytes of the chunk.
 const carChunk = 64 << 10
 
+// placeOfPayload is the byte of a CAR of version 2 at which its header places the payload.
+const placeOfPayload = 27
+
 // OpenCar reads the header of a CAR. The reader needs no buffer.
 //
 // It fails with an ErrCar status, or with an ErrBlock, an ErrLink or a limit's status if the header
@@ -81,7 +84,7 @@ func (r *CarReader) open(limit int) error {
 		case found.status != statusMore:
 			return failed(found.outcome)
 		case len(r.bytes) >= most:
-			return failed(outcome{status: ErrCarTooLong})
+			return failed(outcome{status: ErrCarTooLong, offset: placeOfPayload})
 		}
 		if err := r.fill(found.more, most); err != nil {
 			return err

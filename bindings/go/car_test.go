@@ -202,7 +202,7 @@ func TestCarErrors(t *testing.T) {
 	_, err = CarOptions{MaxHeader: 20}.OpenCar(bytes.NewReader(car))
 	sameError(t, "OpenCar", err, ErrCarTooLong, 0)
 	_, err = CarOptions{MaxHeader: 100}.OpenCar(bytes.NewReader(version2Of(car, 1_000_000, "")))
-	sameError(t, "OpenCar", err, ErrCarTooLong, 0)
+	sameError(t, "OpenCar", err, ErrCarTooLong, placeOfPayload)
 
 	for _, options := range []CarOptions{{MaxHeader: -1}, {MaxHeader: math.MaxInt, MaxSection: -1}} {
 		r, err := options.OpenCar(bytes.NewReader(car))
