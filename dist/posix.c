@@ -20,6 +20,7 @@
 #define _FILE_OFFSET_BITS 64
 #define _TIME_BITS 64
 
+#include <dirent.h>
 #include <errno.h>
 #include <fcntl.h>
 #include <limits.h>
@@ -111,6 +112,8 @@ uint64_t host_arg(uint64_t number, uint8_t *to, uint64_t size) {
     return length <= size ? length : FAILED - 1;
 }
 
+uint32_t host_getpid(void) { return (uint32_t)getpid(); }
+
 /* Ignores SIGPIPE, which is all that is asked of it. */
 uint64_t host_signal(uint32_t number, uint64_t handler) {
     if (number == 13 && handler == 1) return signal(SIGPIPE, SIG_IGN) == SIG_ERR ? FAILED : 0;
@@ -158,7 +161,21 @@ uint32_t host_open(uint8_t *path, uint32_t flags, uint32_t mode) {
     return (uint32_t)open((const char *)path, here, (mode_t)mode);
 }
 
-uint32_t host_close(uint32_t file) { return (uint32_t)close((int)file); }
+/* The folder whose entries are read, its number, and the entry that comes next, if it was read. */
+static DIR *folder_read;
+static uint32_t number_read;
+static struct dirent *entry_read;
+
+static void end_folder(void) {
+    if (folder_read) closedir(folder_read);
+    folder_read = NULL;
+    entry_read = NULL;
+}
+
+uint32_t host_close(uint32_t file) {
+    if (folder_read && number_read == file) end_folder();
+    return (uint32_t)close((int)file);
+}
 
 uint64_t host_read(uint32_t file, uint8_t *to, uint64_t size) {
     return (uint64_t)read((int)file, to, at_most(size));
@@ -189,6 +206,60 @@ uint32_t host_fsync(uint32_t file) { return (uint32_t)fsync((int)file); }
 uint32_t host_fdatasync(uint32_t file) { return (uint32_t)fdatasync((int)file); }
 
 uint32_t host_flock(uint32_t file, uint32_t lock) { return (uint32_t)flock((int)file, (int)lock); }
+
+/* ---- Folders */
+
+/* -100 is the working directory. A link at the end of the path is not followed. */
+uint32_t host_open_dir_at(uint32_t from, uint8_t *path) {
+    return (uint32_t)openat(from == (uint32_t)-100 ? AT_FDCWD : (int)from, (const char *)path,
+                            O_RDONLY | O_DIRECTORY | O_NOFOLLOW | O_CLOEXEC);
+}
+
+static uint32_t begin_folder(uint32_t file) {
+    int copy, error;
+    end_folder();
+    copy = dup((int)file);
+    if (copy < 0) return 0;
+    folder_read = fdopendir(copy);
+    number_read = file;
+    if (folder_read) return 1;
+    error = errno;
+    close(copy);
+    errno = error;
+    return 0;
+}
+
+/* Writes the next entries as Linux's `struct linux_dirent64`, without their types and offsets. Returns
+ * how many bytes they have, 0 at the end, or -1. */
+uint64_t host_getdents64(uint32_t file, uint8_t *to, uint64_t size) {
+    uint64_t used = 0;
+    if (!(folder_read && number_read == file) && !begin_folder(file)) return FAILED;
+    for (;;) {
+        size_t name, whole;
+        errno = 0;
+        if (!entry_read) entry_read = readdir(folder_read);
+        if (!entry_read) {
+            int error = errno;
+            if (used) return used;
+            end_folder();
+            errno = error;
+            return error ? FAILED : 0;
+        }
+        name = strlen(entry_read->d_name) + 1;
+        whole = (19 + name + 7) / 8 * 8;
+        if (whole > size - used) {
+            if (used) return used;
+            errno = EINVAL;
+            return FAILED;
+        }
+        memset(to + used, 0, whole);
+        put(to + used, 8, (uint64_t)entry_read->d_ino);
+        put(to + used + 16, 2, whole);
+        memcpy(to + used + 19, entry_read->d_name, name);
+        used += whole;
+        entry_read = NULL;
+    }
+}
 
 /* ---- Files by their names */
 
