@@ -80,7 +80,7 @@ cp c/examples/links.c "$tests/user"
 cat > "$tests/user/CMakeLists.txt" << 'END'
 cmake_minimum_required(VERSION 3.14)
 project(user LANGUAGES C)
-find_package(kombilad 0.1 REQUIRED)
+find_package(kombilad 0.2 REQUIRED)
 add_executable(links links.c)
 target_link_libraries(links PRIVATE kombilad::kombilad)
 END
