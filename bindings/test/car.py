@@ -88,6 +88,15 @@ class Trickle(io.RawIOBase):
         return len(given)
 
 
+class StaysOpen(Trickle):
+    """A file that must not be read after its last byte: a pipe that stays open would wait."""
+
+    def readinto(self, buffer):
+        assert self.at < len(self.data), "read on"
+        given = super().readinto(buffer)
+        return given
+
+
 def sections(source, **options):
     car = CarReader(source, **options)
     return (
@@ -181,6 +190,15 @@ class Cars(unittest.TestCase):
                 self.assertEqual((bytes(cid), block), large[number])
                 self.assertLess(len(car._window), 400_000)
             self.assertEqual(number, 39)
+
+    def test_a_block_arrives_with_its_last_byte(self):
+        for car in (CAR, version2(CAR, 10)):
+            for source in (StaysOpen(car), io.BufferedReader(StaysOpen(car))):
+                found = CarReader(source)
+                self.assertEqual([bytes(root) for root in found.roots], ROOTS)
+                for section in SECTIONS:
+                    cid, block = next(found)
+                    self.assertEqual((bytes(cid), block), section)
 
     def test_version_2(self):
         for before, index in ((0, b""), (5, b"index"), (70_000, b"index"), (3_000_000, b"")):

@@ -1,7 +1,7 @@
 """CAR files: all of one in memory, or one section after another."""
 
 import io
-from typing import Any, BinaryIO, Dict, Iterator, List, Optional, Tuple, Type, Union
+from typing import Any, BinaryIO, Callable, Dict, Iterator, List, Optional, Tuple, Type, Union
 
 from . import _native
 from ._cid import Cid
@@ -80,8 +80,8 @@ class CarReader:
     >>> list(reader)
     [(Cid('bafkqaaa'), b''), (Cid('bafyqaaa'), b'\\x01')]
 
-    It holds one section and up to 64 KiB that follow it. Of version 2 it reads the payload, and not
-    the index. A header longer than `header_limit` bytes, or a section longer than `section_limit`,
+    It holds one section and up to 64 KiB that follow it. A block is returned once the source has
+    returned its last byte. Of version 2 it reads the payload, and not the index. A header longer than `header_limit` bytes, or a section longer than `section_limit`,
     raises `CarError` with the name `CAR_TOO_LONG`. With `verify`, a block whose digest isn't that
     of its CID raises `VerifyError`. After an error the iteration ends.
     """
@@ -97,7 +97,9 @@ class CarReader:
         header_limit: int = HEADER_LIMIT,
         section_limit: int = SECTION_LIMIT,
     ):
-        self._file: Any = source if hasattr(source, "read") else io.BytesIO(source)
+        file: Any = source if hasattr(source, "read") else io.BytesIO(source)
+        # `read1` returns the bytes that are there, and doesn't wait for as many as it may return.
+        self._read: Callable[[int], bytes] = getattr(file, "read1", file.read)
         self._window = bytearray()
         self._begin = 0  # where in the window the next section begins
         self._ended = False
@@ -113,14 +115,14 @@ class CarReader:
             if self._begin >= _CHUNK:
                 del self._window[: self._begin]
                 self._begin = 0
-            chunk = self._file.read(min(max(_CHUNK, len(self._window)), 1 << 20))
+            chunk = self._read(min(max(_CHUNK, len(self._window)), 1 << 20))
             self._ended = not chunk
             self._window += chunk
 
     def _open(self, limit: int) -> None:
         # This many bytes contain a header within the limit, and the padding before one in version 2.
         most = 2 * limit + _CHUNK
-        self._more(_CHUNK)
+        self._more(1)
         while True:
             found = _native.open_part(self._window, self._ended, limit)
             if not isinstance(found, int):

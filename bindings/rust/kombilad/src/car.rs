@@ -123,7 +123,7 @@ impl<R: Read> CarReader<R> {
             section_limit: Self::SECTION_LIMIT,
         };
         let most = 2 * Self::HEADER_LIMIT + CHUNK;
-        let mut wanted = CHUNK;
+        let mut wanted = 1;
         loop {
             car.fill(wanted)?;
             let found = ffi::car_open_part(&car.window, car.ended, Self::HEADER_LIMIT);

@@ -158,6 +158,33 @@ fn errors_of_the_reader_come_through() {
     );
 }
 
+/// A reader that must not be read after its last byte: a pipe that stays open would wait. It gives
+/// at most as many bytes at a time as the number.
+struct StaysOpen<'a>(&'a [u8], usize);
+
+impl Read for StaysOpen<'_> {
+    fn read(&mut self, buffer: &mut [u8]) -> io::Result<usize> {
+        assert!(!self.0.is_empty(), "it is read after its last byte");
+        let count = self.1.min(buffer.len()).min(self.0.len());
+        let (given, rest) = self.0.split_at(count);
+        buffer[..count].copy_from_slice(given);
+        self.0 = rest;
+        Ok(count)
+    }
+}
+
+#[test]
+fn a_block_arrives_with_its_last_byte() {
+    let car = written(&[], &blocks());
+    for step in [1, 7, usize::MAX] {
+        let mut reader = CarReader::new(StaysOpen(&car, step)).unwrap();
+        for (cid, block) in blocks() {
+            let section = reader.next_section().unwrap().unwrap();
+            assert_eq!((section.cid, section.data), (cid, &block[..]));
+        }
+    }
+}
+
 #[test]
 fn blocks_are_verified() {
     for (cid, block) in blocks() {
