@@ -258,11 +258,24 @@ fn remove_left(rt: &HostRuntime, folder: Path<'_>, prefix: &str) {
     for entry in entries {
         if let Ok(entry) = entry {
             let number = entry.file_name().strip_prefix(prefix).unwrap_or("");
-            if number.starts_with(|c: char| c.is_ascii_digit()) && is_file_entry(&entry) {
+            if is_process(number) && is_file_entry(&entry) {
                 remove_unlocked(rt, entry.path());
             }
         }
     }
+}
+
+// Returns whether a text is the number of a process, or two numbers with `-` between them.
+fn is_process(text: &str) -> bool {
+    match text.split_once("-") {
+        Some((process, number)) => is_number(process) && is_number(number),
+        None => is_number(text),
+    }
+}
+
+// Returns whether a text has digits and nothing else.
+fn is_number(text: &str) -> bool {
+    !text.is_empty() && text.as_bytes().iter().all(|byte| byte.is_ascii_digit())
 }
 
 // Returns whether an entry of a folder is a file. To open a pipe would block.
