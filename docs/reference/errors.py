@@ -26,6 +26,11 @@ KIND_FIELDS = ("kind", "reason")
 
 USE = re.compile(r"^(?:pub )?use (\w+)(?:::\w+)*::(?:\{([^}]*)\}|(\w+));", re.M)
 FAILS_WITH = re.compile(r"-> .*Result<.*, (?:\w+::)*(\w+)(?:<[^()]*>)?>+(?: where .*)?$")
+# A part of a sentence: a text before a number, a text, or another error.
+TEXT = r'"((?:[^"\\]|\\.)*)"'
+PART = re.compile(rf"write_number\(\s*f,\s*{TEXT}|{TEXT}|(\.fmt\(f\)|::sentence\()")
+# The method that returns the name of a variant.
+NAMES = re.compile(r"fn name\(&self\).*?\n    \}", re.S)
 # The part of a text that a comment, a status or an empty line of an enum of C takes.
 OF_ENUM = re.compile(r"/\*(.*?)\*/|^ *(KOMBILAD_\w+) = (\d+)|\n[ ]*\n", re.M | re.S)
 # The errors that a comment excludes.
@@ -34,11 +39,21 @@ CALL_OF_C = re.compile(r"/\* ([^*]*(?:\*[^/][^*]*)*)\*/\nuint32_t (kombilad_\w+)
 
 
 def sentences(name, text):
-    """Yields the variants of an enum that a function prints as a literal, each with the literal."""
-    arm = rf"\b{name}::(\w+)(?:\([^()]*\)| \{{[^}}]*\}})?(?:, _\))? =>\s*(?:\{{\s*)?(?:return )?"
-    call = r"(?:(?:f\.write_str|write!)\(\s*(?:f,\s*)?)?(?:if f\.alternate\(\) \{\s*)?"
-    for variant, said in re.findall(rf'{arm}{call}"([^"]*)"\s*(?:,|\)\s*[,;}}]|\}})', text):
-        yield variant, re.sub(r"\{[^}]*\}", "..", said)
+    """
+    Yields the variants of an enum whose sentence a function writes, each with the sentence. It has
+    `..` for a number, a name or another error.
+    """
+    arms = re.split(rf"(?=\b{name}::\w+[^=;]*?=>)", text)
+    for arm in arms:
+        head = re.match(rf"{name}::(\w+)(?:\([^()]*\)| \{{[^}}]*\}})? =>", arm)
+        if not head:
+            continue
+        said = ""
+        for number, literal, other in PART.findall(arm[head.end() :]):
+            said += f"{number}.." if number else ".." if other else literal
+        if said.strip("."):
+            said = re.sub(r"\{[^}\\]*\}", "..", said)
+            yield head[1], said.replace('\\"', '"')
 
 
 class Kind:
@@ -50,14 +65,17 @@ class Kind:
         self.name = entry.path.rpartition("::")[2]
         self.variants = {it.path.rpartition("::")[2]: it for it in entry.members}
         self.variants = {it: one for it, one in self.variants.items() if one.kind == "variant"}
-        self.printed, self.prints_names = {}, False
-        for name in [self.name, *([holder.path.rpartition("::")[2]] if holder else [])]:
+        self.printed = {}
+        sentence = self.name.replace("Error", "Sentence")
+        self.prints_names = bool(list(self.library.impls(sentence)))
+        for name in {sentence if self.prints_names else self.name, self.name_of(holder)}:
             for _, impl in self.library.impls(name):
-                text = "\n".join(impl.lines)
-                self.prints_names |= "f.alternate()" in text
-                for variant, said in sentences(self.name, text):
-                    if said not in (variant, ".."):
-                        self.printed.setdefault(variant, said)
+                text = NAMES.sub("", "\n".join(impl.lines))
+                self.printed.update(sentences(self.name, text))
+
+    @staticmethod
+    def name_of(holder):
+        return holder.path.rpartition("::")[2] if holder else ""
 
 
 class Status:

@@ -1,5 +1,5 @@
 -- The texts that are written about the blocks of a CAR.
-use Rattle.std.specs.Prelude.{◌≡◌, ◌+◌, ℕ, Bool, true, false, List, [], ◌∷◌, ◌++◌, length, map, codes, decimal, Some, None}
+use Rattle.std.specs.Prelude.{◌≡◌, ◌+◌, ℕ, Bool, true, false, List, [], ◌∷◌, ◌++◌, length, map, codes, decimal, Option, Some, None}
 use Rattle.std.specs.Fmt.{digits}
 use Rattle.std.specs.List.{flat_map, join_by}
 use Rattle.std.specs.Option.{unwrap_or}
@@ -14,12 +14,9 @@ use Rattle.ipld_car.specs.Section.{Block, content_of}
 use Rattle.ipld_car.specs.declared.reader.CarReader.{CarReader}
 use Rattle.ipld_car.specs.declared.version.CarVersion.{CarVersion}
 use Rattle.ipld_car.specs.declared.version.CarVersion.TheVariants.{V1, V2}
-use Rattle.dag_cbor_blocks.specs.BlockErrors.{kind_name}
-use Rattle.dag_json.specs.Errors as json
-use Rattle.dag_pb.specs.ErrorNames.{name_of}
+use Rattle.ipld_block.specs.ErrorTexts.{name_of, offset_of}
 use Rattle.ipld_block.specs.Codes.{codec_of_code, codec_name_of}
 use Rattle.ipld_block.specs.declared.error.InvalidBlock.{InvalidBlock}
-use Rattle.ipld_block.specs.declared.error.InvalidBlock.TheVariants.{Cbor, Pb, Json as InvalidJson, NotCanonical}
 use Rattle.ipld_block.specs.Texts.{usual_text}
 use Rattle.car_files.specs.declared.list.Form.{Form}
 use Rattle.car_files.specs.declared.list.Form.TheVariants.{Blocks, Links, Dot, Json}
@@ -109,13 +106,14 @@ count_text (known links) = decimal (length links) ++ codes " links\n"
 count_text unknown = codes "links not known\n"
 count_text (invalid why) = codes "no block of its codec\n"
 
--- the error of an invalid block as members of a JSON object: its name, and the offset in the block
--- except for `NotCanonical`
+-- the offset of an error as a member of a JSON object, if there is one
+abbrev pub offset_text : Option ℕ → List ℕ
+offset_text None = []
+offset_text (Some offset) = codes ",\"at\":" ++ decimal offset
+
+-- the error of an invalid block as members of a JSON object: its name, and its offset
 abbrev pub error_text : InvalidBlock → List ℕ
-error_text (Cbor error) = codes ",\"error\":\"" ++ (kind_name error.kind ++ (codes "\",\"at\":" ++ decimal error.offset))
-error_text (Pb error) = codes ",\"error\":\"" ++ (name_of error.kind ++ (codes "\",\"at\":" ++ decimal error.offset))
-error_text (InvalidJson error) = codes ",\"error\":\"" ++ (json.kind_name error.kind ++ (codes "\",\"at\":" ++ decimal error.offset))
-error_text NotCanonical = codes ",\"error\":\"NotCanonical\""
+error_text why = codes ",\"error\":\"" ++ (name_of why ++ codes "\"") ++ offset_text (offset_of why)
 
 -- the links as a member of a JSON object, the error of an invalid block, or nothing if the links
 -- are unknown

@@ -9,7 +9,6 @@ ghost use Rattle.car_files.specs.Streams.{complaints};
 
 use crate::adding::CarriedFault;
 use crate::error::CarFileError;
-use crate::invalid_reason::InvalidReason;
 use ipld_block::{InvalidBlock, write_cid};
 use ipld_cid::Cid;
 use std::alloc::Global;
@@ -29,7 +28,7 @@ pub(crate) fn write_complaint<E: Write>(
         offset (link_of cid.now)) }
     ensures fault { IfErr result IsWritingError }
 {
-    let sentence = match format!(in alloc; "{}", InvalidReason(why)) {
+    let sentence = match format!(in alloc; "{why}") {
         Ok(sentence) => sentence,
         Err(_) => return Err(CarFileError::Memory),
     };

@@ -19,14 +19,14 @@ pub enum CarFileError {
 impl fmt::Display for CarFileError {
     ghost use Rattle.car_files.specs.ErrorTexts.{sentence_of};
 
-    ghost output = { sentence_of ⟦<CarError as fmt::Display>⟧.output };
+    ghost output = { sentence_of };
 
-    ghost styled_output = { λ error spec. sentence_of (λ car. ⟦<CarError as fmt::Display>⟧.styled_output car spec) error };
+    ghost styled_output = { λ error _. sentence_of error };
 
     fn fmt<W: fmt::Write>(&self, f: &mut fmt::Formatter<W>) -> fmt::Result {
         match self {
             CarFileError::Memory => f.write_str("out of memory"),
-            CarFileError::Write(kind) => write!(f, "the output failed: {kind}"),
+            CarFileError::Write(kind) => write!(f, "cannot write: {kind}"),
             CarFileError::Car(error) => error.fmt(f),
         }
     }

@@ -241,36 +241,11 @@ fn write_error<W: Write>(why: &InvalidBlock, writer: &mut W) -> Result<(), CarFi
         (Appends (W.contents writer.old) (W.contents writer.new) (error_text why.now)) }
     ensures fault { IfErr result IsWritingError }
 {
-    match why {
-        InvalidBlock::Cbor(error) => {
-            write!(
-                writer,
-                ",\"error\":\"{}\",\"at\":{}",
-                error.kind, error.offset
-            )?;
-            Ok(())
-        }
-        InvalidBlock::Pb(error) => {
-            write!(
-                writer,
-                ",\"error\":\"{}\",\"at\":{}",
-                error.kind, error.offset
-            )?;
-            Ok(())
-        }
-        InvalidBlock::Json(error) => {
-            write!(
-                writer,
-                ",\"error\":\"{}\",\"at\":{}",
-                error.kind, error.offset
-            )?;
-            Ok(())
-        }
-        InvalidBlock::NotCanonical => {
-            writer.write_all(b",\"error\":\"NotCanonical\"")?;
-            Ok(())
-        }
+    write!(writer, ",\"error\":\"{}\"", why.name())?;
+    if let Some(offset) = why.offset() {
+        write!(writer, ",\"at\":{offset}")?;
     }
+    Ok(())
 }
 
 // Writes the links of a block as a member of a JSON object if they are known, or the error of the

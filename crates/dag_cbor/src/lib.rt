@@ -84,6 +84,6 @@ pub use dag_cbor_blocks::{
     BlockError, BlockErrorKind, BlockSize, CborTokens, LinkPosition, ReadOptions, check_block,
     count_links, is_canonical, link_positions, links_of_block, measure_block, tape,
 };
-pub use dag_cbor_format::{CborError, item, write};
+pub use dag_cbor_format::{CborError, CborSentence, item, write};
 pub use decode::{decode_slice, decode_slice_within};
 pub use token_codec::TokenCodec;

@@ -15,5 +15,4 @@ pub mod TapeReads
 pub mod Tapes
 pub mod Fits
 pub mod ShallowVisits
-mod Texts
 pub mod KeyBytes

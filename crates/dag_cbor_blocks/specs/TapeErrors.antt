@@ -1,16 +1,15 @@
--- The printed forms of the errors of listing a block's values.
-use Rattle.std.specs.Prelude.{ℕ, Bool, List, codes, Some, if◌then◌else◌}
-use Rattle.std.specs.declared.option.Option.{Option}
+-- The names and the sentences of the errors of listing a block's values.
+use Rattle.std.specs.Prelude.{ℕ, List, codes}
 use Rattle.dag_cbor_blocks.specs.declared.tape.TapeError.{TapeError}
 use Rattle.dag_cbor_blocks.specs.declared.tape.TapeError.TheVariants.{Block, TooLong}
-use Rattle.dag_cbor_blocks.specs.BlockErrors.{error_name, printed}
+use Rattle.dag_cbor_blocks.specs.BlockErrors.{kind_name, sentence_of}
 
--- the printed form of an error by `{}`
+-- the name of an error
 abbrev pub tape_name : TapeError → List ℕ
-tape_name (Block error) = error_name error
+tape_name (Block error) = kind_name error.kind
 tape_name TooLong = codes "TooLong"
 
--- the printed form under options: a sentence if `#` is among them (`{error:#}`)
-abbrev pub printed_tape : Bool → TapeError → Option (List ℕ)
-printed_tape alternate (Block error) = printed alternate error
-printed_tape alternate TooLong = Some (if alternate then codes "a string, a byte string, a list or a map is too long for an entry" else codes "TooLong")
+-- the sentence that describes an error
+abbrev pub tape_sentence : TapeError → List ℕ
+tape_sentence (Block error) = sentence_of error
+tape_sentence TooLong = codes "too long for a tape: a string of 2^32 bytes, or a list or a map of 2^32 entries"

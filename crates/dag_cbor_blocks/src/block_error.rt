@@ -1,17 +1,16 @@
 //! The error of reading a block within limits, with its offset.
 
-ghost use Rattle.std.specs.Fmt.{WritesOnOk, WritesStyledOnOk};
+ghost use Rattle.std.specs.Prelude.{◌≡◌};
 ghost use Rattle.dag_cbor_blocks.specs.declared.block_error.BlockErrorKind.TheVariants.{Cbor};
-ghost use Rattle.dag_cbor_blocks.specs.BlockErrors.{place_of};
+ghost use Rattle.dag_cbor_blocks.specs.BlockErrors.{kind_name};
 
 use dag_cbor_format::CborError;
-use itoa::Buffer;
+use ipld_cid::write_number;
 use std::{error, fmt};
 
 /// The reason why a block was not read within limits.
 ///
-/// `Display` prints the variant's name, or for `Cbor` the name of the [`CborError`]. With `#`
-/// (`{error:#}`), it prints a sentence that describes the error.
+/// `Display` prints a sentence that describes the error.
 #[derive(Clone, Copy, Debug, PartialEq, Eq)]
 pub enum BlockErrorKind {
     /// The bytes are not a block, an allocation failed, or the reader failed.
@@ -32,35 +31,39 @@ impl From<CborError> for BlockErrorKind {
     }
 }
 
+impl BlockErrorKind {
+    /// Returns the name of the variant, or for `Cbor` that of the [`CborError`].
+    pub fn name(&self) -> &'static str
+        ensures { result.now ≡ kind_name self.now }
+    {
+        match self {
+            BlockErrorKind::Cbor(error) => error.name(),
+            BlockErrorKind::TooDeep => "TooDeep",
+            BlockErrorKind::TooMany => "TooMany",
+        }
+    }
+}
+
 impl fmt::Display for BlockErrorKind {
     ghost use Rattle.std.specs.Prelude.{Some};
-    ghost use Rattle.std.specs.Fmt.{spec_alternate};
-    ghost use Rattle.dag_cbor_blocks.specs.BlockErrors.{kind_name, printed_kind};
+    ghost use Rattle.dag_cbor_blocks.specs.BlockErrors.{kind_sentence};
 
-    ghost output = { λ kind. Some (kind_name kind) };
+    ghost output = { λ kind. Some (kind_sentence kind) };
 
-    ghost styled_output = { λ kind spec. printed_kind (spec_alternate spec) kind };
+    ghost styled_output = { λ kind _. Some (kind_sentence kind) };
 
     fn fmt<W: fmt::Write>(&self, f: &mut fmt::Formatter<W>) -> fmt::Result {
         match self {
-            BlockErrorKind::Cbor(error) => error.fmt(f),
-            BlockErrorKind::TooDeep => f.write_str(if f.alternate() {
-                "lists and maps nest deeper than the limit"
-            } else {
-                "TooDeep"
-            }),
-            BlockErrorKind::TooMany => f.write_str(if f.alternate() {
-                "there are more values than the limit"
-            } else {
-                "TooMany"
-            }),
+            BlockErrorKind::Cbor(error) => error.sentence().fmt(f),
+            BlockErrorKind::TooDeep => f.write_str("lists and maps nest deeper than the limit"),
+            BlockErrorKind::TooMany => f.write_str("more values than the limit"),
         }
     }
 }
 
 /// The reason why a block was not read within limits, and the byte at which reading stopped.
 ///
-/// `Display` prints the kind, also with `#`, then ` at byte `, and the offset.
+/// `Display` prints the sentence of the kind, then ` at byte ` and the offset.
 #[derive(Clone, Copy, Debug, PartialEq, Eq)]
 pub struct BlockError {
     /// The reason.
@@ -74,26 +77,16 @@ pub struct BlockError {
 
 impl fmt::Display for BlockError {
     ghost use Rattle.std.specs.Prelude.{Some};
-    ghost use Rattle.std.specs.Fmt.{spec_alternate};
-    ghost use Rattle.dag_cbor_blocks.specs.BlockErrors.{error_name, printed};
+    ghost use Rattle.dag_cbor_blocks.specs.BlockErrors.{sentence_of};
 
-    ghost output = { λ error. Some (error_name error) };
+    ghost output = { λ error. Some (sentence_of error) };
 
-    ghost styled_output = { λ error spec. printed (spec_alternate spec) error };
+    ghost styled_output = { λ error _. Some (sentence_of error) };
 
     fn fmt<W: fmt::Write>(&self, f: &mut fmt::Formatter<W>) -> fmt::Result {
         self.kind.fmt(f)?;
-        write_place(f, self.offset)
+        write_number(f, " at byte ", self.offset as u64)
     }
-}
-
-// Writes the byte at which reading stopped, after the kind.
-fn write_place<W: fmt::Write>(f: &mut fmt::Formatter<W>, offset: usize) -> fmt::Result
-    ensures writes { WritesOnOk W.write_str_gives f.old result (place_of offset) f.new }
-    ensures styled { WritesStyledOnOk W.write_str_gives f.old result (place_of offset) f.new }
-{
-    f.write_str(" at byte ")?;
-    f.write_str(Buffer::new().format(offset))
 }
 
 impl error::Error for BlockError {}

@@ -24,6 +24,7 @@ ghost use Rattle.ipld_tree.specs.Limits.{Within};
 ghost use Rattle.ipld_tree.specs.Tree.{Tree};
 ghost use Rattle.dag_cbor_format.specs.WithFloats.{EncodesTreeIn};
 ghost use Rattle.dag_cbor_blocks.specs.Tape.{entry, IsTapeOf, GivesTape, ReturnsTape, OnlyMemory};
+ghost use Rattle.dag_cbor_blocks.specs.TapeErrors.{tape_name};
 ghost use Rattle.dag_cbor_blocks.specs.TapeWriter.{Reading, reading, stopped, empty_tape, written, counted, null_after, bool_after, integer_after, content_after, begun, ended, kept, outside, reading_of, tape_with, Writes};
 
 use crate::block_error::{BlockError, BlockErrorKind};
@@ -88,7 +89,7 @@ pub struct TapeEntry {
 
 /// The reason why the values of a block are not listed.
 ///
-/// `Display` prints the [`BlockError`], or `TooLong`. With `#` (`{error:#}`), it prints a sentence.
+/// `Display` prints a sentence that describes the error.
 #[derive(Clone, Copy, Debug, PartialEq, Eq)]
 pub enum TapeError {
     /// The bytes are not a block within the limits, or an allocation failed.
@@ -108,23 +109,32 @@ impl From<BlockError> for TapeError {
     }
 }
 
+impl TapeError {
+    /// Returns the name of the variant, or for `Block` that of the [`BlockError`]'s kind.
+    pub fn name(&self) -> &'static str
+        ensures { result.now ≡ tape_name self.now }
+    {
+        match self {
+            TapeError::Block(error) => error.kind.name(),
+            TapeError::TooLong => "TooLong",
+        }
+    }
+}
+
 impl fmt::Display for TapeError {
     ghost use Rattle.std.specs.Prelude.{Some};
-    ghost use Rattle.std.specs.Fmt.{spec_alternate};
-    ghost use Rattle.dag_cbor_blocks.specs.TapeErrors.{tape_name, printed_tape};
+    ghost use Rattle.dag_cbor_blocks.specs.TapeErrors.{tape_sentence};
 
-    ghost output = { λ error. Some (tape_name error) };
+    ghost output = { λ error. Some (tape_sentence error) };
 
-    ghost styled_output = { λ error spec. printed_tape (spec_alternate spec) error };
+    ghost styled_output = { λ error _. Some (tape_sentence error) };
 
     fn fmt<W: fmt::Write>(&self, f: &mut fmt::Formatter<W>) -> fmt::Result {
         match self {
             TapeError::Block(error) => error.fmt(f),
-            TapeError::TooLong => f.write_str(if f.alternate() {
-                "a string, a byte string, a list or a map is too long for an entry"
-            } else {
-                "TooLong"
-            }),
+            TapeError::TooLong => f.write_str(
+                "too long for a tape: a string of 2^32 bytes, or a list or a map of 2^32 entries",
+            ),
         }
     }
 }

@@ -1,6 +1,6 @@
 -- The name and the sentence of every error, and whether it reports that the bytes are not a block.
-use Rattle.std.specs.Prelude.{ℕ, Bool, true, false, List, codes, Some, None, if◌then◌else◌}
-use Rattle.std.specs.declared.option.Option.{Option}
+use Rattle.std.specs.Prelude.{ℕ, Bool, true, false, List, ◌++◌, codes, if◌then◌else◌}
+use Rattle.ipld_cid.specs.Error as cid
 use Rattle.dag_cbor_format.specs.declared.error.CborError.{CborError}
 use Rattle.dag_cbor_format.specs.declared.error.CborError.TheVariants.{Memory, Read, Write, End, NotShortest, Float, Unsupported, Utf8, KeyNotText, DuplicateKey, LinkBytes, Cid, TrailingBytes, IntegerRange}
 
@@ -21,27 +21,27 @@ name_of (Cid error) = codes "Cid"
 name_of TrailingBytes = codes "TrailingBytes"
 name_of IntegerRange = codes "IntegerRange"
 
--- the sentence that describes an error, or nothing (not specified) for bytes that are not a CID
-abbrev pub sentence_of : CborError → Option (List ℕ)
-sentence_of Memory = Some (codes "out of memory")
-sentence_of Read = Some (codes "the reader failed")
-sentence_of Write = Some (codes "the writer failed")
-sentence_of End = Some (codes "the bytes end before the item does")
-sentence_of NotShortest = Some (codes "an argument is not in its shortest form")
-sentence_of Float = Some (codes "a float that is not supported")
-sentence_of Unsupported = Some (codes "a simple value, a tag or an indefinite length that DAG-CBOR has not")
-sentence_of Utf8 = Some (codes "a text string is not UTF-8")
-sentence_of KeyNotText = Some (codes "the key of a map is no text string")
-sentence_of DuplicateKey = Some (codes "a key stands in a map for the second time")
-sentence_of LinkBytes = Some (codes "after the tag of a link there is no byte string that begins with a zero byte")
-sentence_of (Cid error) = None
-sentence_of TrailingBytes = Some (codes "more bytes follow the item")
-sentence_of IntegerRange = Some (codes "an integer is below -2^64 or above 2^64 - 1")
+-- the sentence that describes an error
+abbrev pub sentence_of : CborError → List ℕ
+sentence_of Memory = codes "out of memory"
+sentence_of Read = codes "the reader failed"
+sentence_of Write = codes "the writer failed"
+sentence_of End = codes "the bytes end before the item does"
+sentence_of NotShortest = codes "an argument is not in its shortest form"
+sentence_of Float = codes "a float that cannot be read: trees hold none, and tapes hold finite 64-bit floats"
+sentence_of Unsupported = codes "a simple value, a tag or an indefinite length that DAG-CBOR does not allow"
+sentence_of Utf8 = codes "a text string is not UTF-8"
+sentence_of KeyNotText = codes "a map key is not a text string"
+sentence_of DuplicateKey = codes "duplicate map key"
+sentence_of LinkBytes = codes "invalid link: a byte string that starts with 0x00 must follow tag 42"
+sentence_of (Cid error) = codes "invalid link: not a CID: " ++ cid.sentence_of error
+sentence_of TrailingBytes = codes "trailing bytes"
+sentence_of IntegerRange = codes "an integer is below -2^64 or above 2^64 - 1"
 
 -- the printed form of an error: its sentence if `#` is among the options (`{error:#}`), and its
 -- name otherwise
-abbrev pub printed : Bool → CborError → Option (List ℕ)
-printed alternate error = if alternate then sentence_of error else Some (name_of error)
+abbrev pub printed : Bool → CborError → List ℕ
+printed alternate error = if alternate then sentence_of error else name_of error
 
 -- Whether the error reports that the bytes are not a block.
 abbrev pub lies_in_bytes : CborError → Bool

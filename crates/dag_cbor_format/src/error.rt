@@ -1,8 +1,8 @@
 //! The error of reading or writing a block.
 
-ghost use Rattle.std.specs.Fmt.{DisplaysStyledOnOk};
+ghost use Rattle.std.specs.Prelude.{◌≡◌};
 ghost use Rattle.dag_cbor_format.specs.declared.error.CborError.TheVariants.{Memory};
-ghost use Rattle.dag_cbor_format.specs.ErrorKinds.{sentence_of};
+ghost use Rattle.dag_cbor_format.specs.ErrorKinds.{name_of, sentence_of};
 
 use ipld_cid::CidError;
 use std::alloc::{AllocError, AllocFailed};
@@ -14,8 +14,8 @@ use std::{error, fmt};
 /// comes before its content. In a pair of a map, errors of the key come first, then a duplicate
 /// key, then errors of the value.
 ///
-/// `Display` prints the variant's name, without its content. With `#` (`{error:#}`), it prints a
-/// sentence that describes the error.
+/// `Display` prints the variant's [`name`](CborError::name). With `#` (`{error:#}`), it prints the
+/// [`sentence`](CborError::sentence).
 #[derive(Clone, Copy, Debug, PartialEq, Eq)]
 pub enum CborError {
     /// An allocation failed.
@@ -71,49 +71,11 @@ impl<T: Drop> From<AllocFailed<T>> for CborError {
 }
 
 impl CborError {
-    // Writes a sentence that describes the error.
-    fn describe<W: fmt::Write>(&self, f: &mut fmt::Formatter<W>) -> fmt::Result
-        ensures { DisplaysStyledOnOk W.write_str_gives f.old result (sentence_of self.now) f.new }
+    /// Returns the name of the variant, for example `TrailingBytes`. `{error}` prints the same.
+    pub fn name(&self) -> &'static str
+        ensures { result.now ≡ name_of self.now }
     {
-        f.write_str(match self {
-            CborError::Memory => "out of memory",
-            CborError::Read => "the reader failed",
-            CborError::Write => "the writer failed",
-            CborError::End => "the bytes end before the item does",
-            CborError::NotShortest => "an argument is not in its shortest form",
-            CborError::Float => "a float that is not supported",
-            CborError::Unsupported => {
-                "a simple value, a tag or an indefinite length that DAG-CBOR has not"
-            }
-            CborError::Utf8 => "a text string is not UTF-8",
-            CborError::KeyNotText => "the key of a map is no text string",
-            CborError::DuplicateKey => "a key stands in a map for the second time",
-            CborError::LinkBytes => {
-                "after the tag of a link there is no byte string that begins with a zero byte"
-            }
-            CborError::Cid(error) => {
-                return write!(f, "the bytes of a link are no CID: {error:#}");
-            }
-            CborError::TrailingBytes => "more bytes follow the item",
-            CborError::IntegerRange => "an integer is below -2^64 or above 2^64 - 1",
-        })
-    }
-}
-
-impl fmt::Display for CborError {
-    ghost use Rattle.std.specs.Prelude.{Some};
-    ghost use Rattle.std.specs.Fmt.{spec_alternate};
-    ghost use Rattle.dag_cbor_format.specs.ErrorKinds.{name_of, printed};
-
-    ghost output = { λ e. Some (name_of e) };
-
-    ghost styled_output = { λ e spec. printed (spec_alternate spec) e };
-
-    fn fmt<W: fmt::Write>(&self, f: &mut fmt::Formatter<W>) -> fmt::Result {
-        if f.alternate() {
-            return self.describe(f);
-        }
-        f.write_str(match self {
+        match self {
             CborError::Memory => "Memory",
             CborError::Read => "Read",
             CborError::Write => "Write",
@@ -128,8 +90,74 @@ impl fmt::Display for CborError {
             CborError::Cid(_) => "Cid",
             CborError::TrailingBytes => "TrailingBytes",
             CborError::IntegerRange => "IntegerRange",
-        })
+        }
+    }
+
+    /// Returns the sentence that describes the error, to be printed. `{error:#}` prints the same.
+    pub fn sentence(&self) -> CborSentence
+        ensures { result.error ≡ self.now }
+    {
+        CborSentence { error: *self }
+    }
+}
+
+impl fmt::Display for CborError {
+    ghost use Rattle.std.specs.Prelude.{Some};
+    ghost use Rattle.std.specs.Fmt.{spec_alternate};
+    ghost use Rattle.dag_cbor_format.specs.ErrorKinds.{printed};
+
+    ghost output = { λ e. Some (name_of e) };
+
+    ghost styled_output = { λ e spec. Some (printed (spec_alternate spec) e) };
+
+    fn fmt<W: fmt::Write>(&self, f: &mut fmt::Formatter<W>) -> fmt::Result {
+        if f.alternate() {
+            return self.sentence().fmt(f);
+        }
+        f.write_str(self.name())
     }
 }
 
 impl error::Error for CborError {}
+
+/// The sentence that describes a [`CborError`]. Its `Display` prints it, with any options.
+#[derive(Clone, Copy, Debug)]
+pub struct CborSentence {
+    error: CborError,
+}
+
+impl fmt::Display for CborSentence {
+    ghost use Rattle.std.specs.Prelude.{Some};
+
+    ghost output = { λ s. Some (sentence_of s.error) };
+
+    ghost styled_output = { λ s _. Some (sentence_of s.error) };
+
+    fn fmt<W: fmt::Write>(&self, f: &mut fmt::Formatter<W>) -> fmt::Result {
+        f.write_str(match self.error {
+            CborError::Memory => "out of memory",
+            CborError::Read => "the reader failed",
+            CborError::Write => "the writer failed",
+            CborError::End => "the bytes end before the item does",
+            CborError::NotShortest => "an argument is not in its shortest form",
+            CborError::Float => {
+                "a float that cannot be read: trees hold none, and tapes hold finite 64-bit floats"
+            }
+            CborError::Unsupported => {
+                "a simple value, a tag or an indefinite length that DAG-CBOR does not allow"
+            }
+            CborError::Utf8 => "a text string is not UTF-8",
+            CborError::KeyNotText => "a map key is not a text string",
+            CborError::DuplicateKey => "duplicate map key",
+            CborError::LinkBytes => {
+                "invalid link: a byte string that starts with 0x00 must follow tag 42"
+            }
+            CborError::Cid(error) => {
+                f.write_str("invalid link: not a CID: ")?;
+                return error.sentence().fmt(f);
+            }
+            CborError::TrailingBytes => "trailing bytes",
+            CborError::IntegerRange => "an integer is below -2^64 or above 2^64 - 1",
+        })
+    }
+}

@@ -19,5 +19,5 @@ pub mod item_header;
 mod major;
 pub mod write;
 
-pub use error::CborError;
+pub use error::{CborError, CborSentence};
 pub use major::Major;

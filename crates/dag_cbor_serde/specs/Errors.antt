@@ -1,12 +1,13 @@
--- The errors of a value's block for the errors of its parts, and their messages.
-use Rattle.std.specs.Prelude.{ℕ, Bool, List, codes, Some, if◌then◌else◌}
+-- The errors of a value's block for the errors of its parts, their names and their sentences.
+use Rattle.std.specs.Prelude.{ℕ, List, codes, Some}
 use Rattle.std.specs.declared.option.Option.{Option}
 use Rattle.dag_cbor_format.specs.declared.error.CborError.{CborError}
 use Rattle.dag_cbor_format.specs.declared.error.CborError.TheVariants as cbor
 use Rattle.dag_cbor_blocks.specs.declared.block_error.BlockError.{BlockError}
 use Rattle.dag_cbor_blocks.specs.declared.block_error.BlockErrorKind.{BlockErrorKind}
 use Rattle.dag_cbor_blocks.specs.declared.block_error.BlockErrorKind.TheVariants.{Cbor}
-use Rattle.ipld_ser.specs.Error.{message_of}
+use Rattle.dag_cbor_blocks.specs.BlockErrors.{kind_name, sentence_of}
+use Rattle.ipld_ser.specs.Error as serde_text
 use Rattle.ipld_ser.specs.declared.error.SerdeError.{SerdeError}
 use Rattle.ipld_ser.specs.declared.error.SerdeError.TheVariants as serde
 use Rattle.ipld_ser.specs.declared.image_writer.Unwritten.{Unwritten}
@@ -52,32 +53,30 @@ error_of_block error = error_of_kind error error.kind
 abbrev pub trailing_at : ℕ → DecodeError
 trailing_at offset = decode.Block (record { kind = Cbor cbor.TrailingBytes; offset = offset })
 
--- the message of an error of writing
-abbrev pub message_of_encode : EncodeError → List ℕ
-message_of_encode encode.Memory = codes "Memory"
-message_of_encode (encode.Value error) = message_of error
-message_of_encode encode.IntegerRange = codes "IntegerRange"
-message_of_encode encode.Write = codes "Write"
+-- the name of an error of writing
+abbrev pub encode_name : EncodeError → List ℕ
+encode_name encode.Memory = codes "Memory"
+encode_name (encode.Value error) = serde_text.name_of error
+encode_name encode.IntegerRange = codes "IntegerRange"
+encode_name encode.Write = codes "Write"
 
--- the message of an error of reading, if `block` is the message of the error of a block
-abbrev pub message_of_decode : (BlockError → Option (List ℕ)) → DecodeError → Option (List ℕ)
-message_of_decode block decode.Memory = Some (codes "Memory")
-message_of_decode block decode.Read = Some (codes "Read")
-message_of_decode block (decode.Block error) = block error
-message_of_decode block (decode.Value error) = Some (message_of error)
+-- the name of an error of reading
+abbrev pub decode_name : DecodeError → List ℕ
+decode_name decode.Memory = codes "Memory"
+decode_name decode.Read = codes "Read"
+decode_name (decode.Block error) = kind_name error.kind
+decode_name (decode.Value error) = serde_text.name_of error
 
--- the text that an error of writing prints, a sentence if `#` is among the options (`{error:#}`);
--- `value` is the text of the error of a value
-abbrev pub printed_encode : (SerdeError → Option (List ℕ)) → Bool → EncodeError → Option (List ℕ)
-printed_encode value alternate encode.Memory = Some (if alternate then codes "out of memory" else codes "Memory")
-printed_encode value alternate (encode.Value error) = value error
-printed_encode value alternate encode.IntegerRange = Some (if alternate then codes "an integer is below -2^64 or above 2^64 - 1" else codes "IntegerRange")
-printed_encode value alternate encode.Write = Some (if alternate then codes "the writer failed" else codes "Write")
+-- the sentence that an error of writing prints, which is not specified for a wrong kind
+abbrev pub encode_sentence : EncodeError → Option (List ℕ)
+encode_sentence encode.Memory = Some (codes "out of memory")
+encode_sentence (encode.Value error) = serde_text.sentence_of error
+encode_sentence encode.IntegerRange = Some (codes "an integer is below -2^64 or above 2^64 - 1")
+encode_sentence encode.Write = Some (codes "the writer failed")
 
--- the text that an error of reading prints, a sentence if `#` is among the options; `block` and
--- `value` are the texts of the errors of a block and of a value
-abbrev pub printed_decode : (BlockError → Option (List ℕ)) → (SerdeError → Option (List ℕ)) → Bool → DecodeError → Option (List ℕ)
-printed_decode block value alternate decode.Memory = Some (if alternate then codes "out of memory" else codes "Memory")
-printed_decode block value alternate decode.Read = Some (if alternate then codes "the reader failed" else codes "Read")
-printed_decode block value alternate (decode.Block error) = block error
-printed_decode block value alternate (decode.Value error) = value error
+-- the sentence that an error of reading prints, with the same exception
+abbrev pub decode_sentence : DecodeError → Option (List ℕ)
+decode_sentence decode.Memory = Some (codes "out of memory")
+decode_sentence decode.Read = Some (codes "the reader failed")
+decode_sentence (decode.Block error) = Some (sentence_of error)
+decode_sentence (decode.Value error) = serde_text.sentence_of error

@@ -1,7 +1,7 @@
 //! The errors of writing a value as a block, and of reading one.
 
-ghost use Rattle.std.specs.Prelude.{◌≡◌, Some};
-ghost use Rattle.dag_cbor_serde.specs.Errors.{error_of_image, error_of_block, error_of_read, message_of_encode, message_of_decode, printed_encode, printed_decode};
+ghost use Rattle.std.specs.Prelude.{◌≡◌};
+ghost use Rattle.dag_cbor_serde.specs.Errors.{error_of_image, error_of_block, error_of_read, encode_name, decode_name, encode_sentence, decode_sentence};
 
 use dag_cbor::{BlockError, BlockErrorKind, CborError};
 use ipld_ser::SerdeError;
@@ -9,8 +9,7 @@ use std::{error, fmt};
 
 /// An error of writing a value as a block of DAG-CBOR.
 ///
-/// Its `Display` is the variant's name, or for `Value` that of the [`SerdeError`]. With `#`
-/// (`{error:#}`), it is a sentence that describes the error.
+/// Its `Display` is a sentence that describes the error.
 #[derive(Clone, Copy, Debug, PartialEq, Eq)]
 pub enum EncodeError {
     /// An allocation failed.
@@ -25,8 +24,7 @@ pub enum EncodeError {
 
 /// An error of reading a value from a block of DAG-CBOR.
 ///
-/// Its `Display` is the variant's name, or that of the [`BlockError`] or the [`SerdeError`] if
-/// there is one. With `#` (`{error:#}`), it is a sentence that describes the error.
+/// Its `Display` is a sentence that describes the error.
 #[derive(Clone, Copy, Debug, PartialEq, Eq)]
 pub enum DecodeError {
     /// An allocation failed.
@@ -74,57 +72,63 @@ impl From<BlockError> for DecodeError {
     }
 }
 
+impl EncodeError {
+    /// Returns the name of the variant, or for `Value` that of the [`SerdeError`].
+    pub fn name(&self) -> &'static str
+        ensures { result.now ≡ encode_name self.now }
+    {
+        match self {
+            EncodeError::Memory => "Memory",
+            EncodeError::Value(error) => error.name(),
+            EncodeError::IntegerRange => "IntegerRange",
+            EncodeError::Write => "Write",
+        }
+    }
+}
+
+impl DecodeError {
+    /// Returns the name of the variant, or that of the [`BlockError`]'s kind or of the
+    /// [`SerdeError`] if there is one.
+    pub fn name(&self) -> &'static str
+        ensures { result.now ≡ decode_name self.now }
+    {
+        match self {
+            DecodeError::Memory => "Memory",
+            DecodeError::Read => "Read",
+            DecodeError::Block(error) => error.kind.name(),
+            DecodeError::Value(error) => error.name(),
+        }
+    }
+}
+
 impl fmt::Display for EncodeError {
-    ghost use Rattle.std.specs.Fmt.{spec_alternate};
+    ghost output = { encode_sentence };
 
-    ghost output = { λ error. Some (message_of_encode error) };
-
-    ghost styled_output = { λ error spec. printed_encode (λ value. ⟦<SerdeError as fmt::Display>⟧.styled_output value spec) (spec_alternate spec) error };
+    ghost styled_output = { λ error _. encode_sentence error };
 
     fn fmt<W: fmt::Write>(&self, f: &mut fmt::Formatter<W>) -> fmt::Result {
         match self {
-            EncodeError::Memory => f.write_str(if f.alternate() {
-                "out of memory"
-            } else {
-                "Memory"
-            }),
-            EncodeError::Value(error) => error.fmt(f),
-            EncodeError::IntegerRange => f.write_str(if f.alternate() {
-                "an integer is below -2^64 or above 2^64 - 1"
-            } else {
-                "IntegerRange"
-            }),
-            EncodeError::Write => f.write_str(if f.alternate() {
-                "the writer failed"
-            } else {
-                "Write"
-            }),
+            EncodeError::Memory => f.write_str("out of memory"),
+            EncodeError::Value(error) => error.sentence().fmt(f),
+            EncodeError::IntegerRange => {
+                f.write_str("an integer is below -2^64 or above 2^64 - 1")
+            }
+            EncodeError::Write => f.write_str("the writer failed"),
         }
     }
 }
 
 impl fmt::Display for DecodeError {
-    ghost use Rattle.std.specs.Fmt.{spec_alternate};
+    ghost output = { decode_sentence };
 
-    ghost output = { message_of_decode ⟦<BlockError as fmt::Display>⟧.output };
-
-    ghost styled_output = { λ error spec. printed_decode (λ block. ⟦<BlockError as fmt::Display>⟧.styled_output block spec)
-        (λ value. ⟦<SerdeError as fmt::Display>⟧.styled_output value spec) (spec_alternate spec) error };
+    ghost styled_output = { λ error _. decode_sentence error };
 
     fn fmt<W: fmt::Write>(&self, f: &mut fmt::Formatter<W>) -> fmt::Result {
         match self {
-            DecodeError::Memory => f.write_str(if f.alternate() {
-                "out of memory"
-            } else {
-                "Memory"
-            }),
-            DecodeError::Read => f.write_str(if f.alternate() {
-                "the reader failed"
-            } else {
-                "Read"
-            }),
+            DecodeError::Memory => f.write_str("out of memory"),
+            DecodeError::Read => f.write_str("the reader failed"),
             DecodeError::Block(error) => error.fmt(f),
-            DecodeError::Value(error) => error.fmt(f),
+            DecodeError::Value(error) => error.sentence().fmt(f),
         }
     }
 }

@@ -29,7 +29,7 @@ use std::alloc::{AllocError, Global};
 /// match from_slice::<Post>(alloc, block) {
 ///     Err(DecodeError::Value(error)) => match explain_slice::<Post>(alloc, block, &Limits::default())? {
 ///         Some(explanation) => println!(rt; "{explanation}")?, // posts/3/author: expected a String, found Integer
-///         None => println!(rt; "{error:#}")?,
+///         None => println!(rt; "{}", error.sentence())?,
 ///     },
 ///     ..
 /// }

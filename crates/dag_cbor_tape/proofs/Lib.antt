@@ -15,4 +15,3 @@ pub mod Ascending
 pub mod Adding
 pub mod Maps
 pub mod InTurn
-mod Printed

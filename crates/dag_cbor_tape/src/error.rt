@@ -1,19 +1,16 @@
 //! The errors of writing a block from a tape.
 
 ghost use Rattle.std.specs.Prelude.{◌≡◌};
-ghost use Rattle.std.specs.Fmt.{DisplaysStyledOnOk, WritesOnOk, WritesStyledOnOk};
 ghost use Rattle.dag_cbor_tape.specs.Errors.{error_of};
-ghost use Rattle.dag_cbor_tape.specs.ErrorTexts.{kind_sentence, place_of};
+ghost use Rattle.dag_cbor_tape.specs.ErrorTexts.{kind_name};
 
-use ipld_cid::CidError;
-use itoa::Buffer;
+use ipld_cid::{CidError, write_number};
 use std::alloc::AllocError;
 use std::{error, fmt};
 
 /// The kind of an [`EncodeError`]: the error in an entry of a tape.
 ///
-/// Its `Display` is the variant's name, without its content. With `#` (`{error:#}`), it is a
-/// sentence that describes the error.
+/// Its `Display` is a sentence that describes the error.
 #[derive(Clone, Copy, Debug, PartialEq, Eq)]
 pub enum EncodeErrorKind {
     /// An allocation failed.
@@ -43,42 +40,11 @@ pub enum EncodeErrorKind {
 }
 
 impl EncodeErrorKind {
-    // Writes a sentence that describes the error.
-    fn describe<W: fmt::Write>(&self, f: &mut fmt::Formatter<W>) -> fmt::Result
-        ensures { DisplaysStyledOnOk W.write_str_gives f.old result (kind_sentence self.now) f.new }
+    /// Returns the name of the variant.
+    pub fn name(&self) -> &'static str
+        ensures { result.now ≡ kind_name self.now }
     {
-        f.write_str(match self {
-            EncodeErrorKind::Memory => "out of memory",
-            EncodeErrorKind::Missing => "an entry is missing",
-            EncodeErrorKind::LeftOver => "an entry is left over",
-            EncodeErrorKind::Kind => "an entry is of no kind that may stand there",
-            EncodeErrorKind::Span => "a list or a map spans no entry, or more than there are",
-            EncodeErrorKind::Fields => "a length or a value is none of its kind of entry",
-            EncodeErrorKind::Content => "content is not within the data",
-            EncodeErrorKind::Utf8 => "a string or a key is not UTF-8",
-            EncodeErrorKind::Cid(error) => {
-                return write!(f, "the bytes of a link are no CID: {error:#}");
-            }
-            EncodeErrorKind::Float => "a float is NaN or an infinity",
-            EncodeErrorKind::DuplicateKey => "a key stands in its map before",
-        })
-    }
-}
-
-impl fmt::Display for EncodeErrorKind {
-    ghost use Rattle.std.specs.Prelude.{Some};
-    ghost use Rattle.std.specs.Fmt.{spec_alternate};
-    ghost use Rattle.dag_cbor_tape.specs.ErrorTexts.{kind_name, printed_kind};
-
-    ghost output = { λ kind. Some (kind_name kind) };
-
-    ghost styled_output = { λ kind spec. printed_kind (spec_alternate spec) kind };
-
-    fn fmt<W: fmt::Write>(&self, f: &mut fmt::Formatter<W>) -> fmt::Result {
-        if f.alternate() {
-            return self.describe(f);
-        }
-        f.write_str(match self {
+        match self {
             EncodeErrorKind::Memory => "Memory",
             EncodeErrorKind::Missing => "Missing",
             EncodeErrorKind::LeftOver => "LeftOver",
@@ -90,6 +56,34 @@ impl fmt::Display for EncodeErrorKind {
             EncodeErrorKind::Cid(_) => "Cid",
             EncodeErrorKind::Float => "Float",
             EncodeErrorKind::DuplicateKey => "DuplicateKey",
+        }
+    }
+}
+
+impl fmt::Display for EncodeErrorKind {
+    ghost use Rattle.std.specs.Prelude.{Some};
+    ghost use Rattle.dag_cbor_tape.specs.ErrorTexts.{kind_sentence};
+
+    ghost output = { λ kind. Some (kind_sentence kind) };
+
+    ghost styled_output = { λ kind _. Some (kind_sentence kind) };
+
+    fn fmt<W: fmt::Write>(&self, f: &mut fmt::Formatter<W>) -> fmt::Result {
+        f.write_str(match self {
+            EncodeErrorKind::Memory => "out of memory",
+            EncodeErrorKind::Missing => "an entry is missing",
+            EncodeErrorKind::LeftOver => "an entry is left over",
+            EncodeErrorKind::Kind => "unexpected kind of entry",
+            EncodeErrorKind::Span => "the span of a list or a map is zero, or exceeds the tape",
+            EncodeErrorKind::Fields => "the entry's length or value is invalid for its kind",
+            EncodeErrorKind::Content => "the entry's content is not within the data",
+            EncodeErrorKind::Utf8 => "a string or a key is not UTF-8",
+            EncodeErrorKind::Cid(error) => {
+                f.write_str("invalid link: not a CID: ")?;
+                return error.sentence().fmt(f);
+            }
+            EncodeErrorKind::Float => "a float is NaN or an infinity",
+            EncodeErrorKind::DuplicateKey => "duplicate map key",
         })
     }
 }
@@ -107,7 +101,7 @@ impl From<AllocError> for EncodeErrorKind {
 
 /// An error of writing a block from a tape, with the index of its entry.
 ///
-/// Its `Display` is that of the kind, also with `#`, then ` at entry ` and the index.
+/// Its `Display` is the sentence of the kind, then ` at entry ` and the index.
 #[derive(Clone, Copy, Debug, PartialEq, Eq)]
 pub struct EncodeError {
     /// The kind of the error.
@@ -119,26 +113,16 @@ pub struct EncodeError {
 
 impl fmt::Display for EncodeError {
     ghost use Rattle.std.specs.Prelude.{Some};
-    ghost use Rattle.std.specs.Fmt.{spec_alternate};
-    ghost use Rattle.dag_cbor_tape.specs.ErrorTexts.{error_name, printed};
+    ghost use Rattle.dag_cbor_tape.specs.ErrorTexts.{sentence_of};
 
-    ghost output = { λ error. Some (error_name error) };
+    ghost output = { λ error. Some (sentence_of error) };
 
-    ghost styled_output = { λ error spec. printed (spec_alternate spec) error };
+    ghost styled_output = { λ error _. Some (sentence_of error) };
 
     fn fmt<W: fmt::Write>(&self, f: &mut fmt::Formatter<W>) -> fmt::Result {
         self.kind.fmt(f)?;
-        write_place(f, self.entry)
+        write_number(f, " at entry ", self.entry as u64)
     }
-}
-
-// Writes the index of the entry, after the kind of the error.
-fn write_place<W: fmt::Write>(f: &mut fmt::Formatter<W>, entry: usize) -> fmt::Result
-    ensures writes { WritesOnOk W.write_str_gives f.old result (place_of entry) f.new }
-    ensures styled { WritesStyledOnOk W.write_str_gives f.old result (place_of entry) f.new }
-{
-    f.write_str(" at entry ")?;
-    f.write_str(Buffer::new().format(entry))
 }
 
 impl error::Error for EncodeError {}

@@ -1,6 +1,5 @@
--- The texts that the errors print.
-use Rattle.std.specs.Prelude.{ℕ, Bool, List, ◌++◌, codes, Some, if◌then◌else◌}
-use Rattle.std.specs.declared.option.Option.{Option}
+-- The names and the sentences of the errors.
+use Rattle.std.specs.Prelude.{ℕ, List, ◌++◌, codes}
 use Rattle.std.specs.Fmt.{decimal}
 use Rattle.dag_json.specs.declared.error.DagJsonError.{DagJsonError}
 use Rattle.dag_json.specs.declared.error.DagJsonError.TheVariants as tree
@@ -27,59 +26,41 @@ kind_name NotCanonical = codes "NotCanonical"
 -- the sentence of a kind
 abbrev pub kind_sentence : ReadErrorKind → List ℕ
 kind_sentence Memory = codes "out of memory"
-kind_sentence Utf8 = codes "the bytes are not UTF-8"
-kind_sentence Syntax = codes "the text is no JSON"
-kind_sentence End = codes "the text ends before its value does"
-kind_sentence Float = codes "the number is a float"
-kind_sentence IntegerRange = codes "the integer has more than 128 bits"
-kind_sentence DuplicateKey = codes "the object has the key already"
-kind_sentence Link = codes "the text of the link is no CID of DAG-JSON"
-kind_sentence Bytes = codes "the text of the bytes is no base64 without padding"
-kind_sentence Reserved = codes "the object is reserved for links and bytes, and is neither"
+kind_sentence Utf8 = codes "the text is not valid UTF-8"
+kind_sentence Syntax = codes "not valid JSON"
+kind_sentence End = codes "unexpected end of the text"
+kind_sentence Float = codes "a float, which trees cannot hold"
+kind_sentence IntegerRange = codes "the integer is below -2^127 or above 2^127 - 1"
+kind_sentence DuplicateKey = codes "duplicate key"
+kind_sentence Link = codes "invalid link: not a CID in base32 (version 1) or base58btc (version 0)"
+kind_sentence Bytes = codes "invalid bytes: not base64 without padding"
+kind_sentence Reserved = codes "DAG-JSON reserves this object: it must be {\"/\":\"CID\"} or {\"/\":{\"bytes\":\"..\"}}"
 kind_sentence TooDeep = codes "arrays and objects nest deeper than the limit"
-kind_sentence TooMany = codes "there are more values than the limit"
-kind_sentence NotCanonical = codes "the text is not the canonical one"
+kind_sentence TooMany = codes "more values than the limit"
+kind_sentence NotCanonical = codes "not canonical DAG-JSON"
 
 -- the sentence of a kind, for a text that may have floats
 abbrev pub float_sentence : ReadErrorKind → List ℕ
-float_sentence Float = codes "the number is beyond the floats of 64 bits"
+float_sentence Float = codes "the number is too large for a 64-bit float"
 float_sentence IntegerRange = codes "the integer is below -2^64 or above 2^64 - 1"
 float_sentence kind = kind_sentence kind
 
--- the printed text of a kind: the sentence if the options have `#`, for example in `{kind:#}`, and
--- otherwise the name
-abbrev pub printed_kind : Bool → ReadErrorKind → List ℕ
-printed_kind alternate kind = if alternate then kind_sentence kind else kind_name kind
+-- the sentence of an error of reading, with the byte at which reading stopped
+abbrev pub sentence_of : ReadError → List ℕ
+sentence_of error = kind_sentence error.kind ++ (codes " at byte " ++ decimal error.offset)
 
--- the text after it, with the byte at which reading stopped
-abbrev pub place_of : ℕ → List ℕ
-place_of offset = codes " at byte " ++ decimal offset
+-- the name of an error of writing or of the codec
+abbrev pub write_name : DagJsonError → List ℕ
+write_name tree.Memory = codes "Memory"
+write_name tree.Read = codes "Read"
+write_name tree.Write = codes "Write"
+write_name (tree.Text error) = kind_name error.kind
+write_name (tree.Reserved place) = codes "Reserved"
 
--- the text that an error of reading prints with `{}`
-abbrev pub error_name : ReadError → List ℕ
-error_name error = kind_name error.kind ++ place_of error.offset
-
--- the text that an error of reading prints, by whether the options have `#`
-abbrev pub printed : Bool → ReadError → List ℕ
-printed alternate error = printed_kind alternate error.kind ++ place_of error.offset
-
--- the sentence for the value of a tree that has no DAG-JSON
-abbrev pub reserved_value : ℕ → List ℕ
-reserved_value place = codes "value " ++ (decimal place ++ codes " is a map that DAG-JSON reads as a link or as bytes")
-
--- the text that an error of writing or of the codec prints with `{}`; `text` is the printed text of
--- an error of reading
-abbrev pub write_name : (ReadError → Option (List ℕ)) → DagJsonError → Option (List ℕ)
-write_name text tree.Memory = Some (codes "Memory")
-write_name text tree.Read = Some (codes "Read")
-write_name text tree.Write = Some (codes "Write")
-write_name text (tree.Text error) = text error
-write_name text (tree.Reserved place) = Some (codes "Reserved")
-
--- the text that such an error prints, by whether the options have `#`
-abbrev pub printed_write : (ReadError → Option (List ℕ)) → Bool → DagJsonError → Option (List ℕ)
-printed_write text alternate tree.Memory = Some (if alternate then codes "out of memory" else codes "Memory")
-printed_write text alternate tree.Read = Some (if alternate then codes "the reader failed" else codes "Read")
-printed_write text alternate tree.Write = Some (if alternate then codes "the writer failed" else codes "Write")
-printed_write text alternate (tree.Text error) = text error
-printed_write text alternate (tree.Reserved place) = Some (if alternate then reserved_value place else codes "Reserved")
+-- the sentence of such an error
+abbrev pub write_sentence : DagJsonError → List ℕ
+write_sentence tree.Memory = codes "out of memory"
+write_sentence tree.Read = codes "the reader failed"
+write_sentence tree.Write = codes "the writer failed"
+write_sentence (tree.Text error) = sentence_of error
+write_sentence (tree.Reserved place) = codes "DAG-JSON would read a link or bytes in place of the map that is value " ++ decimal place

@@ -1,18 +1,17 @@
 //! The error of writing a tree, and of the calls of the codec.
 
-ghost use Rattle.std.specs.Fmt.{WritesStyledOnOk};
+ghost use Rattle.std.specs.Prelude.{◌≡◌};
 ghost use Rattle.dag_json.specs.declared.error.DagJsonError.TheVariants.{Memory};
-ghost use Rattle.dag_json.specs.Errors.{reserved_value};
+ghost use Rattle.dag_json.specs.Errors.{write_name};
 
 use crate::read_error::{ReadError, ReadErrorKind};
-use itoa::Buffer;
+use ipld_cid::write_number;
 use std::alloc::{AllocError, AllocFailed};
 use std::{error, fmt};
 
 /// An error of writing a tree as DAG-JSON, or of a call of [`DagJsonCodec`](crate::DagJsonCodec).
 ///
-/// Its `Display` is the variant's name, or for `Text` that of its [`ReadError`]. With `#`
-/// (`{error:#}`), it is a sentence that describes the error.
+/// Its `Display` is a sentence that describes the error.
 #[derive(Clone, Copy, Debug, PartialEq, Eq)]
 pub enum DagJsonError {
     /// An allocation failed, here or in the writer, if the writer reports so.
@@ -34,8 +33,6 @@ pub enum DagJsonError {
 }
 
 impl From<AllocError> for DagJsonError {
-    ghost use Rattle.std.specs.Prelude.{◌≡◌};
-
     ghost from_gives = { λ _ error. error ≡ Memory };
 
     fn from(_error: AllocError) -> Self {
@@ -44,8 +41,6 @@ impl From<AllocError> for DagJsonError {
 }
 
 impl<T: Drop> From<AllocFailed<T>> for DagJsonError {
-    ghost use Rattle.std.specs.Prelude.{◌≡◌};
-
     ghost from_gives = { λ _ error. error ≡ Memory };
 
     fn from(_error: AllocFailed<T>) -> Self {
@@ -66,50 +61,42 @@ impl From<ReadError> for DagJsonError {
     }
 }
 
-impl fmt::Display for DagJsonError {
-    ghost use Rattle.std.specs.Fmt.{spec_alternate};
-    ghost use Rattle.dag_json.specs.Errors.{write_name, printed_write};
-
-    ghost output = { write_name ⟦<ReadError as fmt::Display>⟧.output };
-
-    ghost styled_output = { λ error spec. printed_write (λ text. ⟦<ReadError as fmt::Display>⟧.styled_output text spec) (spec_alternate spec) error };
-
-    fn fmt<W: fmt::Write>(&self, f: &mut fmt::Formatter<W>) -> fmt::Result {
+impl DagJsonError {
+    /// Returns the name of the variant, or for `Text` that of the [`ReadError`]'s kind.
+    pub fn name(&self) -> &'static str
+        ensures { result.now ≡ write_name self.now }
+    {
         match self {
-            DagJsonError::Memory => f.write_str(if f.alternate() {
-                "out of memory"
-            } else {
-                "Memory"
-            }),
-            DagJsonError::Read => f.write_str(if f.alternate() {
-                "the reader failed"
-            } else {
-                "Read"
-            }),
-            DagJsonError::Write => f.write_str(if f.alternate() {
-                "the writer failed"
-            } else {
-                "Write"
-            }),
-            DagJsonError::Text(error) => error.fmt(f),
-            DagJsonError::Reserved(place) => {
-                if f.alternate() {
-                    write_reserved(f, *place)
-                } else {
-                    f.write_str("Reserved")
-                }
-            }
+            DagJsonError::Memory => "Memory",
+            DagJsonError::Read => "Read",
+            DagJsonError::Write => "Write",
+            DagJsonError::Text(error) => error.kind.name(),
+            DagJsonError::Reserved(_) => "Reserved",
         }
     }
 }
 
-// Writes which value is a map that DAG-JSON reserves.
-fn write_reserved<W: fmt::Write>(f: &mut fmt::Formatter<W>, place: usize) -> fmt::Result
-    ensures { WritesStyledOnOk W.write_str_gives f.old result (reserved_value place) f.new }
-{
-    f.write_str("value ")?;
-    f.write_str(Buffer::new().format(place))?;
-    f.write_str(" is a map that DAG-JSON reads as a link or as bytes")
+impl fmt::Display for DagJsonError {
+    ghost use Rattle.std.specs.Prelude.{Some};
+    ghost use Rattle.dag_json.specs.Errors.{write_sentence};
+
+    ghost output = { λ error. Some (write_sentence error) };
+
+    ghost styled_output = { λ error _. Some (write_sentence error) };
+
+    fn fmt<W: fmt::Write>(&self, f: &mut fmt::Formatter<W>) -> fmt::Result {
+        match self {
+            DagJsonError::Memory => f.write_str("out of memory"),
+            DagJsonError::Read => f.write_str("the reader failed"),
+            DagJsonError::Write => f.write_str("the writer failed"),
+            DagJsonError::Text(error) => error.fmt(f),
+            DagJsonError::Reserved(place) => write_number(
+                f,
+                "DAG-JSON would read a link or bytes in place of the map that is value ",
+                *place as u64,
+            ),
+        }
+    }
 }
 
 impl error::Error for DagJsonError {}

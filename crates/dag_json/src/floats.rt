@@ -158,15 +158,15 @@ pub fn from_slice(alloc: Global, bytes: &[u8], limits: &Limits) -> Result<Ipld, 
     }
 }
 
-/// Returns a sentence that describes an error of a text that may have floats. It is the `Display`
-/// of the kind with `#`, except for `Float` and `IntegerRange`.
-pub fn describe(kind: ReadErrorKind) -> &'static str
+/// Returns the sentence that describes an error of a text that may have floats. It is that of the
+/// kind, except for `Float` and `IntegerRange`.
+pub fn sentence(kind: ReadErrorKind) -> &'static str
     ensures { result.now ≡ float_sentence kind }
 {
     match kind {
-        ReadErrorKind::Float => "the number is beyond the floats of 64 bits",
+        ReadErrorKind::Float => "the number is too large for a 64-bit float",
         ReadErrorKind::IntegerRange => "the integer is below -2^64 or above 2^64 - 1",
-        kind => kind.describe(),
+        kind => kind.sentence(),
     }
 }
 

@@ -1,10 +1,9 @@
 //! The errors of reading a text as a tree, with their offsets.
 
 ghost use Rattle.std.specs.Prelude.{◌≡◌};
-ghost use Rattle.std.specs.Fmt.{WritesOnOk, WritesStyledOnOk};
-ghost use Rattle.dag_json.specs.Errors.{kind_name, kind_sentence, place_of};
+ghost use Rattle.dag_json.specs.Errors.{kind_name, kind_sentence};
 
-use itoa::Buffer;
+use ipld_cid::write_number;
 use std::{error, fmt};
 
 /// The kind of a [`ReadError`]: the reason why a text isn't read as DAG-JSON.
@@ -28,8 +27,7 @@ use std::{error, fmt};
 /// carriage return. So `1"a"` is one word, and `Syntax` at byte 0. A string ends with its quote, so
 /// in `"a"1` the error is the `1`, at byte 3.
 ///
-/// Its `Display` is the variant's name. With `#` (`{error:#}`), it is a sentence that describes the
-/// error.
+/// Its `Display` is a sentence that describes the error.
 #[derive(Clone, Copy, Debug, PartialEq, Eq)]
 pub enum ReadErrorKind {
     /// An allocation failed.
@@ -67,29 +65,8 @@ pub enum ReadErrorKind {
 }
 
 impl ReadErrorKind {
-    // Returns a sentence that describes the error.
-    pub(crate) fn describe(&self) -> &'static str
-        ensures { result.now ≡ kind_sentence self.now }
-    {
-        match self {
-            ReadErrorKind::Memory => "out of memory",
-            ReadErrorKind::Utf8 => "the bytes are not UTF-8",
-            ReadErrorKind::Syntax => "the text is no JSON",
-            ReadErrorKind::End => "the text ends before its value does",
-            ReadErrorKind::Float => "the number is a float",
-            ReadErrorKind::IntegerRange => "the integer has more than 128 bits",
-            ReadErrorKind::DuplicateKey => "the object has the key already",
-            ReadErrorKind::Link => "the text of the link is no CID of DAG-JSON",
-            ReadErrorKind::Bytes => "the text of the bytes is no base64 without padding",
-            ReadErrorKind::Reserved => "the object is reserved for links and bytes, and is neither",
-            ReadErrorKind::TooDeep => "arrays and objects nest deeper than the limit",
-            ReadErrorKind::TooMany => "there are more values than the limit",
-            ReadErrorKind::NotCanonical => "the text is not the canonical one",
-        }
-    }
-
-    // Returns the name of the variant.
-    fn name(&self) -> &'static str
+    /// Returns the name of the variant.
+    pub fn name(&self) -> &'static str
         ensures { result.now ≡ kind_name self.now }
     {
         match self {
@@ -108,29 +85,47 @@ impl ReadErrorKind {
             ReadErrorKind::NotCanonical => "NotCanonical",
         }
     }
+
+    /// Returns the sentence that describes the error. `{kind}` prints the same.
+    pub fn sentence(&self) -> &'static str
+        ensures { result.now ≡ kind_sentence self.now }
+    {
+        match self {
+            ReadErrorKind::Memory => "out of memory",
+            ReadErrorKind::Utf8 => "the text is not valid UTF-8",
+            ReadErrorKind::Syntax => "not valid JSON",
+            ReadErrorKind::End => "unexpected end of the text",
+            ReadErrorKind::Float => "a float, which trees cannot hold",
+            ReadErrorKind::IntegerRange => "the integer is below -2^127 or above 2^127 - 1",
+            ReadErrorKind::DuplicateKey => "duplicate key",
+            ReadErrorKind::Link =>
+                "invalid link: not a CID in base32 (version 1) or base58btc (version 0)",
+            ReadErrorKind::Bytes => "invalid bytes: not base64 without padding",
+            ReadErrorKind::Reserved => {
+                "DAG-JSON reserves this object: it must be {\"/\":\"CID\"} or {\"/\":{\"bytes\":\"..\"}}"
+            }
+            ReadErrorKind::TooDeep => "arrays and objects nest deeper than the limit",
+            ReadErrorKind::TooMany => "more values than the limit",
+            ReadErrorKind::NotCanonical => "not canonical DAG-JSON",
+        }
+    }
 }
 
 impl fmt::Display for ReadErrorKind {
     ghost use Rattle.std.specs.Prelude.{Some};
-    ghost use Rattle.std.specs.Fmt.{spec_alternate};
-    ghost use Rattle.dag_json.specs.Errors.{kind_name, printed_kind};
 
-    ghost output = { λ kind. Some (kind_name kind) };
+    ghost output = { λ kind. Some (kind_sentence kind) };
 
-    ghost styled_output = { λ kind spec. Some (printed_kind (spec_alternate spec) kind) };
+    ghost styled_output = { λ kind _. Some (kind_sentence kind) };
 
     fn fmt<W: fmt::Write>(&self, f: &mut fmt::Formatter<W>) -> fmt::Result {
-        if f.alternate() {
-            f.write_str(self.describe())
-        } else {
-            f.write_str(self.name())
-        }
+        f.write_str(self.sentence())
     }
 }
 
 /// An error of reading a text as DAG-JSON, with its offset.
 ///
-/// Its `Display` is that of the kind, also with `#`, then ` at byte ` and the offset.
+/// Its `Display` is the sentence of the kind, then ` at byte ` and the offset.
 #[derive(Clone, Copy, Debug, PartialEq, Eq)]
 pub struct ReadError {
     /// The kind of the error.
@@ -151,26 +146,16 @@ pub struct ReadError {
 
 impl fmt::Display for ReadError {
     ghost use Rattle.std.specs.Prelude.{Some};
-    ghost use Rattle.std.specs.Fmt.{spec_alternate};
-    ghost use Rattle.dag_json.specs.Errors.{error_name, printed};
+    ghost use Rattle.dag_json.specs.Errors.{sentence_of};
 
-    ghost output = { λ error. Some (error_name error) };
+    ghost output = { λ error. Some (sentence_of error) };
 
-    ghost styled_output = { λ error spec. Some (printed (spec_alternate spec) error) };
+    ghost styled_output = { λ error _. Some (sentence_of error) };
 
     fn fmt<W: fmt::Write>(&self, f: &mut fmt::Formatter<W>) -> fmt::Result {
-        self.kind.fmt(f)?;
-        write_place(f, self.offset)
+        f.write_str(self.kind.sentence())?;
+        write_number(f, " at byte ", self.offset as u64)
     }
-}
-
-// Writes the byte at which reading stopped, after the kind of the error.
-fn write_place<W: fmt::Write>(f: &mut fmt::Formatter<W>, offset: usize) -> fmt::Result
-    ensures writes { WritesOnOk W.write_str_gives f.old result (place_of offset) f.new }
-    ensures styled { WritesStyledOnOk W.write_str_gives f.old result (place_of offset) f.new }
-{
-    f.write_str(" at byte ")?;
-    f.write_str(Buffer::new().format(offset))
 }
 
 impl error::Error for ReadError {}

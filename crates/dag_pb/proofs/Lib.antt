@@ -8,4 +8,3 @@ mod NodeLaws
 mod Collecting
 mod Places
 mod Spanning
-mod Texts

@@ -1,7 +1,7 @@
--- The texts that the errors print.
-use Rattle.std.specs.Prelude.{ℕ, List, ◌++◌, ◌/◌, ◌%◌, codes, Bool, Some, None, if◌then◌else◌}
-use Rattle.std.specs.declared.option.Option.{Option}
-use Rattle.std.specs.Fmt.{decimal, ◌++?◌}
+-- The names and the sentences of the errors.
+use Rattle.std.specs.Prelude.{ℕ, List, ◌++◌, ◌/◌, ◌%◌, codes}
+use Rattle.std.specs.Fmt.{decimal}
+use Rattle.ipld_cid.specs.Error as cid
 use Rattle.dag_pb.specs.declared.error.PbError.{PbError}
 use Rattle.dag_pb.specs.declared.error.PbErrorKind.{PbErrorKind}
 use Rattle.dag_pb.specs.declared.error.PbErrorKind.TheVariants.{Memory, End, VarintTooLarge, UnknownField, FieldOrder, NoHash, Cid, Utf8}
@@ -17,29 +17,17 @@ name_of NoHash = codes "NoHash"
 name_of (Cid error) = codes "Cid"
 name_of Utf8 = codes "Utf8"
 
--- the sentence of a kind, or nothing for the error of a CID
-abbrev pub sentence_of : PbErrorKind → Option (List ℕ)
-sentence_of Memory = Some (codes "out of memory")
-sentence_of End = Some (codes "the bytes end before the field does")
-sentence_of VarintTooLarge = Some (codes "a varint encodes a number of 2^64 or more")
-sentence_of (UnknownField key) = Some (codes "no field here has the number " ++ (decimal (key / 8) ++ (codes " and the wire type " ++ decimal (key % 8))))
-sentence_of FieldOrder = Some (codes "a field comes twice or out of order")
-sentence_of NoHash = Some (codes "a link does not begin with its hash")
-sentence_of (Cid error) = None
-sentence_of Utf8 = Some (codes "the name of a link is not UTF-8")
+-- the sentence of a kind
+abbrev pub kind_sentence : PbErrorKind → List ℕ
+kind_sentence Memory = codes "out of memory"
+kind_sentence End = codes "the bytes end within a field"
+kind_sentence VarintTooLarge = codes "a varint has more than ten bytes, or encodes a number of 2^64 or more"
+kind_sentence (UnknownField key) = (codes "unknown field " ++ decimal (key / 8)) ++ (codes " of wire type " ++ decimal (key % 8))
+kind_sentence FieldOrder = codes "a field is repeated or out of order"
+kind_sentence NoHash = codes "a link does not begin with its hash"
+kind_sentence (Cid error) = codes "the hash of a link is not a CID: " ++ cid.sentence_of error
+kind_sentence Utf8 = codes "the name of a link is not UTF-8"
 
--- the sentence if `#` is among the options (`{kind:#}`), and otherwise the name
-abbrev pub printed : Bool → PbErrorKind → Option (List ℕ)
-printed alternate kind = if alternate then sentence_of kind else Some (name_of kind)
-
--- the text after that: the offset of the error
-abbrev pub place_of : ℕ → List ℕ
-place_of offset = codes " at byte " ++ decimal offset
-
--- the text that an error prints by `{}`
-abbrev pub error_name : PbError → List ℕ
-error_name error = name_of error.kind ++ place_of error.offset
-
--- the text that an error prints, by whether `#` is among the options
-abbrev pub printed_error : Bool → PbError → Option (List ℕ)
-printed_error alternate error = printed alternate error.kind ++? Some (place_of error.offset)
+-- the sentence of an error, with its offset
+abbrev pub sentence_of : PbError → List ℕ
+sentence_of error = kind_sentence error.kind ++ (codes " at byte " ++ decimal error.offset)

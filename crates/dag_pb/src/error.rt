@@ -1,20 +1,17 @@
 //! The errors of reading a block of DAG-PB.
 
 ghost use Rattle.std.specs.Prelude.{◌≡◌};
-ghost use Rattle.std.specs.Fmt.{DisplaysStyledOnOk, WritesOnOk, WritesStyledOnOk};
 ghost use Rattle.dag_pb.specs.declared.error.PbErrorKind.TheVariants.{Memory};
-ghost use Rattle.dag_pb.specs.ErrorNames.{sentence_of, place_of};
+ghost use Rattle.dag_pb.specs.ErrorNames.{name_of};
 ghost use Rattle.dag_pb.specs.Errors.{error_in};
 
-use ipld_cid::CidError;
-use itoa::Buffer;
+use ipld_cid::{CidError, write_number};
 use std::alloc::AllocError;
 use std::{error, fmt};
 
 /// The kind of a [`PbError`]: the error in a field of a block of DAG-PB.
 ///
-/// Its `Display` is the variant's name, without its content. With `#` (`{error:#}`), it is a
-/// sentence that describes the error.
+/// Its `Display` is a sentence that describes the error.
 #[derive(Clone, Copy, Debug, PartialEq, Eq)]
 pub enum PbErrorKind {
     /// An allocation failed.
@@ -37,47 +34,11 @@ pub enum PbErrorKind {
 }
 
 impl PbErrorKind {
-    // Writes a sentence that describes the error.
-    fn describe<W: fmt::Write>(&self, f: &mut fmt::Formatter<W>) -> fmt::Result
-        ensures { DisplaysStyledOnOk W.write_str_gives f.old result (sentence_of self.now) f.new }
+    /// Returns the name of the variant.
+    pub fn name(&self) -> &'static str
+        ensures { result.now ≡ name_of self.now }
     {
         match self {
-            PbErrorKind::Memory => f.write_str("out of memory"),
-            PbErrorKind::End => f.write_str("the bytes end before the field does"),
-            PbErrorKind::VarintTooLarge => {
-                f.write_str("a varint encodes a number of 2^64 or more")
-            }
-            PbErrorKind::UnknownField(key) => {
-                f.write_str("no field here has the number ")?;
-                f.write_str(Buffer::new().format(key / 8))?;
-                f.write_str(" and the wire type ")?;
-                f.write_str(Buffer::new().format(key % 8))
-            }
-            PbErrorKind::FieldOrder => f.write_str("a field comes twice or out of order"),
-            PbErrorKind::NoHash => f.write_str("a link does not begin with its hash"),
-            PbErrorKind::Cid(error) => {
-                f.write_str("the hash of a link is no CID: ")?;
-                fmt::Display::fmt(error, f)
-            }
-            PbErrorKind::Utf8 => f.write_str("the name of a link is not UTF-8"),
-        }
-    }
-}
-
-impl fmt::Display for PbErrorKind {
-    ghost use Rattle.std.specs.Prelude.{Some};
-    ghost use Rattle.std.specs.Fmt.{spec_alternate};
-    ghost use Rattle.dag_pb.specs.ErrorNames.{name_of, printed};
-
-    ghost output = { λ kind. Some (name_of kind) };
-
-    ghost styled_output = { λ kind spec. printed (spec_alternate spec) kind };
-
-    fn fmt<W: fmt::Write>(&self, f: &mut fmt::Formatter<W>) -> fmt::Result {
-        if f.alternate() {
-            return self.describe(f);
-        }
-        f.write_str(match self {
             PbErrorKind::Memory => "Memory",
             PbErrorKind::End => "End",
             PbErrorKind::VarintTooLarge => "VarintTooLarge",
@@ -86,13 +47,43 @@ impl fmt::Display for PbErrorKind {
             PbErrorKind::NoHash => "NoHash",
             PbErrorKind::Cid(_) => "Cid",
             PbErrorKind::Utf8 => "Utf8",
+        }
+    }
+}
+
+impl fmt::Display for PbErrorKind {
+    ghost use Rattle.std.specs.Prelude.{Some};
+    ghost use Rattle.dag_pb.specs.ErrorNames.{kind_sentence};
+
+    ghost output = { λ kind. Some (kind_sentence kind) };
+
+    ghost styled_output = { λ kind _. Some (kind_sentence kind) };
+
+    fn fmt<W: fmt::Write>(&self, f: &mut fmt::Formatter<W>) -> fmt::Result {
+        f.write_str(match self {
+            PbErrorKind::Memory => "out of memory",
+            PbErrorKind::End => "the bytes end within a field",
+            PbErrorKind::VarintTooLarge => {
+                "a varint has more than ten bytes, or encodes a number of 2^64 or more"
+            }
+            PbErrorKind::UnknownField(key) => {
+                write_number(f, "unknown field ", key / 8)?;
+                return write_number(f, " of wire type ", key % 8);
+            }
+            PbErrorKind::FieldOrder => "a field is repeated or out of order",
+            PbErrorKind::NoHash => "a link does not begin with its hash",
+            PbErrorKind::Cid(error) => {
+                f.write_str("the hash of a link is not a CID: ")?;
+                return error.sentence().fmt(f);
+            }
+            PbErrorKind::Utf8 => "the name of a link is not UTF-8",
         })
     }
 }
 
 /// An error of reading a block of DAG-PB, with its offset. It is the first error from the left.
 ///
-/// Its `Display` is that of the kind, also with `#`, then ` at byte ` and the offset.
+/// Its `Display` is the sentence of the kind, then ` at byte ` and the offset.
 #[derive(Clone, Copy, Debug, PartialEq, Eq)]
 pub struct PbError {
     /// The kind of the error.
@@ -108,26 +99,16 @@ pub struct PbError {
 
 impl fmt::Display for PbError {
     ghost use Rattle.std.specs.Prelude.{Some};
-    ghost use Rattle.std.specs.Fmt.{spec_alternate};
-    ghost use Rattle.dag_pb.specs.ErrorNames.{error_name, printed_error};
+    ghost use Rattle.dag_pb.specs.ErrorNames.{sentence_of};
 
-    ghost output = { λ error. Some (error_name error) };
+    ghost output = { λ error. Some (sentence_of error) };
 
-    ghost styled_output = { λ error spec. printed_error (spec_alternate spec) error };
+    ghost styled_output = { λ error _. Some (sentence_of error) };
 
     fn fmt<W: fmt::Write>(&self, f: &mut fmt::Formatter<W>) -> fmt::Result {
         self.kind.fmt(f)?;
-        write_place(f, self.offset)
+        write_number(f, " at byte ", self.offset as u64)
     }
-}
-
-// Writes the byte of the error, after its kind.
-fn write_place<W: fmt::Write>(f: &mut fmt::Formatter<W>, offset: usize) -> fmt::Result
-    ensures writes { WritesOnOk W.write_str_gives f.old result (place_of offset) f.new }
-    ensures styled { WritesStyledOnOk W.write_str_gives f.old result (place_of offset) f.new }
-{
-    f.write_str(" at byte ")?;
-    f.write_str(Buffer::new().format(offset))
 }
 
 impl error::Error for PbError {}

@@ -31,7 +31,7 @@ pub fn show(rt: &impl Print, alloc: Global) -> anyhow::Result<()> {
     println!(rt; "{}", text_of_bytes(alloc, BYTES)?)?;
     match text_of_bytes(alloc, &BYTES[..35]) {
         Ok(text) => println!(rt; "{text}")?,
-        Err(error) => println!(rt; "{error}")?,
+        Err(error) => println!(rt; "{}", error.sentence())?,
     }
     Ok(())
 }

@@ -147,7 +147,7 @@ pub fn show(rt: &impl Print, alloc: Global) -> anyhow::Result<()> {
     println!(rt; "the same photo: {}", same == photo)?;
     match from_slice::<Photo>(alloc, b"\xa1\x65title\x65Ferry") {
         Ok(_) => println!(rt; "a photo of one field")?,
-        Err(error) => println!(rt; "{error:#}")?,
+        Err(error) => println!(rt; "{error}")?,
     }
     show_why(rt, alloc, b"\xa1\x65title\x65Ferry")?;
     show_why(rt, alloc, b"\xa1\x65title\x01")

@@ -6,5 +6,5 @@ use Rattle.ipld_block.specs.declared.block_cid.error.VerifyError.TheVariants.{Un
 
 -- The sentence of an error.
 abbrev pub sentence_of : VerifyError → List ℕ
-sentence_of (UnknownHash code) = codes "unknown hash code " ++ decimal code
-sentence_of WrongDigest = codes "the block has another digest than the CID"
+sentence_of (UnknownHash code) = codes "unsupported hash function with the code " ++ decimal code
+sentence_of WrongDigest = codes "the block's digest is not that of its CID"

@@ -1,8 +1,12 @@
 //! The errors of bytes that are not a block.
 
+ghost use Rattle.std.specs.Prelude.{◌≡◌, Some};
+ghost use Rattle.ipld_block.specs.ErrorTexts.{name_of, offset_of};
+
 use dag_cbor_blocks::BlockError;
 use dag_json::{ReadError, ReadErrorKind, floats};
 use dag_pb::{PbError, PbErrorKind};
+use ipld_cid::write_number;
 use std::alloc::AllocError;
 use std::{error, fmt};
 
@@ -22,24 +26,56 @@ pub enum InvalidBlock {
     NotCanonical,
 }
 
+impl InvalidBlock {
+    /// Returns the name of the error's kind, or `NotCanonical`.
+    pub fn name(&self) -> &'static str
+        ensures { result.now ≡ name_of self.now }
+    {
+        match self {
+            InvalidBlock::Cbor(error) => error.kind.name(),
+            InvalidBlock::Pb(error) => error.kind.name(),
+            InvalidBlock::Json(error) => error.kind.name(),
+            InvalidBlock::NotCanonical => "NotCanonical",
+        }
+    }
+
+    /// Returns the byte of the block at which reading stopped, or `None` for `NotCanonical`.
+    pub fn offset(&self) -> Option<usize>
+        ensures { result ≡ offset_of self.now }
+    {
+        match self {
+            InvalidBlock::Cbor(error) => Some(error.offset),
+            InvalidBlock::Pb(error) => Some(error.offset),
+            InvalidBlock::Json(error) => Some(error.offset),
+            InvalidBlock::NotCanonical => None,
+        }
+    }
+}
+
 impl fmt::Display for InvalidBlock {
     ghost use Rattle.ipld_block.specs.ErrorTexts.{sentence_of};
 
-    ghost output = { sentence_of };
+    ghost output = { λ why. Some (sentence_of why) };
 
-    ghost styled_output = { λ why _. sentence_of why };
+    ghost styled_output = { λ why _. Some (sentence_of why) };
 
     fn fmt<W: fmt::Write>(&self, f: &mut fmt::Formatter<W>) -> fmt::Result {
         match self {
-            InvalidBlock::Cbor(error) => write!(f, "no block of DAG-CBOR: {error:#}"),
-            InvalidBlock::Pb(error) => write!(f, "no block of DAG-PB: {error:#}"),
+            InvalidBlock::Cbor(error) => {
+                f.write_str("not valid DAG-CBOR: ")?;
+                error.fmt(f)
+            }
+            InvalidBlock::Pb(error) => {
+                f.write_str("not valid DAG-PB: ")?;
+                error.fmt(f)
+            }
             InvalidBlock::Json(error) => {
-                let why = floats::describe(error.kind);
-                let offset = error.offset;
-                write!(f, "no block of DAG-JSON: {why} at byte {offset}")
+                f.write_str("not valid DAG-JSON: ")?;
+                f.write_str(floats::sentence(error.kind))?;
+                write_number(f, " at byte ", error.offset as u64)
             }
             InvalidBlock::NotCanonical => f.write_str(
-                "a block, but not in canonical form: the keys of a map are not sorted length first",
+                "valid, but not canonical DAG-CBOR: the keys of a map are not sorted length first",
             ),
         }
     }
@@ -59,9 +95,9 @@ pub enum CheckError {
 impl fmt::Display for CheckError {
     ghost use Rattle.ipld_block.specs.ErrorTexts.{check_sentence};
 
-    ghost output = { check_sentence };
+    ghost output = { λ error. Some (check_sentence error) };
 
-    ghost styled_output = { λ error _. check_sentence error };
+    ghost styled_output = { λ error _. Some (check_sentence error) };
 
     fn fmt<W: fmt::Write>(&self, f: &mut fmt::Formatter<W>) -> fmt::Result {
         match self {
@@ -74,7 +110,6 @@ impl fmt::Display for CheckError {
 impl error::Error for CheckError {}
 
 impl From<AllocError> for CheckError {
-    ghost use Rattle.std.specs.Prelude.{◌≡◌};
     ghost use Rattle.ipld_block.specs.declared.error.CheckError.TheVariants.{Memory};
 
     ghost from_gives = { λ _ error. error ≡ Memory };

@@ -15,4 +15,3 @@ pub mod Payloads
 pub mod LengthsInMemory
 pub mod FramesInMemory
 pub mod SectionsInMemory
-mod ErrorTexts

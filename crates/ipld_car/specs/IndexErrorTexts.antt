@@ -11,11 +11,11 @@ abbrev pub styled_sentence : IndexError → Option (List ℕ)
 styled_sentence Memory = Some (codes "out of memory")
 styled_sentence (Read error) = None
 styled_sentence UnexpectedEnd = Some (codes "the file ends within the index")
-styled_sentence FormatNotShortest = Some (codes "the varint of the index's format is not in its shortest form")
+styled_sentence FormatNotShortest = Some (codes "the index's format is not in its shortest form")
 styled_sentence FormatTooLarge = Some (codes "the index's format is 2^64 or more")
 styled_sentence (Format code) = None
-styled_sentence (Width width) = Some (codes "the index has rows of " ++ (decimal width ++ codes " bytes, and 8 to 72 are read"))
-styled_sentence (Length length) = Some (codes "the index has " ++ (decimal length ++ codes " bytes of rows, which is no number of rows"))
+styled_sentence (Width width) = Some (codes "the rows of the index should have 8 to 72 bytes, but have " ++ decimal width)
+styled_sentence (Length length) = Some (codes "the index is not a whole number of rows: its length is " ++ decimal length)
 styled_sentence NotSorted = Some (codes "the index is not sorted")
 
 -- false: hexadecimal digits above nine are lower case
@@ -25,5 +25,5 @@ in_capitals = false
 -- the sentence that `{}` prints, also for another format, with its code in hexadecimal digits, or
 -- nothing for an error of a reader
 abbrev pub sentence_of : IndexError → Option (List ℕ)
-sentence_of (Format code) = Some (codes "the index has the format 0x" ++ (digits 16 in_capitals code ++ codes ", and 0x401 alone is read"))
+sentence_of (Format code) = Some (codes "unsupported format of the index: expected 0x401, found 0x" ++ digits 16 in_capitals code)
 sentence_of error = styled_sentence error

@@ -1,12 +1,7 @@
 //! The errors of reading a CAR, with their offsets.
 
-ghost use Rattle.std.specs.Prelude.{◌++◌};
-ghost use Rattle.std.specs.Fmt.{WritesOnOk, WritesStyledOnOk, decimal};
-ghost use Rattle.ipld_car.specs.ErrorTexts.{place_of};
-
 use dag_cbor::BlockErrorKind;
-use ipld_cid::CidError;
-use itoa::Buffer;
+use ipld_cid::{CidError, write_number};
 use std::{error, fmt, io};
 
 /// The reason why a CAR cannot be read.
@@ -55,7 +50,7 @@ pub enum CarErrorKind {
 
 /// An error of reading a CAR, with its offset.
 ///
-/// Its `Display` is that of the kind, then ` at byte ` and the offset.
+/// Its `Display` is the sentence of the kind, then ` at byte ` and the offset.
 #[derive(Debug, Drop)]
 pub struct CarError {
     /// The kind of the error.
@@ -77,94 +72,64 @@ pub struct CarError {
 }
 
 impl fmt::Display for CarErrorKind {
-    ghost use Rattle.ipld_car.specs.ErrorTexts.{sentence_of};
+    ghost use Rattle.ipld_car.specs.ErrorTexts.{kind_sentence};
 
-    ghost output = { sentence_of };
+    ghost output = { kind_sentence };
 
-    ghost styled_output = { λ kind _. sentence_of kind };
+    ghost styled_output = { λ kind _. kind_sentence kind };
 
     fn fmt<W: fmt::Write>(&self, f: &mut fmt::Formatter<W>) -> fmt::Result {
-        match self {
-            CarErrorKind::Memory => f.write_str("out of memory"),
-            CarErrorKind::Read(error) => write!(f, "the reader failed: {error}"),
+        f.write_str(match self {
+            CarErrorKind::Memory => "out of memory",
+            CarErrorKind::Read(error) => return write!(f, "cannot read: {error}"),
             CarErrorKind::UnexpectedEnd => {
-                f.write_str("the file or its payload ends within a header or a section")
-            },
+                "the file or its payload ends within a header or a section"
+            }
             CarErrorKind::ShortPayload { expected, found } => {
-                write_number(
-                    f,
-                    "the payload has ",
-                    *expected,
-                    " bytes by its header, and the file ends after ",
-                )?;
-                f.write_str(Buffer::new().format(*found))
+                write_number(f, "the payload is cut off after ", *found)?;
+                return write_number(f, " bytes of ", *expected);
             }
             CarErrorKind::LengthNotShortest => {
-                f.write_str("the length of a header or a section is no shortest varint")
+                "the length of a header or a section is not in its shortest form"
             }
-            CarErrorKind::LengthTooLarge => {
-                f.write_str("the length of a header or a section is 2^64 or more")
-            }
-            CarErrorKind::Empty => f.write_str("a header or a section has the length zero"),
+            CarErrorKind::LengthTooLarge => "the length of a header or a section is 2^64 or more",
+            CarErrorKind::Empty => "a header or a section has the length zero",
             CarErrorKind::TooLong(length) => {
-                write_number(
+                return write_number(
                     f,
-                    "a header or a section has ",
+                    "a header or a section is over the limit: its length is ",
                     *length,
-                    " bytes, more than the limit",
-                )
+                );
             }
             CarErrorKind::Cid(error) => {
-                write!(f, "a section doesn't begin with a CID: {error:#}")
+                f.write_str("a section does not begin with a CID: ")?;
+                return error.sentence().fmt(f);
             }
             CarErrorKind::HeaderBlock(error) => {
-                write!(f, "the header is no block of DAG-CBOR: {error:#}")
+                f.write_str("the header is not valid DAG-CBOR: ")?;
+                return error.fmt(f);
             }
-            CarErrorKind::NotAHeader => f.write_str("the header has no roots, or another version"),
+            CarErrorKind::NotAHeader => {
+                "not the header of a CAR: expected a map of roots, a list of links, and version, 1"
+            }
             CarErrorKind::Payload => {
-                f.write_str("the header of version 2 places the payload where none can be")
+                "the payload's offset or size in the header of version 2 is out of range"
             }
-        }
+        })
     }
 }
 
 impl fmt::Display for CarError {
-    ghost use Rattle.ipld_car.specs.ErrorTexts.{text_of};
+    ghost use Rattle.ipld_car.specs.ErrorTexts.{sentence_of};
 
-    ghost output = { text_of };
+    ghost output = { sentence_of };
 
-    ghost styled_output = { λ error _. text_of error };
+    ghost styled_output = { λ error _. sentence_of error };
 
     fn fmt<W: fmt::Write>(&self, f: &mut fmt::Formatter<W>) -> fmt::Result {
         self.kind.fmt(f)?;
-        write_place(f, self.offset)
+        write_number(f, " at byte ", self.offset)
     }
-}
-
-// Writes the byte at which the error is, after the sentence.
-fn write_place<W: fmt::Write>(f: &mut fmt::Formatter<W>, offset: u64) -> fmt::Result
-    ensures writes { WritesOnOk W.write_str_gives f.old result (place_of offset) f.new }
-    ensures styled { WritesStyledOnOk W.write_str_gives f.old result (place_of offset) f.new }
-{
-    f.write_str(" at byte ")?;
-    f.write_str(Buffer::new().format(offset))
-}
-
-// Writes a number between two strings.
-pub(crate) fn write_number<W: fmt::Write>(
-    f: &mut fmt::Formatter<W>,
-    before: &str,
-    number: u64,
-    after: &str,
-) -> fmt::Result
-    ensures writes { WritesOnOk W.write_str_gives f.old result
-        (before.now ++ (decimal number ++ after.now)) f.new }
-    ensures styled { WritesStyledOnOk W.write_str_gives f.old result
-        (before.now ++ (decimal number ++ after.now)) f.new }
-{
-    f.write_str(before)?;
-    f.write_str(Buffer::new().format(number))?;
-    f.write_str(after)
 }
 
 impl error::Error for CarError {}

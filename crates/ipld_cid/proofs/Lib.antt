@@ -11,3 +11,4 @@ pub mod Texts
 pub mod VarintReading
 pub mod VarintWriting
 pub mod Varints
+pub mod Sentences

@@ -33,6 +33,6 @@ mod varint;
 pub use base32::BASE32_VALUES;
 pub use byte_buffer::ByteBuffer;
 pub use cid::{CID_SERDE_PRIVATE_IDENTIFIER, Cid, CidGeneric, MAX_CID_LEN, Version};
-pub use error::CidError;
+pub use error::{CidError, CidSentence, write_number};
 pub use multicodec::{DAG_CBOR, DAG_PB, IDENTITY, RAW, SHA2_256};
 pub use multihash::Multihash;

@@ -1,10 +1,6 @@
 //! The errors of reading and writing texts.
 
-ghost use Rattle.std.specs.Prelude.{◌≡◌};
-ghost use Rattle.ipld_cid_text.specs.Error.{reason_of};
-
-use ipld_cid::CidError;
-use itoa::Buffer;
+use ipld_cid::{CidError, write_number};
 use std::{error, fmt};
 
 /// The error for a text that is not the text of a content identifier.
@@ -44,40 +40,21 @@ impl fmt::Display for TextError {
     ghost styled_output = { λ e _. Some (sentence_of e) };
 
     fn fmt<W: fmt::Write>(&self, f: &mut fmt::Formatter<W>) -> fmt::Result {
-        match self {
-            TextError::UnknownBase => f.write_str("the text begins with no prefix of a base"),
-            TextError::InvalidLength => f.write_str("no CID has a text of this length in its base"),
+        f.write_str(match self {
+            TextError::UnknownBase => "the text is empty, or has an unknown multibase prefix",
+            TextError::InvalidLength => "no CID has a text of this length",
             TextError::InvalidLetter(place) => {
-                f.write_str("the character at byte ")?;
-                f.write_str(Buffer::new().format(*place))?;
-                f.write_str(" is no letter of the text's base")
+                return write_number(f, "invalid character at byte ", *place as u64);
             }
-            TextError::UnusedBits => f.write_str("bits after the last byte of the text are set"),
-            TextError::WrongVersion => f.write_str("a version 0 CID has no multibase text"),
+            TextError::UnusedBits => "the last character has unused bits that are set",
+            TextError::WrongVersion => {
+                "wrong form for its version (Qm.. is version 0, and a multibase text version 1)"
+            }
             TextError::Cid(error) => {
-                f.write_str("the text's bytes are no CID: ")?;
-                f.write_str(cid_error_reason(error))
+                f.write_str("the decoded bytes are invalid: ")?;
+                return error.sentence().fmt(f);
             }
-        }
-    }
-}
-
-// The reason that the bytes of a text are not a CID.
-fn cid_error_reason(error: &CidError) -> &'static str
-    ensures { result.now ≡ reason_of error.now }
-{
-    match error {
-        CidError::End => "they end before the CID does",
-        CidError::NotShortest => "a varint is not in its shortest form",
-        CidError::VarintTooLarge => "a varint encodes a number of 2^64 or more",
-        CidError::ExplicitVersion0 => "they begin with the version 0, which no CID does",
-        CidError::UnknownVersion(_) => "they begin with a version that is neither 0 nor 1",
-        CidError::DigestTooLong => "the digest has more than 64 bytes",
-        CidError::TrailingBytes => "more bytes follow the CID",
-        // Reading bytes does not return these.
-        CidError::InvalidV0Multihash | CidError::InvalidText | CidError::Memory => {
-            "they were not read"
-        }
+        })
     }
 }
 
@@ -93,7 +70,7 @@ impl fmt::Display for ToStringError {
 
     fn fmt<W: fmt::Write>(&self, f: &mut fmt::Formatter<W>) -> fmt::Result {
         f.write_str(match self {
-            ToStringError::InvalidCidV0Base => "a version 0 CID has a text in base58btc alone",
+            ToStringError::InvalidCidV0Base => "a CID of version 0 has a text only in base58btc",
             ToStringError::Memory => "out of memory",
         })
     }

@@ -4,7 +4,7 @@ use crate::bytes::{Bytes, BytesAt};
 use crate::complaints::report_car_error;
 use crate::files::{is_file, read_file};
 use crate::input::BUFFER;
-use crate::messages::{IndexExplanation, NamedCid, Outcome};
+use crate::messages::{NamedCid, Outcome};
 use car_files::CarFileError;
 use indexmap::IndexMap;
 use ipld_car::{
@@ -323,8 +323,10 @@ impl<'a> Blocks<'a> {
         match index_at(self.rt, &self.bytes, header) {
             Ok(entries) => self.index = Some(entries),
             Err(error) => {
-                let (file, at, why) = (self.file, header.index, IndexExplanation(&error));
-                let _ = eprintln!(self.rt; "ipld: {file}: ignoring the index at byte {at}: {why}");
+                let (file, at) = (self.file, header.index);
+                let _ = eprintln!(self.rt;
+                    "ipld: {file}: ignoring the index at byte {at}: {error}"
+                );
             }
         }
     }

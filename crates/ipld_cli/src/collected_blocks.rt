@@ -8,7 +8,7 @@ use crate::files::read_file;
 use crate::input::open_car;
 use crate::messages::{DigestExplanation, NamedCid, Outcome};
 use crate::new_car::NewBlock;
-use car_files::{CarFileError, InvalidReason};
+use car_files::CarFileError;
 use indexmap::{IndexMap, IndexSet};
 use ipld_block::{BlockCodec, CheckError, InvalidBlock, VerifyError, cid_of, links_of};
 use ipld_car::Section;
@@ -350,7 +350,7 @@ enum Why {
 impl fmt::Display for Why {
     fn fmt<W: fmt::Write>(&self, f: &mut fmt::Formatter<W>) -> fmt::Result {
         match self {
-            Why::Block(why) => InvalidReason(why).fmt(f),
+            Why::Block(why) => why.fmt(f),
             Why::Digest(why) => why.fmt(f),
         }
     }

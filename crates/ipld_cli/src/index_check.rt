@@ -5,7 +5,7 @@ use crate::bytes::{Bytes, BytesAt};
 use crate::complaints::report_unreadable;
 use crate::files::is_file;
 use crate::input::BUFFER;
-use crate::messages::{IndexExplanation, Outcome};
+use crate::messages::Outcome;
 use car_files::{CarFileError, VerdictForm};
 use ipld_block::write_cid;
 use ipld_car::{CarHeader, CarReader, IndexEntry, IndexError, Section, entries_of};
@@ -132,8 +132,7 @@ fn compare<W: Write>(
 
 // Reports that an index can't be read.
 fn report_index_error(rt: &HostRuntime, file: &str, at: u64, error: &IndexError) -> Outcome {
-    let why = IndexExplanation(error);
-    let _ = eprintln!(rt; "ipld: {file}: cannot read the index at byte {at}: {why}");
+    let _ = eprintln!(rt; "ipld: {file}: cannot read the index at byte {at}: {error}");
     match error {
         IndexError::Memory | IndexError::Read(_) => Outcome::Failed,
         _ => Outcome::NotSo,

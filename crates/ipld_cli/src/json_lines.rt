@@ -1,7 +1,6 @@
 //! Results about a file or a CID for scripts: an object of JSON on a line.
 
 use crate::messages::Explanation;
-use dag_json::ReadError;
 use ipld_block::{InvalidBlock, codec_name, hash_name};
 use ipld_cid::{Cid, Version};
 use ipld_cid_text::usual_text;
@@ -59,13 +58,6 @@ pub fn write_valid<W: Write>(alloc: Global, file: &str, writer: &mut W) -> io::R
     Ok(())
 }
 
-// Adds the name of an error, and its byte.
-fn add_error(object: &mut Writer, kind: &str, offset: usize) -> Result<(), AllocError> {
-    add_string(object, "error", kind)?;
-    object.key("at")?;
-    object.u64(offset as u64)
-}
-
 /// Writes that a file is not a valid block: the name of the error, the byte if there is one, and a
 /// sentence.
 pub fn write_invalid<W: Write>(
@@ -78,20 +70,10 @@ pub fn write_invalid<W: Write>(
     let mut object = begin_object(alloc, file)?;
     object.key("valid")?;
     object.boolean(false)?;
-    match why {
-        InvalidBlock::Cbor(error) => {
-            let kind = format!(in alloc; "{}", error.kind)?;
-            add_error(&mut object, &kind, error.offset)?;
-        }
-        InvalidBlock::Pb(error) => {
-            let kind = format!(in alloc; "{}", error.kind)?;
-            add_error(&mut object, &kind, error.offset)?;
-        }
-        InvalidBlock::Json(ReadError { kind, offset }) => {
-            let kind = format!(in alloc; "{kind}")?;
-            add_error(&mut object, &kind, offset)?;
-        }
-        InvalidBlock::NotCanonical => add_string(&mut object, "error", "NotCanonical")?,
+    add_string(&mut object, "error", why.name())?;
+    if let Some(offset) = why.offset() {
+        object.key("at")?;
+        object.u64(offset as u64)?;
     }
     let message = format!(in alloc; "{}", Explanation::new(alloc, block, why))?;
     add_string(&mut object, "message", &message)?;

@@ -15,7 +15,6 @@
 mod car_error;
 mod explain;
 mod hint;
-mod index_error;
 mod json_error;
 mod named_cid;
 mod no_cid;
@@ -28,7 +27,6 @@ mod write_failure;
 pub use car_error::{DigestExplanation, OpeningExplanation, SectionExplanation, beginning_of};
 pub use explain::Explanation;
 pub use hint::Hint;
-pub use index_error::IndexExplanation;
 pub use json_error::JsonExplanation;
 pub use named_cid::NamedCid;
 pub use no_cid::NoCid;

@@ -30,6 +30,6 @@ mod write_out;
 pub use fault_reader::FaultReader;
 pub use fault_writer::FaultWriter;
 pub use link_iter::LinkIter;
-pub use raw::{RawCodec, RawError};
+pub use raw::{RawCodec, RawError, RawSentence};
 pub use traits::{Codec, Links};
 pub use tree_codec::TreeCodec;

@@ -4,8 +4,7 @@ ghost use Rattle.std.specs.Prelude.{◌≡◌, ◌⊎◌, [], None, Some, Err, I
 ghost use Rattle.ipld_codec.specs.Codec.{memory, reading, writing, MemoryOr, Writes, IsReadOut};
 ghost use Rattle.ipld_codec.specs.LinkIter.{cids_left, links_left};
 ghost use Rattle.ipld_codec.specs.ReadOut.{LosesFront};
-ghost use Rattle.std.specs.Fmt.{DisplaysStyledOnOk};
-ghost use Rattle.ipld_codec.specs.RawCodec.{raw_found, raw_decoded, raw_written, raw_failure, sentence_of};
+ghost use Rattle.ipld_codec.specs.RawCodec.{raw_found, raw_decoded, raw_written, raw_failure, name_of, sentence_of};
 ghost use Rattle.ipld_codec.specs.WriteOut.{WritesPart};
 ghost use Rattle.ipld_tree.specs.Kind.{kind_of};
 ghost use Rattle.ipld_tree.specs.Tree.{Tree};
@@ -32,8 +31,8 @@ pub struct RawCodec;
 
 /// The reason why a call of [`RawCodec`] failed.
 ///
-/// Its `Display` prints the variant's name without its content. With `#`, for example `{error:#}`,
-/// it prints a sentence that describes the error.
+/// Its `Display` prints the variant's [`name`](RawError::name). With `#` (`{error:#}`), it prints
+/// the [`sentence`](RawError::sentence).
 #[derive(Debug, PartialEq, Eq, Drop)]
 pub enum RawError {
     /// An allocation failed here, or the reader or the writer reported that one failed in it.
@@ -47,22 +46,29 @@ pub enum RawError {
 }
 
 impl RawError {
-    // Writes the error as a sentence.
-    fn describe<W: fmt::Write>(&self, f: &mut fmt::Formatter<W>) -> fmt::Result
-        ensures { DisplaysStyledOnOk W.write_str_gives f.old result (sentence_of self.now) f.new }
+    /// Returns the name of the variant, for example `NotBytes`. `{error}` prints the same.
+    pub fn name(&self) -> &'static str
+        ensures { result.now ≡ name_of self.now }
     {
         match self {
-            RawError::Memory => f.write_str("out of memory"),
-            RawError::Read => f.write_str("the reader failed"),
-            RawError::Write => f.write_str("the writer failed"),
-            RawError::NotBytes(kind) => write!(f, "expected Bytes but found {kind:?}"),
+            RawError::Memory => "Memory",
+            RawError::Read => "Read",
+            RawError::Write => "Write",
+            RawError::NotBytes(_) => "NotBytes",
         }
+    }
+
+    /// Returns the sentence that describes the error, to be printed. `{error:#}` prints the same.
+    pub fn sentence(&self) -> RawSentence<'_>
+        ensures { result.error.now ≡ self.now }
+    {
+        RawSentence { error: self }
     }
 }
 
 impl fmt::Display for RawError {
     ghost use Rattle.std.specs.Fmt.{spec_alternate};
-    ghost use Rattle.ipld_codec.specs.RawCodec.{name_of, printed};
+    ghost use Rattle.ipld_codec.specs.RawCodec.{printed};
 
     ghost output = { λ error. Some (name_of error) };
 
@@ -70,14 +76,35 @@ impl fmt::Display for RawError {
 
     fn fmt<W: fmt::Write>(&self, f: &mut fmt::Formatter<W>) -> fmt::Result {
         if f.alternate() {
-            return self.describe(f);
+            return self.sentence().fmt(f);
         }
-        f.write_str(match self {
-            RawError::Memory => "Memory",
-            RawError::Read => "Read",
-            RawError::Write => "Write",
-            RawError::NotBytes(_) => "NotBytes",
-        })
+        f.write_str(self.name())
+    }
+}
+
+/// The sentence that describes a [`RawError`]. Its `Display` prints it, with any options.
+#[derive(Clone, Copy, Debug)]
+pub struct RawSentence<'a> {
+    error: &'a RawError,
+}
+
+impl<'a> fmt::Display for RawSentence<'a> {
+    ghost output = { λ s. sentence_of s.error.now };
+
+    ghost styled_output = { λ s _. sentence_of s.error.now };
+
+    fn fmt<W: fmt::Write>(&self, f: &mut fmt::Formatter<W>) -> fmt::Result {
+        match self.error {
+            RawError::Memory => f.write_str("out of memory"),
+            RawError::Read => f.write_str("the reader failed"),
+            RawError::Write => f.write_str("the writer failed"),
+            RawError::NotBytes(kind) => {
+                write!(
+                    f,
+                    "a raw block can be written only of Bytes, not of {kind:?}"
+                )
+            }
+        }
     }
 }
 

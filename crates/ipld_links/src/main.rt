@@ -26,7 +26,7 @@ fn main(rt: HostRuntime) -> ExitCode {
         Err(RunFault::Write) => ExitCode::FAILURE,
         Err(error) => {
             // If this can't be written, the exit status reports the error.
-            let _ = println!(&rt; "refused {error}");
+            let _ = println!(&rt; "refused {}", error.name());
             ExitCode::FAILURE
         }
     }

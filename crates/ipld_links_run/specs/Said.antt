@@ -37,7 +37,7 @@ abbrev pub tokens_read : TokenLines → Result (List TokenModel) ℕ
 tokens_read (Tokens tokens) = Ok (map token_of tokens.items)
 tokens_read (BadLine k) = Err k
 
--- the printed name of a rejection
+-- the name of a rejection
 abbrev pub name_of : Rejection → List ℕ
 name_of Token = codes "Token"
 name_of Cid = codes "Cid"

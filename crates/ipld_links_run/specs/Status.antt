@@ -10,13 +10,13 @@ abbrev pub fault_of : ErrorKind → RunFault
 fault_of OutOfMemory = Memory
 fault_of _ = Read
 
--- the printed name of an error
+-- the name of an error
 abbrev pub name_of : RunFault → List ℕ
 name_of Memory = codes "Memory"
 name_of Read = codes "Read"
 name_of Write = codes "Write"
 
--- the sentence of an error, printed with `#`, for example in `{error:#}`
+-- the sentence of an error
 abbrev pub sentence_of : RunFault → List ℕ
 sentence_of Memory = codes "out of memory"
 sentence_of Read = codes "the reader failed"

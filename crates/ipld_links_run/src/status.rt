@@ -1,7 +1,7 @@
 //! The ends of a run.
 
-ghost use Rattle.std.specs.Fmt.{WritesStyledOnOk};
-ghost use Rattle.ipld_links_run.specs.Status.{sentence_of};
+ghost use Rattle.std.specs.Prelude.{◌≡◌};
+ghost use Rattle.ipld_links_run.specs.Status.{name_of};
 
 use std::alloc::{AllocError, AllocFailed};
 use std::{error, fmt};
@@ -20,8 +20,7 @@ pub enum Status {
 
 /// The reason why a run could not continue.
 ///
-/// Its `Display` is the variant's name. With `#`, for example in `{error:#}`, it is a sentence that
-/// describes the error.
+/// Its `Display` is a sentence that describes the error.
 #[derive(Clone, Copy, Debug, PartialEq, Eq)]
 pub enum RunFault {
     /// An allocation failed.
@@ -33,10 +32,27 @@ pub enum RunFault {
 }
 
 impl RunFault {
-    // Writes a sentence that describes the error.
-    fn describe<W: fmt::Write>(&self, f: &mut fmt::Formatter<W>) -> fmt::Result
-        ensures { WritesStyledOnOk W.write_str_gives f.old result (sentence_of self.now) f.new }
+    /// Returns the name of the variant.
+    pub fn name(&self) -> &'static str
+        ensures { result.now ≡ name_of self.now }
     {
+        match self {
+            RunFault::Memory => "Memory",
+            RunFault::Read => "Read",
+            RunFault::Write => "Write",
+        }
+    }
+}
+
+impl fmt::Display for RunFault {
+    ghost use Rattle.std.specs.Prelude.{Some};
+    ghost use Rattle.ipld_links_run.specs.Status.{sentence_of};
+
+    ghost output = { λ error. Some (sentence_of error) };
+
+    ghost styled_output = { λ error _. Some (sentence_of error) };
+
+    fn fmt<W: fmt::Write>(&self, f: &mut fmt::Formatter<W>) -> fmt::Result {
         f.write_str(match self {
             RunFault::Memory => "out of memory",
             RunFault::Read => "the reader failed",
@@ -45,31 +61,9 @@ impl RunFault {
     }
 }
 
-impl fmt::Display for RunFault {
-    ghost use Rattle.std.specs.Prelude.{Some, if◌then◌else◌};
-    ghost use Rattle.std.specs.Fmt.{spec_alternate};
-    ghost use Rattle.ipld_links_run.specs.Status.{name_of, sentence_of};
-
-    ghost output = { λ error. Some (name_of error) };
-
-    ghost styled_output = { λ error spec. Some (if spec_alternate spec then sentence_of error else name_of error) };
-
-    fn fmt<W: fmt::Write>(&self, f: &mut fmt::Formatter<W>) -> fmt::Result {
-        if f.alternate() {
-            return self.describe(f);
-        }
-        f.write_str(match self {
-            RunFault::Memory => "Memory",
-            RunFault::Read => "Read",
-            RunFault::Write => "Write",
-        })
-    }
-}
-
 impl error::Error for RunFault {}
 
 impl From<AllocError> for RunFault {
-    ghost use Rattle.std.specs.Prelude.{◌≡◌};
     ghost use Rattle.ipld_links_run.specs.declared.status.RunFault.TheVariants.{Memory};
 
     ghost from_gives = { λ _ error. error ≡ Memory };
@@ -80,7 +74,6 @@ impl From<AllocError> for RunFault {
 }
 
 impl<T: Drop> From<AllocFailed<T>> for RunFault {
-    ghost use Rattle.std.specs.Prelude.{◌≡◌};
     ghost use Rattle.ipld_links_run.specs.declared.status.RunFault.TheVariants.{Memory};
 
     ghost from_gives = { λ _ error. error ≡ Memory };

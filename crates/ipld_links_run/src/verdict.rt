@@ -2,13 +2,12 @@
 
 ghost use Rattle.std.specs.Prelude.{◌≡◌, ◌++◌, ◌∷◌, [], IfOk};
 ghost use Rattle.std.specs.Io.KnownBytes.{Appends};
-ghost use Rattle.ipld_links_run.specs.Said.{verdict_of};
+ghost use Rattle.ipld_links_run.specs.Said.{name_of, verdict_of};
 ghost use Rattle.ipld_links_run.specs.Verdict.{last_line, status_of};
 
 use crate::status::{RunFault, Status};
 use dag_cbor::CborError;
 use ipld_cid::CidError;
-use std::fmt;
 use std::io::Write;
 
 /// The reason why the input has no links.
@@ -28,20 +27,18 @@ pub(crate) enum Rejection {
     NoBlock(CborError),
 }
 
-impl fmt::Display for Rejection {
-    ghost use Rattle.std.specs.Prelude.{Some};
-    ghost use Rattle.ipld_links_run.specs.Said.{name_of};
-
-    ghost output = { λ rejection. Some (name_of rejection) };
-
-    fn fmt<W: fmt::Write>(&self, f: &mut fmt::Formatter<W>) -> fmt::Result {
+impl Rejection {
+    // Returns the name of the error.
+    fn name(&self) -> &'static str
+        ensures { result.now ≡ name_of self.now }
+    {
         match self {
-            Rejection::Token => f.write_str("Token"),
-            Rejection::Cid => f.write_str("Cid"),
-            Rejection::End => f.write_str("End"),
-            Rejection::DuplicateKey => f.write_str("DuplicateKey"),
-            Rejection::NoCid(error) => error.fmt(f),
-            Rejection::NoBlock(error) => error.fmt(f),
+            Rejection::Token => "Token",
+            Rejection::Cid => "Cid",
+            Rejection::End => "End",
+            Rejection::DuplicateKey => "DuplicateKey",
+            Rejection::NoCid(error) => error.name(),
+            Rejection::NoBlock(error) => error.name(),
         }
     }
 }
@@ -65,7 +62,10 @@ pub(crate) fn write_verdict<W: Write>(writer: &mut W, verdict: Verdict) -> Resul
 {
     let (status, written) = match verdict {
         Verdict::Done(texts) => (Status::Done, writeln!(writer, "ok {texts}")),
-        Verdict::Refused(rejection) => (Status::Refused, writeln!(writer, "refused {rejection}")),
+        Verdict::Refused(rejection) => {
+            let name = rejection.name();
+            (Status::Refused, writeln!(writer, "refused {name}"))
+        }
         Verdict::BadLine(number) => (Status::NotUnderstood, writeln!(writer, "bad line {number}")),
     };
     match written {

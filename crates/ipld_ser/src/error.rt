@@ -1,11 +1,10 @@
 //! The reasons why a typed value cannot be written or read.
 
 ghost use Rattle.std.specs.Prelude.{◌≡◌};
-ghost use Rattle.std.specs.Fmt.{DisplaysStyledOnOk};
 ghost use Rattle.ipld_ser.specs.declared.error.SerdeError as errors;
-ghost use Rattle.ipld_ser.specs.Error.{sentence_of};
+ghost use Rattle.ipld_ser.specs.Error.{name_of, sentence_of};
 
-use ipld_cid::CidError;
+use ipld_cid::{CidError, write_number};
 use ipld_tree::IpldKind;
 use std::alloc::{AllocError, AllocFailed};
 use std::{error, fmt};
@@ -87,37 +86,42 @@ impl SerdeError {
         Self::Custom(message)
     }
 
-    // Writes a sentence that describes the error.
-    fn describe<W: fmt::Write>(&self, f: &mut fmt::Formatter<W>) -> fmt::Result
-        ensures { DisplaysStyledOnOk W.write_str_gives f.old result (sentence_of self.now) f.new }
+    /// Returns the name of the variant, for example `OutOfRange`.
+    pub fn name(&self) -> &'static str
+        ensures { result.now ≡ name_of self.now }
     {
         match self {
-            SerdeError::Memory => f.write_str("out of memory"),
-            SerdeError::Unit => f.write_str("the unit type has no image"),
-            SerdeError::UnitStruct => f.write_str("a unit struct has no image"),
-            SerdeError::U128 => f.write_str("the number is above the greatest i128"),
-            SerdeError::KeyNotText => f.write_str("a key of a map is no string"),
-            SerdeError::InvalidCid(error) => write!(f, "the bytes are no CID: {error:#}"),
-            SerdeError::WrongKind(kind) => write!(f, "the type takes no {kind:?}"),
-            SerdeError::OutOfRange => f.write_str("the integer is out of the range of the type"),
-            SerdeError::NotOneChar => f.write_str("the string is not exactly one character"),
-            SerdeError::WrongLength => f.write_str("the list is of another length than the type"),
-            SerdeError::Leftover(count) => write!(
-                f,
-                "the type leaves {count} elements or entries over"
-            ),
-            SerdeError::MissingValue => f.write_str("a value was asked for before its key"),
-            SerdeError::NoKey => f.write_str("the map of an enum has no key"),
-            SerdeError::MoreKeys => f.write_str("the map of an enum has more than one key"),
-            SerdeError::VariantContent => f.write_str("the variant has no content"),
-            SerdeError::Custom(message) => f.write_str(message),
+            SerdeError::Memory => "Memory",
+            SerdeError::Unit => "Unit",
+            SerdeError::UnitStruct => "UnitStruct",
+            SerdeError::U128 => "U128",
+            SerdeError::KeyNotText => "KeyNotText",
+            SerdeError::InvalidCid(_) => "InvalidCid",
+            SerdeError::WrongKind(_) => "WrongKind",
+            SerdeError::OutOfRange => "OutOfRange",
+            SerdeError::NotOneChar => "NotOneChar",
+            SerdeError::WrongLength => "WrongLength",
+            SerdeError::Leftover(_) => "Leftover",
+            SerdeError::MissingValue => "MissingValue",
+            SerdeError::NoKey => "NoKey",
+            SerdeError::MoreKeys => "MoreKeys",
+            SerdeError::VariantContent => "VariantContent",
+            SerdeError::Custom(_) => "Custom",
         }
+    }
+
+    /// Returns the sentence that describes the error, to be printed: the message of a
+    /// [`Custom`](SerdeError::Custom) error. `{error:#}` prints the same.
+    pub fn sentence(&self) -> SerdeSentence
+        ensures { result.error ≡ self.now }
+    {
+        SerdeSentence { error: *self }
     }
 }
 
 /// `Display` prints `serde error: ` and the message for a [`Custom`](SerdeError::Custom) error, and
-/// the variant's name for any other error. With `#` (`{error:#}`), it prints a sentence that
-/// describes the error, or only the message of a `Custom` error.
+/// the [`name`](SerdeError::name) for any other error. With `#` (`{error:#}`), it prints the
+/// [`sentence`](SerdeError::sentence).
 impl fmt::Display for SerdeError {
     ghost use Rattle.std.specs.Prelude.{Some};
     ghost use Rattle.std.specs.Fmt.{spec_alternate};
@@ -129,29 +133,55 @@ impl fmt::Display for SerdeError {
 
     fn fmt<W: fmt::Write>(&self, f: &mut fmt::Formatter<W>) -> fmt::Result {
         if f.alternate() {
-            return self.describe(f);
+            return self.sentence().fmt(f);
         }
         match self {
-            SerdeError::Memory => f.write_str("Memory"),
-            SerdeError::Unit => f.write_str("Unit"),
-            SerdeError::UnitStruct => f.write_str("UnitStruct"),
-            SerdeError::U128 => f.write_str("U128"),
-            SerdeError::KeyNotText => f.write_str("KeyNotText"),
-            SerdeError::InvalidCid(_) => f.write_str("InvalidCid"),
-            SerdeError::WrongKind(_) => f.write_str("WrongKind"),
-            SerdeError::OutOfRange => f.write_str("OutOfRange"),
-            SerdeError::NotOneChar => f.write_str("NotOneChar"),
-            SerdeError::WrongLength => f.write_str("WrongLength"),
-            SerdeError::Leftover(_) => f.write_str("Leftover"),
-            SerdeError::MissingValue => f.write_str("MissingValue"),
-            SerdeError::NoKey => f.write_str("NoKey"),
-            SerdeError::MoreKeys => f.write_str("MoreKeys"),
-            SerdeError::VariantContent => f.write_str("VariantContent"),
             SerdeError::Custom(message) => {
                 f.write_str("serde error: ")?;
                 f.write_str(message)
             }
+            _ => f.write_str(self.name()),
         }
+    }
+}
+
+/// The sentence that describes a [`SerdeError`]. Its `Display` prints it, with any options.
+#[derive(Clone, Copy, Debug)]
+pub struct SerdeSentence {
+    error: SerdeError,
+}
+
+impl fmt::Display for SerdeSentence {
+    ghost output = { λ s. sentence_of s.error };
+
+    ghost styled_output = { λ s _. sentence_of s.error };
+
+    fn fmt<W: fmt::Write>(&self, f: &mut fmt::Formatter<W>) -> fmt::Result {
+        f.write_str(match self.error {
+            SerdeError::Memory => "out of memory",
+            SerdeError::Unit => "() cannot be written: it has no image",
+            SerdeError::UnitStruct => "a unit struct cannot be written: it has no image",
+            SerdeError::U128 => "a u128 is above 2^127 - 1",
+            SerdeError::KeyNotText => "a map key is not a string",
+            SerdeError::InvalidCid(error) => {
+                f.write_str("invalid link: not a CID: ")?;
+                return error.sentence().fmt(f);
+            }
+            SerdeError::WrongKind(kind) => {
+                return write!(f, "the type does not accept a value of the kind {kind:?}");
+            }
+            SerdeError::OutOfRange => "the integer is out of the type's range",
+            SerdeError::NotOneChar => "the string is not exactly one character",
+            SerdeError::WrongLength => "the list has another length than the type",
+            SerdeError::Leftover(count) => {
+                return write_number(f, "elements or entries left unread: ", count as u64);
+            }
+            SerdeError::MissingValue => "next_value was called before next_key",
+            SerdeError::NoKey => "the map of an enum has no key",
+            SerdeError::MoreKeys => "the map of an enum has more than one key",
+            SerdeError::VariantContent => "the variant has no content",
+            SerdeError::Custom(message) => return f.write_str(message),
+        })
     }
 }
 

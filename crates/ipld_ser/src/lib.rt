@@ -28,7 +28,7 @@ mod tuples;
 mod variants;
 
 pub use bytes::ByteBuf;
-pub use error::{SerdeError, SerializeError};
+pub use error::{SerdeError, SerdeSentence, SerializeError};
 pub use fields::SerializeFields;
 pub use image_writer::{ImageWriter, Unwritten, key_precedes, write_fields};
 pub use key::SerializeKey;

@@ -1,13 +1,9 @@
 //! The errors of printing a block or a CID.
 
-ghost use Rattle.std.specs.Prelude.{◌++◌};
-ghost use Rattle.std.specs.Fmt.{WritesOnOk, WritesStyledOnOk, decimal};
-
 use dag_cbor_blocks::{BlockError, BlockErrorKind};
 use dag_cbor_format::CborError;
 use ipld_block::{CheckError, InvalidBlock};
-use ipld_cid::CidError;
-use itoa::Buffer;
+use ipld_cid::{CidError, write_number};
 use std::alloc::{AllocError, AllocFailed};
 use std::io::ErrorKind;
 use std::{error, fmt, io};
@@ -41,54 +37,36 @@ pub enum ShowError {
 impl fmt::Display for ShowError {
     ghost use Rattle.ipld_show.specs.ErrorTexts.{sentence_of};
 
-    ghost output = { sentence_of ⟦<InvalidBlock as fmt::Display>⟧.output };
+    ghost output = { sentence_of };
 
-    ghost styled_output = { λ error spec. sentence_of (λ why. ⟦<InvalidBlock as fmt::Display>⟧.styled_output why spec) error };
+    ghost styled_output = { λ error _. sentence_of error };
 
     fn fmt<W: fmt::Write>(&self, f: &mut fmt::Formatter<W>) -> fmt::Result {
         match self {
             ShowError::Memory => f.write_str("out of memory"),
-            ShowError::Write(kind) => write!(f, "the output failed: {kind}"),
+            ShowError::Write(kind) => write!(f, "cannot write: {kind}"),
             ShowError::Invalid(why) => why.fmt(f),
-            ShowError::NoSegment(segment) => {
-                write_number(f, "segment ", *segment, " of the path leads to nothing")
+            ShowError::NoSegment(segment) => write_number(
+                f,
+                "the path leads to no key or index at segment ",
+                *segment as u64,
+            ),
+            ShowError::NotAContainer(segment) => write_number(
+                f,
+                "the path goes on after a value that is not a list or a map, at segment ",
+                *segment as u64,
+            ),
+            ShowError::Reserved(offset) => write_number(
+                f,
+                "DAG-JSON would read a link or bytes in place of the map at byte ",
+                *offset as u64,
+            ),
+            ShowError::Cid(error) => {
+                f.write_str("not a CID: ")?;
+                error.sentence().fmt(f)
             }
-            ShowError::NotAContainer(segment) => {
-                write_number(
-                    f,
-                    "before segment ",
-                    *segment,
-                    " of the path there is no list and no map",
-                )
-            }
-            ShowError::Reserved(offset) => {
-                write_number(
-                    f,
-                    "DAG-JSON has no form for the map at byte ",
-                    *offset,
-                    ", whose first key is /",
-                )
-            }
-            ShowError::Cid(error) => write!(f, "no CID: {error:#}"),
         }
     }
-}
-
-// Writes a number between two strings.
-fn write_number<W: fmt::Write>(
-    f: &mut fmt::Formatter<W>,
-    before: &str,
-    number: usize,
-    after: &str,
-) -> fmt::Result
-    ensures writes { WritesOnOk W.write_str_gives f.old result
-        (before.now ++ (decimal number ++ after.now)) f.new }
-    ensures styled { WritesStyledOnOk W.write_str_gives f.old result
-        (before.now ++ (decimal number ++ after.now)) f.new }
-{
-    f.write_str(before)?;
-    f.write_str(Buffer::new().format(number))?;
-    f.write_str(after)
 }
 
 impl error::Error for ShowError {}

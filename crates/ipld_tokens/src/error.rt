@@ -1,8 +1,8 @@
 //! The reasons why no value can be read.
 
-ghost use Rattle.std.specs.Fmt.{DisplaysStyledOnOk};
+ghost use Rattle.std.specs.Prelude.{◌≡◌};
 ghost use Rattle.ipld_tokens.specs.declared.error.TokenError.TheVariants.{Memory};
-ghost use Rattle.ipld_tokens.specs.ErrorNames.{sentence_of, limit_sentence_of};
+ghost use Rattle.ipld_tokens.specs.ErrorNames.{name_of, limit_name_of};
 
 use ipld_cid::CidError;
 use std::alloc::{AllocError, AllocFailed};
@@ -10,8 +10,7 @@ use std::{error, fmt};
 
 /// The reason why tokens were not read.
 ///
-/// Its `Display` prints the variant's name without its content. With `#`, for example `{error:#}`,
-/// it prints a sentence that describes the error.
+/// Its `Display` prints a sentence that describes the error.
 #[derive(Debug, PartialEq, Eq, Drop)]
 pub enum TokenError<F> {
     /// An allocation failed.
@@ -30,43 +29,40 @@ pub enum TokenError<F> {
 }
 
 impl<F> TokenError<F> {
-    // Writes the error as a sentence.
-    fn describe<W: fmt::Write>(&self, f: &mut fmt::Formatter<W>) -> fmt::Result
-        ensures { DisplaysStyledOnOk W.write_str_gives f.old result (sentence_of self.now) f.new }
+    /// Returns the name of the variant.
+    pub fn name(&self) -> &'static str
+        ensures { result.now ≡ name_of self.now }
     {
-        f.write_str(match self {
-            TokenError::Memory => "out of memory",
-            TokenError::Source(_) => "the source of tokens failed",
-            TokenError::Token => "a token stands where it can't",
-            TokenError::Cid(error) => {
-                return write!(f, "the bytes of a link are no CID: {error:#}");
-            }
-            TokenError::End => "the tokens end before the item does",
-            TokenError::DuplicateKey => "a key stands in a map for the second time",
-        })
-    }
-}
-
-impl<F> fmt::Display for TokenError<F> {
-    ghost use Rattle.std.specs.Prelude.{Some};
-    ghost use Rattle.std.specs.Fmt.{spec_alternate};
-    ghost use Rattle.ipld_tokens.specs.ErrorNames.{name_of, printed};
-
-    ghost output = { λ error. Some (name_of error) };
-
-    ghost styled_output = { λ error spec. printed (spec_alternate spec) error };
-
-    fn fmt<W: fmt::Write>(&self, f: &mut fmt::Formatter<W>) -> fmt::Result {
-        if f.alternate() {
-            return self.describe(f);
-        }
-        f.write_str(match self {
+        match self {
             TokenError::Memory => "Memory",
             TokenError::Source(_) => "Source",
             TokenError::Token => "Token",
             TokenError::Cid(_) => "Cid",
             TokenError::End => "End",
             TokenError::DuplicateKey => "DuplicateKey",
+        }
+    }
+}
+
+impl<F> fmt::Display for TokenError<F> {
+    ghost use Rattle.std.specs.Prelude.{Some};
+    ghost use Rattle.ipld_tokens.specs.ErrorNames.{sentence_of};
+
+    ghost output = { λ error. Some (sentence_of error) };
+
+    ghost styled_output = { λ error _. Some (sentence_of error) };
+
+    fn fmt<W: fmt::Write>(&self, f: &mut fmt::Formatter<W>) -> fmt::Result {
+        f.write_str(match self {
+            TokenError::Memory => "out of memory",
+            TokenError::Source(_) => "the source of tokens failed",
+            TokenError::Token => "unexpected token",
+            TokenError::Cid(error) => {
+                f.write_str("invalid link: not a CID: ")?;
+                return error.sentence().fmt(f);
+            }
+            TokenError::End => "the tokens end before the item does",
+            TokenError::DuplicateKey => "duplicate map key",
         })
     }
 }
@@ -95,8 +91,7 @@ impl<F, T: Drop> From<AllocFailed<T>> for TokenError<F> {
 
 /// The reason why tokens were not read within limits.
 ///
-/// Its `Display` prints the variant's name, or for `Token` the name of the [`TokenError`]. With
-/// `#`, for example `{error:#}`, it prints a sentence that describes the error.
+/// Its `Display` prints a sentence that describes the error.
 #[derive(Debug, PartialEq, Eq, Drop)]
 pub enum ReadError<F> {
     /// This token opens a list or a map deeper than the limit on levels. It was taken, and no token
@@ -110,35 +105,30 @@ pub enum ReadError<F> {
 }
 
 impl<F> ReadError<F> {
-    // Writes the error as a sentence.
-    fn describe<W: fmt::Write>(&self, f: &mut fmt::Formatter<W>) -> fmt::Result
-        ensures { DisplaysStyledOnOk W.write_str_gives f.old result
-            (limit_sentence_of self.now) f.new }
+    /// Returns the name of the variant, or for `Token` that of the [`TokenError`].
+    pub fn name(&self) -> &'static str
+        ensures { result.now ≡ limit_name_of self.now }
     {
         match self {
-            ReadError::TooDeep => f.write_str("lists and maps nest deeper than the limit"),
-            ReadError::TooMany => f.write_str("there are more values than the limit"),
-            ReadError::Token(error) => error.describe(f),
+            ReadError::TooDeep => "TooDeep",
+            ReadError::TooMany => "TooMany",
+            ReadError::Token(error) => error.name(),
         }
     }
 }
 
 impl<F> fmt::Display for ReadError<F> {
     ghost use Rattle.std.specs.Prelude.{Some};
-    ghost use Rattle.std.specs.Fmt.{spec_alternate};
-    ghost use Rattle.ipld_tokens.specs.ErrorNames.{limit_name_of, limit_printed};
+    ghost use Rattle.ipld_tokens.specs.ErrorNames.{limit_sentence_of};
 
-    ghost output = { λ error. Some (limit_name_of error) };
+    ghost output = { λ error. Some (limit_sentence_of error) };
 
-    ghost styled_output = { λ error spec. limit_printed (spec_alternate spec) error };
+    ghost styled_output = { λ error _. Some (limit_sentence_of error) };
 
     fn fmt<W: fmt::Write>(&self, f: &mut fmt::Formatter<W>) -> fmt::Result {
-        if f.alternate() {
-            return self.describe(f);
-        }
         match self {
-            ReadError::TooDeep => f.write_str("TooDeep"),
-            ReadError::TooMany => f.write_str("TooMany"),
+            ReadError::TooDeep => f.write_str("lists and maps nest deeper than the limit"),
+            ReadError::TooMany => f.write_str("more values than the limit"),
             ReadError::Token(error) => error.fmt(f),
         }
     }

@@ -1,5 +1,4 @@
-//! The two texts of each error: its name, and with `#` a sentence. Errors of CIDs' texts and of
-//! blocks that don't match their CIDs have only a sentence.
+//! The name and the sentence of each error.
 
 use dag_cbor::{BlockError, BlockErrorKind, CborError};
 use dag_cbor_serde::{DecodeError, EncodeError};
@@ -35,11 +34,11 @@ const CIDS: [(CidError, &str); 10] = [
     ),
     (
         CidError::DigestTooLong,
-        "DigestTooLong: the digest is longer than the type has capacity for",
+        "DigestTooLong: the digest is longer than the type can hold",
     ),
     (
         CidError::TrailingBytes,
-        "TrailingBytes: more bytes follow the CID",
+        "TrailingBytes: trailing bytes after the CID",
     ),
     (
         CidError::InvalidV0Multihash,
@@ -47,7 +46,7 @@ const CIDS: [(CidError, &str); 10] = [
     ),
     (
         CidError::InvalidText,
-        "InvalidText: the text is no CIDv1 in multibase base32",
+        "InvalidText: not a CIDv1 in base32: expected b, then lower-case letters and digits from 2 to 7",
     ),
     (CidError::Memory, "Memory: out of memory"),
 ];
@@ -61,32 +60,29 @@ const CBOR: [(CborError, &str); 14] = [
         CborError::NotShortest,
         "NotShortest: an argument is not in its shortest form",
     ),
-    (CborError::Float, "Float: a float that is not supported"),
+    (
+        CborError::Float,
+        "Float: a float that cannot be read: trees hold none, and tapes hold finite 64-bit floats",
+    ),
     (
         CborError::Unsupported,
-        "Unsupported: a simple value, a tag or an indefinite length that DAG-CBOR has not",
+        "Unsupported: a simple value, a tag or an indefinite length that DAG-CBOR does not allow",
     ),
     (CborError::Utf8, "Utf8: a text string is not UTF-8"),
     (
         CborError::KeyNotText,
-        "KeyNotText: the key of a map is no text string",
+        "KeyNotText: a map key is not a text string",
     ),
-    (
-        CborError::DuplicateKey,
-        "DuplicateKey: a key stands in a map for the second time",
-    ),
+    (CborError::DuplicateKey, "DuplicateKey: duplicate map key"),
     (
         CborError::LinkBytes,
-        "LinkBytes: after the tag of a link there is no byte string that begins with a zero byte",
+        "LinkBytes: invalid link: a byte string that starts with 0x00 must follow tag 42",
     ),
     (
         CborError::Cid(CidError::UnknownVersion(5)),
-        "Cid: the bytes of a link are no CID: unknown CID version 5",
+        "Cid: invalid link: not a CID: unknown CID version 5",
     ),
-    (
-        CborError::TrailingBytes,
-        "TrailingBytes: more bytes follow the item",
-    ),
+    (CborError::TrailingBytes, "TrailingBytes: trailing bytes"),
     (
         CborError::IntegerRange,
         "IntegerRange: an integer is below -2^64 or above 2^64 - 1",
@@ -99,21 +95,21 @@ const BLOCKS: [(BlockError, &str); 3] = [
             kind: BlockErrorKind::TooDeep,
             offset: 7,
         },
-        "TooDeep at byte 7: lists and maps nest deeper than the limit at byte 7",
+        "TooDeep: lists and maps nest deeper than the limit at byte 7",
     ),
     (
         BlockError {
             kind: BlockErrorKind::TooMany,
             offset: 7,
         },
-        "TooMany at byte 7: there are more values than the limit at byte 7",
+        "TooMany: more values than the limit at byte 7",
     ),
     (
         BlockError {
             kind: BlockErrorKind::Cbor(CborError::Float),
             offset: 7,
         },
-        "Float at byte 7: a float that is not supported at byte 7",
+        "Float: a float that cannot be read: trees hold none, and tapes hold finite 64-bit floats at byte 7",
     ),
 ];
 
@@ -123,7 +119,7 @@ const RAW: [(RawError, &str); 4] = [
     (RawError::Write, "Write: the writer failed"),
     (
         RawError::NotBytes(IpldKind::Null),
-        "NotBytes: expected Bytes but found Null",
+        "NotBytes: a raw block can be written only of Bytes, not of Null",
     ),
 ];
 
@@ -133,16 +129,13 @@ const TOKENS: [(TokenError<Stopped>, &str); 6] = [
         TokenError::Source(Stopped),
         "Source: the source of tokens failed",
     ),
-    (TokenError::Token, "Token: a token stands where it can't"),
+    (TokenError::Token, "Token: unexpected token"),
     (
         TokenError::Cid(CidError::UnknownVersion(5)),
-        "Cid: the bytes of a link are no CID: unknown CID version 5",
+        "Cid: invalid link: not a CID: unknown CID version 5",
     ),
     (TokenError::End, "End: the tokens end before the item does"),
-    (
-        TokenError::DuplicateKey,
-        "DuplicateKey: a key stands in a map for the second time",
-    ),
+    (TokenError::DuplicateKey, "DuplicateKey: duplicate map key"),
 ];
 
 const READS: [(ReadError<Stopped>, &str); 3] = [
@@ -150,10 +143,7 @@ const READS: [(ReadError<Stopped>, &str); 3] = [
         ReadError::TooDeep,
         "TooDeep: lists and maps nest deeper than the limit",
     ),
-    (
-        ReadError::TooMany,
-        "TooMany: there are more values than the limit",
-    ),
+    (ReadError::TooMany, "TooMany: more values than the limit"),
     (
         ReadError::Token(TokenError::End),
         "End: the tokens end before the item does",
@@ -162,30 +152,30 @@ const READS: [(ReadError<Stopped>, &str); 3] = [
 
 const VALUES: [(SerdeError, &str); 16] = [
     (SerdeError::Memory, "Memory: out of memory"),
-    (SerdeError::Unit, "Unit: the unit type has no image"),
+    (
+        SerdeError::Unit,
+        "Unit: () cannot be written: it has no image",
+    ),
     (
         SerdeError::UnitStruct,
-        "UnitStruct: a unit struct has no image",
+        "UnitStruct: a unit struct cannot be written: it has no image",
     ),
-    (
-        SerdeError::U128,
-        "U128: the number is above the greatest i128",
-    ),
+    (SerdeError::U128, "U128: a u128 is above 2^127 - 1"),
     (
         SerdeError::KeyNotText,
-        "KeyNotText: a key of a map is no string",
+        "KeyNotText: a map key is not a string",
     ),
     (
         SerdeError::InvalidCid(CidError::End),
-        "InvalidCid: the bytes are no CID: the bytes end before the CID does",
+        "InvalidCid: invalid link: not a CID: the bytes end before the CID does",
     ),
     (
         SerdeError::WrongKind(IpldKind::Map),
-        "WrongKind: the type takes no Map",
+        "WrongKind: the type does not accept a value of the kind Map",
     ),
     (
         SerdeError::OutOfRange,
-        "OutOfRange: the integer is out of the range of the type",
+        "OutOfRange: the integer is out of the type's range",
     ),
     (
         SerdeError::NotOneChar,
@@ -193,15 +183,15 @@ const VALUES: [(SerdeError, &str); 16] = [
     ),
     (
         SerdeError::WrongLength,
-        "WrongLength: the list is of another length than the type",
+        "WrongLength: the list has another length than the type",
     ),
     (
         SerdeError::Leftover(1),
-        "Leftover: the type leaves 1 elements or entries over",
+        "Leftover: elements or entries left unread: 1",
     ),
     (
         SerdeError::MissingValue,
-        "MissingValue: a value was asked for before its key",
+        "MissingValue: next_value was called before next_key",
     ),
     (SerdeError::NoKey, "NoKey: the map of an enum has no key"),
     (
@@ -212,57 +202,57 @@ const VALUES: [(SerdeError, &str); 16] = [
         SerdeError::VariantContent,
         "VariantContent: the variant has no content",
     ),
-    (
-        SerdeError::Custom("no such town"),
-        "serde error: no such town: no such town",
-    ),
+    (SerdeError::Custom("no such town"), "Custom: no such town"),
 ];
 
 const TEXTS: [(TextError, &str); 6] = [
     (
         TextError::UnknownBase,
-        "the text begins with no prefix of a base",
+        "the text is empty, or has an unknown multibase prefix",
     ),
-    (
-        TextError::InvalidLength,
-        "no CID has a text of this length in its base",
-    ),
-    (
-        TextError::InvalidLetter(17),
-        "the character at byte 17 is no letter of the text's base",
-    ),
+    (TextError::InvalidLength, "no CID has a text of this length"),
+    (TextError::InvalidLetter(17), "invalid character at byte 17"),
     (
         TextError::UnusedBits,
-        "bits after the last byte of the text are set",
+        "the last character has unused bits that are set",
     ),
     (
         TextError::WrongVersion,
-        "a version 0 CID has no multibase text",
+        "wrong form for its version (Qm.. is version 0, and a multibase text version 1)",
     ),
     (
         TextError::Cid(CidError::UnknownVersion(5)),
-        "the text's bytes are no CID: they begin with a version that is neither 0 nor 1",
+        "the decoded bytes are invalid: unknown CID version 5",
     ),
 ];
 
 const ENCODED: [(EncodeError, &str); 4] = [
-    (EncodeError::Memory, "Memory"),
-    (EncodeError::Value(SerdeError::U128), "U128"),
-    (EncodeError::IntegerRange, "IntegerRange"),
-    (EncodeError::Write, "Write"),
+    (EncodeError::Memory, "Memory: out of memory"),
+    (
+        EncodeError::Value(SerdeError::U128),
+        "U128: a u128 is above 2^127 - 1",
+    ),
+    (
+        EncodeError::IntegerRange,
+        "IntegerRange: an integer is below -2^64 or above 2^64 - 1",
+    ),
+    (EncodeError::Write, "Write: the writer failed"),
 ];
 
 const DECODED: [(DecodeError, &str); 4] = [
-    (DecodeError::Memory, "Memory"),
-    (DecodeError::Read, "Read"),
+    (DecodeError::Memory, "Memory: out of memory"),
+    (DecodeError::Read, "Read: the reader failed"),
     (
         DecodeError::Block(BlockError {
             kind: BlockErrorKind::TooMany,
             offset: 7,
         }),
-        "TooMany at byte 7",
+        "TooMany: more values than the limit at byte 7",
     ),
-    (DecodeError::Value(SerdeError::NotOneChar), "NotOneChar"),
+    (
+        DecodeError::Value(SerdeError::NotOneChar),
+        "NotOneChar: the string is not exactly one character",
+    ),
 ];
 
 const RUNS: [(RunFault, &str); 3] = [
@@ -271,61 +261,119 @@ const RUNS: [(RunFault, &str); 3] = [
     (RunFault::Write, "Write: the writer failed"),
 ];
 
-// Checks that each error has this name and this sentence.
-fn says<E: Display>(rt: &impl Abort, alloc: Global, rows: &[(E, &str)]) -> Result<(), Fail> {
+// Checks that an error has this name, a colon and this sentence.
+fn says<E: Display>(
+    rt: &impl Abort,
+    alloc: Global,
+    name: &str,
+    sentence: &E,
+    expected: &str,
+) -> Result<(), Fail> {
+    let text = format!(in alloc; "{name}: {sentence}")?;
+    assert_eq!(rt; text.as_str(), expected);
+    Ok(())
+}
+
+// Checks that each error prints this text by `{}` and by `{:#}`.
+fn prints<E: Display>(rt: &impl Abort, alloc: Global, rows: &[(E, &str)]) -> Result<(), Fail> {
     for (error, expected) in rows {
-        let texts = format!(in alloc; "{error}: {error:#}")?;
-        assert_eq!(rt; texts.as_str(), *expected);
+        let text = format!(in alloc; "{error}")?;
+        let styled = format!(in alloc; "{error:#}")?;
+        assert_eq!(rt; text.as_str(), *expected);
+        assert_eq!(rt; styled.as_str(), *expected);
     }
     Ok(())
 }
 
-// Checks that each error has this text.
-fn prints<E: Display>(rt: &impl Abort, alloc: Global, rows: &[(E, &str)]) -> Result<(), Fail> {
+// Checks that each error of a ported crate prints its name by `{}` and its sentence by `{:#}`.
+fn prints_both<E: Display>(rt: &impl Abort, alloc: Global, rows: &[(E, &str)]) -> Result<(), Fail> {
     for (error, expected) in rows {
-        let text = format!(in alloc; "{error}")?;
+        let text = format!(in alloc; "{error}: {error:#}")?;
         assert_eq!(rt; text.as_str(), *expected);
     }
     Ok(())
 }
 
 #[test]
-fn names_and_sentences(rt: HostRuntime) -> Result<(), Fail> {
+fn ported_names_and_sentences(rt: HostRuntime) -> Result<(), Fail> {
     let alloc = rt.alloc();
-    says(&rt, alloc, &CIDS)?;
-    says(&rt, alloc, &CBOR)?;
-    says(&rt, alloc, &BLOCKS)?;
-    says(&rt, alloc, &RAW)?;
-    says(&rt, alloc, &TOKENS)?;
-    says(&rt, alloc, &READS)?;
-    says(&rt, alloc, &VALUES)
+    prints_both(&rt, alloc, &CIDS)?;
+    prints_both(&rt, alloc, &CBOR)?;
+    prints_both(&rt, alloc, &RAW)?;
+    for (error, expected) in &CIDS {
+        says(&rt, alloc, error.name(), &error.sentence(), expected)?;
+    }
+    for (error, expected) in &CBOR {
+        says(&rt, alloc, error.name(), &error.sentence(), expected)?;
+    }
+    for (error, expected) in &RAW {
+        says(&rt, alloc, error.name(), &error.sentence(), expected)?;
+    }
+    for (error, expected) in &VALUES {
+        says(&rt, alloc, error.name(), &error.sentence(), expected)?;
+    }
+    let custom = SerdeError::Custom("no such town");
+    let text = format!(in alloc; "{custom}, {custom:#}, {}", SerdeError::NoKey)?;
+    assert_eq!(&rt;
+        text.as_str(),
+        "serde error: no such town, no such town, NoKey"
+    );
+    Ok(())
 }
 
 #[test]
-fn sentences_and_names(rt: HostRuntime) -> Result<(), Fail> {
+fn names_and_sentences(rt: HostRuntime) -> Result<(), Fail> {
+    let alloc = rt.alloc();
+    for (error, expected) in &BLOCKS {
+        says(&rt, alloc, error.kind.name(), error, expected)?;
+    }
+    for (error, expected) in &TOKENS {
+        says(&rt, alloc, error.name(), error, expected)?;
+    }
+    for (error, expected) in &READS {
+        says(&rt, alloc, error.name(), error, expected)?;
+    }
+    for (error, expected) in &ENCODED {
+        says(&rt, alloc, error.name(), error, expected)?;
+    }
+    for (error, expected) in &DECODED {
+        says(&rt, alloc, error.name(), error, expected)?;
+    }
+    for (error, expected) in &RUNS {
+        says(&rt, alloc, error.name(), error, expected)?;
+    }
+    Ok(())
+}
+
+#[test]
+fn sentences(rt: HostRuntime) -> Result<(), Fail> {
     let alloc = rt.alloc();
     prints(&rt, alloc, &TEXTS)?;
-    let v0 = "a version 0 CID has a text in base58btc alone";
     prints(
         &rt,
         alloc,
         &[
-            (ToStringError::InvalidCidV0Base, v0),
+            (
+                ToStringError::InvalidCidV0Base,
+                "a CID of version 0 has a text only in base58btc",
+            ),
             (ToStringError::Memory, "out of memory"),
         ],
     )?;
-    let wrong = "the block has another digest than the CID";
     prints(
         &rt,
         alloc,
         &[
-            (VerifyError::UnknownHash(17), "unknown hash code 17"),
-            (VerifyError::WrongDigest, wrong),
+            (
+                VerifyError::UnknownHash(17),
+                "unsupported hash function with the code 17",
+            ),
+            (
+                VerifyError::WrongDigest,
+                "the block's digest is not that of its CID",
+            ),
         ],
-    )?;
-    prints(&rt, alloc, &ENCODED)?;
-    prints(&rt, alloc, &DECODED)?;
-    says(&rt, alloc, &RUNS)
+    )
 }
 
 // Checks that the texts are those of the Rust crate.

@@ -2,7 +2,9 @@
 
 use crate::parts::limited;
 use crate::tree_words;
-use dag_json::{floats, from_canonical, from_slice, from_str, tape_from_slice, to_string, to_vec};
+use dag_json::{
+    ReadError, floats, from_canonical, from_slice, from_str, tape_from_slice, to_string, to_vec,
+};
 use ipld_tree::{Ipld, Limits};
 use std::alloc::{AllocError, Global};
 use std::str;
@@ -25,7 +27,7 @@ pub fn tree(alloc: Global, words: &str) -> Result<String, AllocError> {
         }
         (Err(error), Err(other)) => {
             if error == other {
-                format!(in alloc; "{error}: {error:#}")
+                format!(in alloc; "{}: {error}", error.name())
             } else {
                 another(alloc)
             }
@@ -59,12 +61,17 @@ fn read_within(alloc: Global, text: &[u8], limits: &Limits) -> Result<String, Al
             match written {
                 Ok(written) if of_str => compared(alloc, text, limits, &written),
                 Ok(_) => String::from_str(alloc, "another outcome as a string"),
-                Err(error) => format!(in alloc; "{error}"),
+                Err(error) => String::from_str(alloc, error.name()),
             }
         }
         Err(_) if of_str => String::from_str(alloc, "another outcome as a string"),
-        Err(error) => format!(in alloc; "{error}"),
+        Err(error) => text_of_error(alloc, &error),
     }
+}
+
+// Returns the name of an error, and the byte of the text at which it is.
+fn text_of_error(alloc: Global, error: &ReadError) -> Result<String, AllocError> {
+    format!(in alloc; "{} at byte {}", error.kind.name(), error.offset)
 }
 
 /// Returns whether a text that may have floats is read within limits, both into a tree and into a
@@ -89,7 +96,7 @@ pub fn read_floats(alloc: Global, row: &str) -> Result<String, AllocError> {
     }
     match tree {
         Ok(()) => String::from_str(alloc, "ok"),
-        Err(error) => format!(in alloc; "{error}"),
+        Err(error) => text_of_error(alloc, &error),
     }
 }
 
@@ -116,6 +123,9 @@ fn compared(
             tree.discard();
             format!(in alloc; "={written}")
         }
-        Err(error) => format!(in alloc; "{written} {error}"),
+        Err(error) => {
+            let error = text_of_error(alloc, &error)?;
+            format!(in alloc; "{written} {error}")
+        }
     }
 }

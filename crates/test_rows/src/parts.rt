@@ -81,7 +81,7 @@ pub fn decoded_within(alloc: Global, row: &str) -> Result<String, AllocError> {
             let is_same = decode_slice(alloc, bytes.as_slice()) == Ok(tree);
             String::from_str(alloc, if is_same { "its tree" } else { "another tree" })
         }
-        Err(error) => format!(in alloc; "{error}"),
+        Err(error) => { format!(in alloc; "{} at byte {}", error.kind.name(), error.offset) }
     }
 }
 
@@ -96,7 +96,7 @@ pub fn size(alloc: Global, digits: &str) -> Result<String, AllocError> {
     };
     match measure_block(alloc, bytes.as_slice(), &options) {
         Ok(size) => format!(in alloc; "{} {} {}", size.levels, size.values, size.links),
-        Err(error) => format!(in alloc; "{}", error.kind),
+        Err(error) => String::from_str(alloc, error.kind.name()),
     }
 }
 
@@ -150,7 +150,7 @@ fn described(
 }
 
 fn text_of_error(alloc: Global, error: BlockError) -> Result<String, AllocError> {
-    format!(in alloc; "{}@{}", error.kind, error.offset)
+    format!(in alloc; "{}@{}", error.kind.name(), error.offset)
 }
 
 fn of_floats(alloc: Global, block: &[u8], limits: Limits) -> Result<String, AllocError> {

@@ -224,7 +224,7 @@ fn report_error(
             )
         }
         EncodeError::Tape(error) => {
-            let _ = eprintln!(rt; "ipld: {file}: {error:#}");
+            let _ = eprintln!(rt; "ipld: {file}: {error}");
             Outcome::NotSo
         }
         EncodeError::NotBytes => {

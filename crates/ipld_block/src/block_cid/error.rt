@@ -1,6 +1,6 @@
 //! The error of a block that is not known to be the one that a content identifier names.
 
-use itoa::Buffer;
+use ipld_cid::write_number;
 use std::{error, fmt};
 
 /// The reason why a block is not known to be the one that a content identifier names. Its `Display`
@@ -25,10 +25,9 @@ impl fmt::Display for VerifyError {
     fn fmt<W: fmt::Write>(&self, f: &mut fmt::Formatter<W>) -> fmt::Result {
         match self {
             VerifyError::UnknownHash(code) => {
-                f.write_str("unknown hash code ")?;
-                f.write_str(Buffer::new().format(*code))
+                write_number(f, "unsupported hash function with the code ", *code)
             }
-            VerifyError::WrongDigest => f.write_str("the block has another digest than the CID"),
+            VerifyError::WrongDigest => f.write_str("the block's digest is not that of its CID"),
         }
     }
 }

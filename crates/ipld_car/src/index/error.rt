@@ -1,6 +1,6 @@
 //! The errors of reading an index.
 
-use crate::error::write_number;
+use ipld_cid::write_number;
 use std::alloc::{AllocError, AllocFailed};
 use std::{error, fmt, io};
 
@@ -38,36 +38,34 @@ impl fmt::Display for IndexError {
     ghost styled_output = { λ error _. styled_sentence error };
 
     fn fmt<W: fmt::Write>(&self, f: &mut fmt::Formatter<W>) -> fmt::Result {
-        match self {
-            IndexError::Memory => f.write_str("out of memory"),
-            IndexError::Read(error) => write!(f, "the reader failed: {error}"),
-            IndexError::UnexpectedEnd => f.write_str("the file ends within the index"),
-            IndexError::FormatNotShortest => {
-                f.write_str("the varint of the index's format is not in its shortest form")
-            }
-            IndexError::FormatTooLarge => f.write_str("the index's format is 2^64 or more"),
-            IndexError::Format(code) => write!(
-                f,
-                "the index has the format 0x{code:x}, and 0x401 alone is read"
-            ),
-            IndexError::Width(width) => {
-                write_number(
+        f.write_str(match self {
+            IndexError::Memory => "out of memory",
+            IndexError::Read(error) => return write!(f, "cannot read: {error}"),
+            IndexError::UnexpectedEnd => "the file ends within the index",
+            IndexError::FormatNotShortest => "the index's format is not in its shortest form",
+            IndexError::FormatTooLarge => "the index's format is 2^64 or more",
+            IndexError::Format(code) => {
+                return write!(
                     f,
-                    "the index has rows of ",
+                    "unsupported format of the index: expected 0x401, found 0x{code:x}"
+                );
+            }
+            IndexError::Width(width) => {
+                return write_number(
+                    f,
+                    "the rows of the index should have 8 to 72 bytes, but have ",
                     u64::from(*width),
-                    " bytes, and 8 to 72 are read",
-                )
+                );
             }
             IndexError::Length(length) => {
-                write_number(
+                return write_number(
                     f,
-                    "the index has ",
+                    "the index is not a whole number of rows: its length is ",
                     *length,
-                    " bytes of rows, which is no number of rows",
-                )
+                );
             }
-            IndexError::NotSorted => f.write_str("the index is not sorted"),
-        }
+            IndexError::NotSorted => "the index is not sorted",
+        })
     }
 }
 

@@ -72,10 +72,13 @@ impl<'a> fmt::Display for SectionExplanation<'a> {
                 f,
                 "the section is {length} bytes, over the limit (raise it with --limit),"
             )?,
-            CarErrorKind::Cid(error) => write!(
-                f,
-                "the section does not begin with a CID: {error:#}"
-            )?,
+            CarErrorKind::Cid(error) => {
+                write!(
+                    f,
+                    "the section does not begin with a CID: {}",
+                    error.sentence()
+                )?;
+            }
             kind => write!(f, "{kind}")?,
         }
         write!(f, " at byte {offset}")

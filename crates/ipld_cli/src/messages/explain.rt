@@ -2,7 +2,6 @@
 
 use crate::messages::json_error::JsonExplanation;
 use crate::messages::start::{ItemStart, item_start};
-use car_files::InvalidReason;
 use dag_cbor::item::read_key;
 use dag_cbor::{BlockErrorKind, CborError};
 use ipld_block::{BlockCodec, CheckError, InvalidBlock, check};
@@ -71,10 +70,10 @@ impl<'a> fmt::Display for Explanation<'a> {
                 f.write_str("not valid DAG-JSON: ")?;
                 return JsonExplanation::new(self.block, error).fmt(f);
             }
-            why => return InvalidReason(&why).fmt(f),
+            why => return why.fmt(f),
         };
         let Some(item) = self.block.get(error.offset..) else {
-            return InvalidReason(&self.why).fmt(f);
+            return self.why.fmt(f);
         };
         let offset = error.offset;
         f.write_str("not valid DAG-CBOR: ")?;
@@ -83,7 +82,7 @@ impl<'a> fmt::Display for Explanation<'a> {
                 return write_trailing(f, item.len(), offset);
             }
             BlockErrorKind::Cbor(kind) => self.write_cbor(f, kind, item)?,
-            kind => write!(f, "{kind:#}")?,
+            kind => kind.fmt(f)?,
         }
         write!(f, " at byte {offset}")
     }
@@ -111,8 +110,7 @@ impl<'a> Explanation<'a> {
             CborError::End => write_end(f, item),
             CborError::NotShortest => write_not_shortest(f, item_start(item)),
             CborError::DuplicateKey => write_duplicate_key(f, item),
-            CborError::Cid(error) => write!(f, "invalid link: not a CID: {error:#}"),
-            _ => write!(f, "{kind:#}"),
+            _ => write!(f, "{}", kind.sentence()),
         }
     }
 

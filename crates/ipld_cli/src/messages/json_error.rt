@@ -1,7 +1,7 @@
 //! The error of a text that is not DAG-JSON.
 
 use crate::messages::text_place::TextPlace;
-use dag_json::{ReadError, ReadErrorKind};
+use dag_json::{ReadError, ReadErrorKind, floats};
 use std::{fmt, str};
 
 // The most bytes of a key that is part of a sentence.
@@ -38,29 +38,13 @@ impl<'a> JsonExplanation<'a> {
     // Returns the sentence for an error without a key.
     fn sentence(&self) -> &'static str {
         match self.error.kind {
-            ReadErrorKind::Memory => "out of memory",
-            ReadErrorKind::Utf8 => "the text is not valid UTF-8",
-            ReadErrorKind::Syntax => "not valid JSON",
-            ReadErrorKind::End => "unexpected end of the text",
-            ReadErrorKind::Float if self.has_floats => "the number is too large for a 64-bit float",
-            ReadErrorKind::Float => "a float (only --codec dag-cbor allows floats)",
-            ReadErrorKind::IntegerRange if self.has_floats => {
-                "the integer is below -2^64 or above 2^64 - 1"
-            }
-            ReadErrorKind::IntegerRange => "the integer is below -2^127 or above 2^127 - 1",
-            ReadErrorKind::DuplicateKey => "duplicate key",
-            ReadErrorKind::Link => {
-                "invalid link: not a CID in base32 (version 1) or base58btc (version 0)"
-            }
-            ReadErrorKind::Bytes => "invalid bytes: not base64 without padding",
-            ReadErrorKind::Reserved => {
-                "DAG-JSON reserves this object: it must be {\"/\":\"CID\"} or {\"/\":{\"bytes\":\"..\"}}"
-            }
             ReadErrorKind::TooDeep => "arrays and objects nest deeper than 1024 levels",
-            ReadErrorKind::TooMany => "too many values",
             ReadErrorKind::NotCanonical => {
                 "not canonical DAG-JSON (without --canonical, it is read)"
             }
+            kind if self.has_floats => floats::sentence(kind),
+            ReadErrorKind::Float => "a float (only --codec dag-cbor allows floats)",
+            kind => kind.sentence(),
         }
     }
 }

@@ -49,13 +49,8 @@ impl<'a> fmt::Display for NoCid<'a> {
         f.write_str("not a CID: ")?;
         match self.error {
             TextError::UnknownBase => self.write_beginning(f),
-            TextError::InvalidLength => f.write_str("no CID has a text of this length"),
             TextError::InvalidLetter(place) => self.write_letter(f, place),
-            TextError::UnusedBits => f.write_str("the last character has unused bits that are set"),
-            TextError::WrongVersion => f.write_str(
-                "wrong form for its version (Qm.. is version 0, and a multibase text version 1)",
-            ),
-            TextError::Cid(error) => write!(f, "its decoded bytes are invalid: {error:#}"),
+            error => error.fmt(f),
         }
     }
 }

@@ -76,7 +76,6 @@ impl<'a> fmt::Display for ShowExplanation<'a> {
                 f,
                 "DAG-JSON cannot contain the map at byte {offset}, because its first key is \"/\" (use show without --json)"
             ),
-            ShowError::Cid(error) => write!(f, "not a CID: {error:#}"),
             error => write!(f, "{error}"),
         }
     }

@@ -1,5 +1,5 @@
-use Rattle.dag_pb.proofs.Texts.{displays-then}
+use Rattle.ipld_cid.proofs.Sentences.{then_styled}
 use Rattle.dag_pb.proofs.error.PbErrorDisplay.fmt.Goals as goal
 
 pub returns-clause-styled : goal.returns-clause-styled
-returns-clause-styled g c = displays-then g.W.Write.write_str_gives _ _ _ _ _ _ c.in_ok-fmt.ensures.styled c.write_place.ensures.styled
+returns-clause-styled g c = then_styled _ c.in_ok-fmt.ensures.styled c.write_number.ensures.styled
