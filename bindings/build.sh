@@ -1,12 +1,12 @@
 #!/bin/sh
-# Makes bindings/out/libkombilad.a and libkombilad.so.0 of the proved library for x86-64, with which the C file and the module for
-# WebAssembly are compared. It proves and builds what isn't yet, which takes minutes in a fresh clone. It needs rt, a C compiler and
+# Makes bindings/out/libkombilad.a and libkombilad.so.0 from the proved library for x86-64. Tests compare the C file and the module for
+# WebAssembly with it. In a fresh clone it first proves and builds the library, which takes minutes. It needs rt, a C compiler and
 # binutils. It writes only into bindings/out and the crates' out.
 #
 #     bindings/build.sh [--unproved]
 #
-# With --unproved it proves nothing, and makes libkombilad-unproved.a and libkombilad-unproved.so.0 in bindings/out/unproved: the same code,
-# which stops at an overflow or an index out of bounds.
+# With --unproved it doesn't prove anything, and makes libkombilad-unproved.a and libkombilad-unproved.so.0 in bindings/out/unproved. They
+# have the same code, but it stops at an overflow or an index out of bounds.
 set -eu
 cd "$(dirname "$0")"
 . ../.ci/start.sh
@@ -31,7 +31,7 @@ fi
 mkdir -p "$out"
 "$cc" -std=c11 -O2 -fPIC -Wall -Wextra -Werror -c c/alloc.c -o "$out/alloc.o"
 
-# One object in which only the calls are seen, so that a program may hold another library of the same toolchain.
+# One object in which only the calls are visible, so that a program may contain another library of the same toolchain.
 object=$out/kombilad$mark.o
 ld -r --whole-archive "$library" --no-whole-archive "$out/alloc.o" -o "$object"
 objcopy --wildcard --keep-global-symbol='kombilad_*' "$object"

@@ -1,5 +1,5 @@
 #!/bin/sh
-# Makes what one publishes of a commit, in a new folder. The same commit and the same tools give the same bytes, in any folder.
+# Makes the files of a release from a commit, in a new folder. The same commit and the same tools give the same bytes, in any folder.
 #
 #     bindings/release.sh [--uncommitted] FOLDER
 #
@@ -12,9 +12,10 @@
 #     BUILT-FROM                              version and commit, which toolchain proved it, which tools made the files
 #     SHA256SUMS                              of all of these
 #
-# It refuses changes that aren't committed; with --uncommitted BUILT-FROM names them. It refuses a dist/ that isn't what the commit makes. If
-# BUILT is set, it takes the C file from the folder DIST, or from dist/ as it is, and the packages for Python and npm that bindings/out has.
-# It needs what portable/make.py, wheel.sh and wasm.sh need, and git. It refuses what --unproved made.
+# It fails if there are uncommitted changes. With --uncommitted it accepts them, and BUILT-FROM states that there are some. It fails if dist/
+# differs from the files that the commit makes, and if a file was made with --unproved. If BUILT is set, it doesn't compare dist/. Then it takes
+# the C file from the folder DIST or from dist/, and the packages for Python and npm from bindings/out. It needs git, and the tools of
+# portable/make.py, wheel.sh and wasm.sh.
 set -eu
 umask 022
 export LC_ALL=C TZ=UTC0
@@ -63,7 +64,7 @@ fi
 stage=$(mktemp -d)
 trap 'rm -rf "$stage"' EXIT
 
-# What --unproved made has the mark inside too, so that another name doesn't hide it.
+# Files that --unproved made are marked inside too, so another name doesn't hide it.
 again="is not of the proved library: run bindings/wheel.sh and bindings/wasm.sh"
 { tar -xzOf "$out/kombilad-$version.tar.gz" "kombilad-$version/PKG-INFO" 2> /dev/null || true; } | grep -qx "Version: $version" ||
     failed "$out/kombilad-$version.tar.gz $again"
@@ -72,13 +73,13 @@ python3 -c 'import sys, zipfile; sys.exit(not any(it.startswith(sys.argv[2]) for
 tar -xzOf "$out/kombilad-$version.tgz" package/package.json | grep -qF "\"version\": \"$version\"" || failed "$out/kombilad-$version.tgz $again"
 mkdir -p "$into"
 
-# tarball FILE NAME: the files below the folder NAME of the stage, sorted, with one owner, one time, and the modes 644 and 755.
+# tarball FILE NAME: packs the files below the folder NAME of the stage, sorted, with one owner, one time, and the modes 644 and 755.
 tarball() {
     (cd "$stage" && find "$2" ! -type d | sort | tar --format=ustar --owner=0 --group=0 --numeric-owner --mode='u=rwX,go=rX' \
         --mtime="@$SOURCE_DATE_EPOCH" --no-recursion -T - -cf - | gzip -9n > "$1")
 }
 
-# tracked FOLDER NAME: copies the files that git has in FOLDER, or could add, to the folder NAME of the stage, with the licences.
+# tracked FOLDER NAME: copies the files in FOLDER that git tracks or could add to the folder NAME of the stage, with the licences.
 tracked() {
     mkdir -p "$stage/$2"
     (cd "$1" && git ls-files -z --cached --others --exclude-standard | tar --null -T - -cf -) | tar -C "$stage/$2" -xf -
@@ -108,8 +109,8 @@ cp "$out"/kombilad-"$version"-*.whl "$into"
 
 # ---- Rust
 
-# As `cargo package` does it, the manifest names dependencies by their versions alone and is in no workspace, and Cargo.toml.orig is the
-# one of the repository. cargo itself asks a registry for the crates of this repository, which has them only once they are published.
+# As with `cargo package`, the manifest names dependencies only by their versions and has no workspace, and Cargo.toml.orig is the file of the
+# repository. cargo itself would look up the crates of this repository in a registry, which has them only after they are published.
 for crate in kombilad-sys kombilad kombilad-cid; do
     name=$crate-$version
     tracked "rust/$crate" "$name"
@@ -123,7 +124,7 @@ done
 
 # ---- Go
 
-# As Go's module proxies have it: all files below MODULE@vVERSION, without the folder of another module.
+# The format of Go's module proxies: all files are below MODULE@vVERSION, without the folder of another module.
 name=$(sed -n 's/^module //p' go/go.mod)@v$version
 tracked go "go/$name"
 rm -r "$stage/go/$name/bench"
@@ -144,7 +145,7 @@ with zipfile.ZipFile(sys.argv[1], "w", zipfile.ZIP_DEFLATED) as made:
 
 cp "$out/kombilad-$version.tgz" "$into"
 
-# ---- What it is made from, and the checksums
+# ---- The origin of the files, and the checksums
 
 first_line() { "$@" 2>&1 | head -n 1; }
 {

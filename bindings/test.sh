@@ -1,11 +1,12 @@
 #!/bin/sh
-# Tests libkombilad and what calls it: C, C++, Rust, Python, JavaScript and Go, each call with each buffer that is too short and each allocation refused,
-# threads, 10,000,000 nested lists, random blocks, nodes of DAG-PB and CARs against an independent reader, and the programs that pages show.
+# Tests libkombilad and the packages for C, C++, Rust, Python, JavaScript and Go. It tests each call with buffers that are too short and with
+# allocations that fail, threads, 10,000,000 nested lists, and the programs in pages. It compares random blocks, nodes of DAG-PB and CARs with
+# an independent reader.
 #
-# The library for x86-64 is the one that `rt ci` or `rt lib` proved and built. The packages are built of the C file that portable/make.py
-# makes of the same module, or of the one in the folder DIST. Before anything else the script asks `.ci/needs bindings` for all that it and
-# the scripts that it calls need. If the variable CI is `true` it installs what is missing. It writes into bindings/out, and a checkout into
-# a temporary folder.
+# The library for x86-64 is the one that `rt ci` or `rt lib` proved and built. The packages are built from the C file that portable/make.py
+# makes from the same module, or from the one in the folder DIST. At first `.ci/needs bindings` checks for the tools of this script and of the
+# scripts that it calls. If the variable CI is `true`, it installs the missing ones. The script writes into bindings/out, and a checkout into a
+# temporary folder.
 set -eu
 [ -z "${DIST:-}" ] || DIST=$(realpath "$DIST")
 cd "$(dirname "$0")"
@@ -32,7 +33,7 @@ if [ -z "${DIST:-}" ]; then
 fi
 export DIST
 
-# The packages, and the C file as far from them as it is in the repository.
+# The packages, and the C file at the same relative path as in the repository.
 copy=$tests/kombilad
 mkdir -p "$copy/bindings" "$copy/dist"
 cp -r c rust "$copy/bindings"
@@ -47,7 +48,7 @@ quietly cmake -S "$copy/bindings/c" -B "$tests/c" -DCMAKE_C_FLAGS_RELEASE=-O2 -D
 quietly cmake --build "$tests/c"
 quietly cmake --install "$tests/c"
 
-# ---- What is exported, and what the header, the bindings and the definitions say of the numbers
+# ---- The exported symbols, and the numbers in the header, the bindings and the definitions
 
 python3 test/exports.py "$out/libkombilad.a" "$out/libkombilad.so.0" "$prefix/lib/libkombilad.a"
 python3 test/numbers.py
@@ -76,7 +77,7 @@ g++ -std=c++11 -O2 $warnings test/calls.cpp $(pkg-config --cflags --libs kombila
 
 export CARGO_TARGET_DIR="$out/rust"
 export CARGO_NET_OFFLINE=true
-# cargo with the crates that Debian's packages have installed.
+# Runs cargo with the crates of Debian's packages.
 with_debian() {
     command=$1
     shift
@@ -93,7 +94,7 @@ said "Rust without serde: ok"
 RUSTDOCFLAGS="-D warnings" with_debian doc --no-deps --manifest-path "$rust/Cargo.toml"
 said "Rust, documentation: ok"
 with_debian build --examples --manifest-path "$rust/Cargo.toml"
-# Over installed libraries: the static one of the package for C, and the shared one for x86-64.
+# With installed libraries: the static one of the package for C, and the shared one for x86-64.
 KOMBILAD_LIB_DIR=$prefix/lib with_debian test --manifest-path "$rust/kombilad-cid/Cargo.toml"
 said "Rust, over a static library and with $(basename "$(echo "$registry"/cid-[0-9]*)"): ok"
 KOMBILAD_LIB_DIR=$out LD_LIBRARY_PATH=$out with_debian test --test calls --test car --test values --test typed --manifest-path "$rust/Cargo.toml"
@@ -111,7 +112,7 @@ said "Rust, over a shared library: ok"
 "$tests/venv/bin/python" test/random_blocks.py "$blocks"
 "$tests/venv/bin/python" test/random_pb.py "$blocks"
 "$tests/venv/bin/python" test/random_cars.py "$blocks"
-# cbor2, where it is installed, is looked at too.
+# They compare with cbor2 too, if it is installed.
 PYTHONPATH=/usr/lib/python3/dist-packages "$tests/venv/bin/python" test/values.py "$blocks"
 PYTHONPATH=/usr/lib/python3/dist-packages "$tests/venv/bin/python" test/missing_blocks.py "$tests/missing"
 
@@ -121,13 +122,13 @@ for module in "-p kombilad" test/typed.py; do
 done
 said "the types of the package: ok"
 
-# The package with other extension modules: one that looks at the interpreter's lock at some calls, one whose allocations in libkombilad are
-# refused, and both of its C code under the sanitizers.
+# The package with three other extension modules. The first records at some calls whether the interpreter's lock is held. In the second
+# allocations of libkombilad fail. In the third they fail too, and its own C code is compiled with the sanitizers.
 installed=$("$tests/venv/bin/python" -c 'import kombilad, pathlib; print(pathlib.Path(kombilad.__file__).parent)')
 (cd "$tests" && ar x "$prefix/lib/libkombilad.a")
 library=$tests/kombilad.c.o
 include="-I$copy/dist -Ipython/native -I$("$python" -c 'import sysconfig; print(sysconfig.get_path("include"))')"
-# module NAME WORD..: puts the package with the module that these words make into the folder NAME.
+# module NAME WORD..: puts the package into the folder NAME, with an extension module that cc builds with these words.
 module() {
     name=$1
     shift
@@ -165,15 +166,15 @@ js/test.sh
 
 go/test.sh
 
-# ---- What is published
+# ---- The release
 
 test/release.sh
 
-# ---- What is built without a proof, and marked so
+# ---- Builds without proofs, which are marked
 
 test/unproved.sh
 
-# ---- What the README shows, run as it stands there: .ci/snippets compares it with these programs
+# ---- The programs in the README, which .ci/snippets compares with these files
 
 printf '\202\330\052\105\000\001\125\000\000\330\052\130\043\000\022\040\343\260\304\102\230\374\034\024\232\373\364\310\231\157\271\044\047\256\101\344\144\233\223\114\244\225\231\033\170\122\270\125' > "$tests/block"
 printf 'bafkqaaa\nQmdfTbBqBPQ7VNxZEYEj14VmRuZBkqFbiwReogJgS1zR1n\n' > "$tests/expected"
@@ -192,7 +193,7 @@ said "what the README shows: ok"
 
 cp -r python js "$copy/bindings"
 ln -s js/node_modules "$tests/node_modules"
-# Cargo with Debian's crates, over the shared library, as the last test of Rust built it.
+# Cargo with Debian's crates and the shared library, as in the last test of Rust.
 mkdir "$tests/cargo"
 printf '[source.crates-io]\nreplace-with = "debian"\n[source.debian]\ndirectory = "%s"\n' "$registry" > "$tests/cargo/config.toml"
 CARGO_HOME=$tests/cargo KOMBILAD_LIB_DIR=$out LD_LIBRARY_PATH=$out PATH=$tests/venv/bin:$PATH python3 ../.ci/examples.py bindings "$tests"

@@ -1,12 +1,12 @@
 #!/bin/sh
-# Makes the package for Python of the C file: bindings/out/kombilad-VERSION.tar.gz, an sdist, and from it a wheel for Linux,
+# Makes the package for Python from the C file: bindings/out/kombilad-VERSION.tar.gz, an sdist, and from it a wheel for Linux,
 # bindings/out/kombilad-VERSION-cp39-abi3-manylinux_2_17_PROCESSOR.whl. It needs a C compiler and Debian's python3-dev, python3-venv,
 # python3-wheel and python3-setuptools.
 #
 #     bindings/wheel.sh [--unproved]
 #
-# DIST is the folder of kombilad.c and kombilad.h, and dist of the repository if it isn't set. With --unproved the C file is made without
-# proofs, and both files have the version VERSION+unproved and lie in bindings/out/unproved.
+# DIST is the folder of kombilad.c and kombilad.h. If it isn't set, it is dist/ of the repository. With --unproved the C file is made without
+# proofs, and the files have the version VERSION+unproved and are in bindings/out/unproved.
 set -eu
 dist=$(realpath -m "${DIST:-$(dirname "$0")/../dist}")
 cd "$(dirname "$0")"
@@ -20,7 +20,7 @@ case ${1:-} in
     --unproved) mark=+unproved out=$out/unproved dist=$out/module ;;
     *) sed -n '6s/^# *//p' "$(basename "$0")" >&2; exit 2 ;;
 esac
-# Each Linux whose C library is as new as this.
+# The wheel is for each Linux whose C library has at least this version.
 oldest_glibc=2.17
 python=/usr/bin/python3
 ../.ci/needs --tools cc header:stdlib.h readelf $python header:Python.h python:ensurepip python:setuptools python:wheel
@@ -31,7 +31,7 @@ python=/usr/bin/python3
 SOURCE_DATE_EPOCH=${SOURCE_DATE_EPOCH:-$(git log -1 --format=%ct HEAD 2> /dev/null || echo 315532800)}
 export SOURCE_DATE_EPOCH
 
-# A copy of what setup.py takes from the repository. The wheel has these modes, whatever those of the checkout are.
+# A copy of the files that setup.py takes from the repository. The wheel has these modes, which don't depend on those of the checkout.
 umask 022
 stage=$out/python
 rm -rf "$stage" "$out"/kombilad-*.whl "$out"/kombilad-*.tar.gz

@@ -3,13 +3,13 @@ package kombilad
 // Options are limits for untrusted blocks, and options for Go types. The zero value has the defaults.
 // The functions of the package use it.
 type Options struct {
-	// MaxLevels is the number of levels to which lists and maps may nest. 0 is the default of
+	// MaxLevels is the maximum number of levels to which lists and maps nest. 0 is the default of
 	// 1,024. A negative number allows neither lists nor maps. Unmarshal and Marshal recurse, so
 	// they allow 10,000 levels at most.
 	MaxLevels int
-	// MaxValues is the number of values that a block may have: its own, each item of a list, and
-	// each value of a map. 0 is the default: the number isn't limited. A negative number allows no
-	// value.
+	// MaxValues is the maximum number of values: the block itself, the items of its lists, and the
+	// values of its maps. 0 is the default: the number isn't limited. A negative number doesn't
+	// allow any value.
 	MaxValues int
 	// DisallowUnknownFields makes Unmarshal fail with ErrUnknownField if a Go struct has no field
 	// for a key of a map.
@@ -38,8 +38,8 @@ func (o Options) limits() limits {
 
 // Check checks that the bytes are one block of DAG-CBOR.
 //
-// It fails with an ErrBlock or an ErrLink status for the first error from the left, with ErrTooDeep
-// or ErrTooMany if the block exceeds a limit, and with ErrNoMemory. The error has the offset.
+// It fails with an ErrBlock or an ErrLink status for the leftmost error, with ErrTooDeep or
+// ErrTooMany if the block exceeds a limit, and with ErrNoMemory. The error has the offset.
 func Check(block []byte) error {
 	return Options{}.Check(block)
 }
@@ -68,8 +68,8 @@ func (o Options) CheckCanonical(block []byte) error {
 	return nil
 }
 
-// Canonicalize returns the block with the keys of each map in canonical order. Everything else stays
-// as it is.
+// Canonicalize returns the block with the keys of each map in canonical order. Everything else is
+// unchanged.
 //
 // It fails with the errors of Check, and with ErrTooLong if a value has 2^32 bytes or parts, or more.
 func Canonicalize(block []byte) ([]byte, error) {
@@ -111,8 +111,8 @@ func (o Options) ToJSON(block []byte) ([]byte, error) {
 // FromJSON returns the canonical block of DAG-CBOR of a text in DAG-JSON. The text may have blanks,
 // and the keys of an object in any order.
 //
-// It fails with an ErrJSON status for the first token that has an error, with ErrTooDeep or
-// ErrTooMany if the text exceeds a limit, and with ErrNoMemory. The error has the offset in the text.
+// It fails with an ErrJSON status for the first invalid token, with ErrTooDeep or ErrTooMany if the
+// text exceeds a limit, and with ErrNoMemory. The error has the offset in the text.
 func FromJSON(text []byte) ([]byte, error) {
 	return Options{}.FromJSON(text)
 }
@@ -139,7 +139,7 @@ type Position struct {
 }
 
 // Links returns the CIDs of all links of a block of DAG-CBOR, in the order of its bytes. A link that
-// is there twice is returned twice.
+// occurs twice is returned twice.
 //
 // It fails with the errors of Check.
 func Links(block []byte) ([]Cid, error) {
@@ -153,8 +153,8 @@ func (o Options) Links(block []byte) ([]Cid, error) {
 	})
 }
 
-// LinkPositions returns the places of all links of a block of DAG-CBOR. It copies nothing of the
-// block.
+// LinkPositions returns the positions of all links of a block of DAG-CBOR, in the order of its
+// bytes. It doesn't copy any part of the block.
 //
 // It fails with the errors of Check.
 func LinkPositions(block []byte) ([]Position, error) {
@@ -205,7 +205,7 @@ func mapped[T any](o Options, block []byte, of func(span) T) ([]T, error) {
 }
 
 // BlockLinks returns the links of a block, by the codec of its CID: DAG-CBOR, DAG-PB or raw. A raw
-// block has no links. It doesn't compare the block with the CID: [Cid.Verify] does.
+// block has no links. BlockLinks doesn't compare the block with the CID, as [Cid.Verify] does.
 //
 // It fails with ErrUnknownCodec for another codec, and with the errors of Links and DecodePb.
 func BlockLinks(cid Cid, block []byte) ([]Cid, error) {

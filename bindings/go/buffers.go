@@ -44,8 +44,8 @@ func (b *buffers[T]) put(buffer *[]T) {
 	}
 }
 
-// filled calls with the buffer, or with a longer one if the call asks for it, and returns the part
-// that the call has filled. A call asks for at most a few times as much as its input has.
+// filled makes a call with the buffer, and again with a longer one if the call needs it. It returns
+// the part that the call has filled. A call needs at most a few times the length of its input.
 func filled[T any](buffer []T, call func([]T) outcome) ([]T, outcome) {
 	made := call(buffer)
 	if made.status == statusTooShort {

@@ -50,7 +50,8 @@ func list(items []any) []byte {
 	return block
 }
 
-// The examples of RFC 8949, appendix A, that DAG-CBOR has.
+// TestExamplesOfRFC8949 decodes and encodes examples of appendix A that DAG-CBOR allows, and checks
+// that others are rejected.
 func TestExamplesOfRFC8949(t *testing.T) {
 	huge, _ := new(big.Int).SetString("-18446744073709551616", 10)
 	to25 := make([]any, 25)
@@ -117,7 +118,7 @@ func TestJSON(t *testing.T) {
 		same(t, text, err, nil)
 		same(t, text, block, unhex(t, digits))
 	}
-	// More bytes than there is room for at first.
+	// More bytes than the first buffer has room for.
 	escaped := append(unhex(t, "7a000186a0"), strings.Repeat("\x01", 100_000)...)
 	text, err := ToJSON(escaped)
 	same(t, "a long text", err, nil)
@@ -281,7 +282,7 @@ func TestErrorsAreFound(t *testing.T) {
 	same(t, "no error", Check([]byte{0x80}), nil)
 }
 
-// nested returns lists in one another, or maps with the key "".
+// nested returns nested lists, or nested maps with the key "".
 func nested(levels int, head string) []byte {
 	return []byte(strings.Repeat(head, levels-1) + string([]byte{head[0] - 1}))
 }
@@ -424,7 +425,7 @@ func TestCountsTakeNoMemory(t *testing.T) {
 			t.Errorf("%s takes %d bytes", digits, took)
 		}
 	}
-	// 100,000 items of which the first one doesn't fit.
+	// Of 100,000 items the first one doesn't fit.
 	items := make([]any, 100_000)
 	items[0] = []byte{0x01}
 	took := allocated(func() {

@@ -8,11 +8,11 @@ import (
 
 // CarOptions are limits for untrusted CARs. The zero value has the defaults.
 type CarOptions struct {
-	// MaxHeader is the number of bytes that a header may have. 0 is the default of 8 MiB, and a
-	// negative number allows no header.
+	// MaxHeader is the maximum number of bytes of a header. 0 is the default of 8 MiB. A negative
+	// number doesn't allow any header.
 	MaxHeader int
-	// MaxSection is the number of bytes that a section may have: those of a CID and a block. 0 is
-	// the default of 32 MiB, and a negative number allows no section.
+	// MaxSection is the maximum number of bytes of a section: a CID and a block. 0 is the default of
+	// 32 MiB. A negative number doesn't allow any section.
 	MaxSection int
 	// Verify makes Next fail if a block doesn't match its CID, or if the hash function is not
 	// SHA2-256, SHA2-512 or identity.
@@ -22,8 +22,8 @@ type CarOptions struct {
 // CarReader reads a CAR of version 1 or 2 from beginning to end. If the version is 2 it reads
 // only the payload, and not an index.
 //
-// It holds one section, and up to 64 KiB that it has read in advance. It returns a block once the
-// reader has returned the block's last byte. A CarReader is for one goroutine at a time.
+// It keeps one section in memory, and up to 64 KiB that it has read in advance. It returns a block
+// once the reader has returned the block's last byte. A CarReader is for one goroutine at a time.
 type CarReader struct {
 	source     io.Reader
 	sourceErr  error  // the error that the source has returned, io.EOF at its end
@@ -39,7 +39,8 @@ type CarReader struct {
 // carChunk is the number of bytes of the chunk.
 const carChunk = 64 << 10
 
-// placeOfPayload is the byte of a CAR of version 2 at which its header places the payload.
+// placeOfPayload is the byte of a CAR of version 2 at which its header has the offset of the
+// payload.
 const placeOfPayload = 27
 
 // OpenCar reads the header of a CAR. The reader needs no buffer.
@@ -92,15 +93,14 @@ func (r *CarReader) open(limit int) error {
 	}
 }
 
-// fill reads until it has read this many more bytes, or there are most bytes in all, or the source
-// has ended.
+// fill reads until there are this many more bytes, or most bytes in all, or the source has ended.
 func (r *CarReader) fill(more uint64, most int) error {
 	count := most
 	if more < uint64(most-len(r.bytes)) {
 		count = len(r.bytes) + int(more)
 	}
 	for len(r.bytes) < count && r.sourceErr == nil {
-		// The memory grows with the bytes that come, since a length may be wrong.
+		// The memory grows with the bytes that arrive, since a length in the CAR may be wrong.
 		step := count
 		for step > carChunk && step/4 >= len(r.bytes) {
 			step /= 2
@@ -128,8 +128,8 @@ func (r *CarReader) fill(more uint64, most int) error {
 	return nil
 }
 
-// take returns the first bytes, which are the caller's, and goes on after them. It copies those of
-// the chunk. Longer memory has only bytes of this section.
+// take returns the first bytes, and moves past them. The caller owns the result: take copies bytes
+// of the chunk, and longer memory has only bytes of this section.
 func (r *CarReader) take(count int) []byte {
 	taken := r.bytes[:count:count]
 	if cap(r.bytes) <= carChunk {
@@ -139,7 +139,7 @@ func (r *CarReader) take(count int) []byte {
 	return taken
 }
 
-// skip goes on after the first bytes.
+// skip moves past the first bytes.
 func (r *CarReader) skip(count int) {
 	r.bytes = r.bytes[count:]
 	if len(r.bytes) == 0 {
@@ -162,7 +162,7 @@ func (r *CarReader) Offset() int64 {
 	return int64(r.place.at)
 }
 
-// Next returns the next block and its CID. The block is the caller's. Next doesn't compare it with
+// Next returns the next block and its CID. The caller owns the block. Next doesn't compare it with
 // the CID unless [CarOptions.Verify] is set.
 //
 // After the last section it returns [io.EOF]. It fails with an ErrCar or an ErrCid status and the
@@ -209,7 +209,7 @@ func (r *CarReader) next() (Cid, []byte, error) {
 	return cid, block, nil
 }
 
-// Blocks returns an iterator over the blocks that are left, for a range statement of Go 1.23:
+// Blocks returns an iterator over the remaining blocks, for a range statement of Go 1.23:
 //
 //	for cid, block := range car.Blocks() {
 //		use(cid, block)

@@ -99,8 +99,8 @@ func TestABlockComesOnceItIsThere(t *testing.T) {
 	}
 }
 
-// TestBytesThatComeOneAtATime reads from a pipe that stays open. Every part comes by bytes, and no
-// byte comes before the part before it has been returned.
+// TestBytesThatComeOneAtATime reads from a pipe that stays open. The bytes of a part arrive one at
+// a time, after the reader has returned the part before it.
 func TestBytesThatComeOneAtATime(t *testing.T) {
 	blocks := [][]byte{nil, []byte("block"), bytes.Repeat([]byte("a"), 300), bytes.Repeat([]byte("b"), 70_000), {1}}
 	payload := carOf([]Cid{NewCid(Raw, nil)}, blocks...)

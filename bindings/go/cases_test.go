@@ -20,7 +20,7 @@ import (
 	"testing/iotest"
 )
 
-// statuses are the numbers of the statuses by their names, as the header has them.
+// statuses returns the numbers of the statuses in the header, by their names.
 func statuses(t testing.TB) map[string]Status {
 	header, err := os.ReadFile("kombilad.h")
 	if err != nil {
@@ -62,8 +62,8 @@ type randomCase struct {
 	Cid string
 }
 
-// TestRandomCases compares with a reader that shares nothing with the library. KOMBILAD_CASES is the
-// file that test/cases.py has written.
+// TestRandomCases compares the results with those of a reader that shares no code with the library.
+// KOMBILAD_CASES is the file that test/cases.py has written.
 func TestRandomCases(t *testing.T) {
 	name := os.Getenv("KOMBILAD_CASES")
 	if name == "" {
@@ -114,7 +114,7 @@ func unhex(t testing.TB, digits string) []byte {
 	return found
 }
 
-// sameError reports whether an error has a status and an offset.
+// sameError checks that an error has a status and an offset.
 func sameError(t *testing.T, what string, err error, status Status, offset int64) {
 	t.Helper()
 	var found *Error
@@ -134,7 +134,7 @@ func same(t *testing.T, what string, found, wanted any) {
 	}
 }
 
-// valueText is the text of a value as test/cases.py writes it.
+// valueText returns the text of a value as test/cases.py writes it.
 func valueText(value any) string {
 	switch it := value.(type) {
 	case nil:

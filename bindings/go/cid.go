@@ -22,7 +22,7 @@ type Base byte
 
 // The bases of a CID's text.
 const (
-	BaseUsual   Base = 0   // base32 of a CIDv1, base58btc of a CIDv0
+	BaseUsual   Base = 0   // base32 for a CIDv1, base58btc for a CIDv0
 	Base16      Base = 'f' // hexadecimal digits in lower case
 	Base32      Base = 'b' // RFC 4648 in lower case, without padding
 	Base32Upper Base = 'B' // RFC 4648 in upper case, without padding
@@ -32,12 +32,12 @@ const (
 )
 
 // Cid is a content identifier. It is comparable, and can be the key of a map. The zero value is
-// undefined: it is the CID of no block. Every other value is a valid CID of at most 86 bytes.
+// undefined: it is not the CID of any block. Every other value is a valid CID of at most 86 bytes.
 type Cid struct {
 	bytes string
 }
 
-// ParseCid parses the text of a CID in any [Base], also after "/ipfs/".
+// ParseCid parses the text of a CID in any [Base], with or without "/ipfs/" before it.
 //
 // It fails with an ErrText or an ErrCid status. The offset is that of the first invalid character.
 func ParseCid(text string) (Cid, error) {
@@ -107,8 +107,8 @@ func (c Cid) KeyString() string {
 	return c.bytes
 }
 
-// String returns the usual text: base32 of a CIDv1, and base58btc of a CIDv0, which begins with
-// "Qm". It is empty if the CID is undefined, or if C has no memory left.
+// String returns the usual text: base32 for a CIDv1, and base58btc for a CIDv0, which begins with
+// "Qm". It is empty if the CID is undefined, or if an allocation in C fails.
 func (c Cid) String() string {
 	text, _ := c.StringOfBase(BaseUsual)
 	return text
@@ -179,7 +179,7 @@ func (c *Cid) UnmarshalBinary(encoded []byte) (err error) {
 	return err
 }
 
-// MarshalJSON returns the CID as DAG-JSON has it: {"/":"bafy.."}. The undefined CID is null.
+// MarshalJSON returns the CID in DAG-JSON: {"/":"bafy.."}. The undefined CID is null.
 func (c Cid) MarshalJSON() ([]byte, error) {
 	if !c.Defined() {
 		return []byte("null"), nil
@@ -191,8 +191,9 @@ func (c Cid) MarshalJSON() ([]byte, error) {
 	return []byte(`{"/":"` + text + `"}`), nil
 }
 
-// UnmarshalJSON reads a CID that MarshalJSON has written, and a string with the text of a CID, which
-// is how encoding/json passes the key of an object. It fails with ErrType for any other JSON.
+// UnmarshalJSON reads a CID that MarshalJSON has written. It also reads a string with the text of a
+// CID, since encoding/json passes the key of an object like this. It fails with ErrType for any
+// other JSON, and with the errors of ParseCid.
 func (c *Cid) UnmarshalJSON(text []byte) error {
 	type object struct {
 		Text *string `json:"/"`

@@ -27,7 +27,7 @@ type Error struct {
 	Err error
 
 	detail string
-	// parts are those of the path, the innermost first.
+	// parts are the parts of the path, the innermost first.
 	parts []string
 }
 
@@ -67,7 +67,7 @@ func (e *Error) within(part string) *Error {
 	return e
 }
 
-// asError returns the error with its path. No error is nil, and not an interface of a nil pointer.
+// asError returns the error with its path. For a nil pointer it returns a nil interface.
 func (e *Error) asError() error {
 	if e == nil {
 		return nil

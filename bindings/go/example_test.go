@@ -157,7 +157,7 @@ func ExampleOpenCar() {
 	// bafyqaaa 1 [] <nil>
 }
 
-// Time is a time that is a number of seconds in a block.
+// Time is a time. In a block it is a number of seconds.
 type Time int64
 
 func (t Time) MarshalIPLD() (any, error) { return int64(t), nil }

@@ -2,7 +2,7 @@
 
 package kombilad
 
-// With the build tag kombilad_failing C allocates by functions that fail on demand: for tests.
+// For tests, the build tag kombilad_failing makes C allocate by functions that fail on demand.
 
 /*
 #cgo CFLAGS: -include ${SRCDIR}/failing.h
@@ -43,7 +43,7 @@ import "C"
 // refuseAfter makes one allocation fail, after count others, or no allocation if count is negative.
 func refuseAfter(count int) { C.refuse_after(C.long(count)) }
 
-// hasRefused reports whether an allocation has failed since.
+// hasRefused reports whether that allocation has failed.
 func hasRefused() bool { return C.allocations_left() < 0 }
 
 // allocationsHeld returns the number of allocations that are not freed.

@@ -18,8 +18,8 @@ type field struct {
 }
 
 // fieldsOf returns the fields of a struct and of the structs that are embedded in it, in canonical
-// order of their names. If several fields have one name, the least nested one counts, or
-// the one with a tag. If several are left, all are ignored, as in encoding/json.
+// order of their names. If several fields have the same name, it returns the least nested one, or
+// the one with a tag. If several are left, it ignores all of them, as encoding/json does.
 func fieldsOf(t reflect.Type) []field {
 	type level struct {
 		typ   reflect.Type
@@ -55,8 +55,8 @@ func fieldsOf(t reflect.Type) []field {
 	return dominant(found)
 }
 
-// fieldAt returns a field of a struct with its tag. If its own fields take its place it returns its
-// type too. The index is nil if the field has no key.
+// fieldAt returns a field of a struct with its tag. If the field is embedded, and its own fields
+// replace it, fieldAt also returns its type. The index is nil if the field has no key.
 func fieldAt(t reflect.Type, at int, outer []int) (one field, embedded reflect.Type) {
 	it := t.Field(at)
 	tag := it.Tag.Get("ipld")

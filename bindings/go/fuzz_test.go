@@ -70,8 +70,8 @@ type every struct {
 	Any    any             `ipld:"k,omitempty"`
 }
 
-// FuzzRoundTrip checks that a value of a block has the canonical block, and that a Go value that was
-// decoded is encoded and decoded as the same one.
+// FuzzRoundTrip checks that the value of a block is encoded as its canonical block. It checks that
+// a decoded Go value has the same block after it is encoded and decoded again.
 func FuzzRoundTrip(f *testing.F) {
 	seeds(f)
 	full, err := Marshal(every{
@@ -102,8 +102,8 @@ func FuzzRoundTrip(f *testing.F) {
 	})
 }
 
-// FuzzCar checks that a CAR is read in the same way if its bytes come one at a time, and that its
-// sections are its bytes.
+// FuzzCar checks that reading a CAR has the same result if its bytes arrive one at a time, and that
+// each block is the bytes of the CAR before the reader's offset.
 func FuzzCar(f *testing.F) {
 	car := carOf([]Cid{NewCid(Raw, nil)}, []byte("block"), nil)
 	for _, seed := range [][]byte{car, car[:70], version2Of(car, 0, ""), version2Of(car, 9, "index")} {

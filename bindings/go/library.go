@@ -199,7 +199,7 @@ const (
 	kindKey      = C.KOMBILAD_KIND_KEY
 )
 
-// outcome is the status of a call, the number of records that it needs, and where it stopped.
+// outcome is the status of a call, the number of records that it needs, and the offset of an error.
 type outcome struct {
 	status Status
 	needed int
@@ -210,7 +210,7 @@ func outcomeOf(made C.outcome) outcome {
 	return outcome{Status(made.status), int(made.needed), int64(made.offset)}
 }
 
-// limits are those of a call: levels of lists and maps, and a number of values.
+// limits are the limits of a call: the levels of lists and maps, and the number of values.
 type limits struct {
 	levels, values C.size_t
 }
@@ -221,8 +221,8 @@ const maxSize = ^C.size_t(0)
 // statusTooShort is the status of a call that needs a longer buffer.
 const statusTooShort Status = C.KOMBILAD_TOO_SHORT
 
-// The statuses of a call on a part of a CAR that needs more bytes, or that finds no section because
-// the last one is before the place.
+// The statuses of a call on a part of a CAR. statusMore: it needs more bytes. statusDone: no
+// section is left.
 const (
 	statusMore Status = C.KOMBILAD_CAR_MORE
 	statusDone Status = C.KOMBILAD_CAR_DONE
@@ -308,7 +308,7 @@ func callEncode(entries []entry, data, out []byte) outcome {
 	return outcomeOf(C.encode(from, count, bytes, length, to, room))
 }
 
-// cidParts are those of a CID, or zeros if the bytes aren't one.
+// cidParts are the parts of a CID, or zeros if the bytes aren't a CID.
 type cidParts struct {
 	version, codec, hash uint64
 	digest               int
@@ -359,7 +359,7 @@ type carPlace struct {
 // carPart is the result of a call on a part of a CAR.
 type carPart struct {
 	outcome
-	more       uint64 // how many more bytes are needed, if the status is statusMore
+	more       uint64 // the number of bytes that are needed, if the status is statusMore
 	place      carPlace
 	cid, block span
 }
@@ -381,7 +381,8 @@ func flag(isSet bool) C.uint32_t {
 	return 0
 }
 
-// callCarOpen takes the first bytes of a CAR, and whether they are all.
+// callCarOpen reads the header of a CAR that begins with these bytes. isAll reports whether they
+// are the whole CAR.
 func callCarOpen(bytes []byte, isAll bool, limit int) (roots []Cid, found carPart) {
 	from, length := bytesOf(bytes)
 	records, _ := filled(nil, func(records []C.kombilad_cid) outcome {
@@ -400,7 +401,8 @@ func callCarOpen(bytes []byte, isAll bool, limit int) (roots []Cid, found carPar
 	return roots, found
 }
 
-// callCarNext takes the bytes from a place on, and whether they are all.
+// callCarNext reads the section at a place of a CAR, whose bytes from there on begin with these.
+// isAll reports whether the CAR ends with them.
 func callCarNext(bytes []byte, isAll bool, limit int, at carPlace) carPart {
 	from, length := bytesOf(bytes)
 	place := C.kombilad_car_place{C.uint64_t(at.version), C.uint64_t(at.at), C.uint64_t(at.end)}

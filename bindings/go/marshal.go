@@ -62,21 +62,21 @@ func (o Options) Marshal(v any) ([]byte, error) {
 	return block, err.asError()
 }
 
-// writer makes the tape of a value. The C library makes the block of it.
+// writer writes the tape of a value. The C library encodes the tape as a block.
 type writer struct {
 	entries []entry
 	data    []byte
-	// size is that of the block.
+	// size is the number of bytes of the block.
 	size int
-	// indirect is the number of pointers and Marshalers that are open. They are no levels of the block.
+	// indirect is the number of open pointers and Marshalers. They are not levels of the block.
 	indirect int
 }
 
-// maxIndirect is more than a value has that nests to recursiveLevels, with a pointer and a Marshaler
-// at each level. A value that contains itself by pointers alone reaches it.
+// maxIndirect is the limit for indirect. A value that nests to recursiveLevels, with a pointer and
+// a Marshaler at each level, doesn't reach it. A value that contains itself only by pointers does.
 const maxIndirect = 2*recursiveLevels + defaultLevels
 
-// enter counts a pointer or a Marshaler. Whoever calls it counts it back.
+// enter adds a pointer or a Marshaler to indirect. The caller subtracts it again.
 func (w *writer) enter() *Error {
 	if w.indirect == maxIndirect {
 		return &Error{Status: ErrTooDeep, Offset: -1}
@@ -257,8 +257,8 @@ func (w *writer) end(begin, count int) *Error {
 	return nil
 }
 
-// any writes a value that nests at most left levels. It needs no reflection for the types that Decode
-// returns.
+// any writes a value that nests at most left levels. It doesn't use reflection for the types that
+// Decode returns.
 func (w *writer) any(value any, left int) *Error {
 	switch value := value.(type) {
 	case nil:

@@ -1,6 +1,6 @@
 package kombilad
 
-// PbNode is a node of DAG-PB, the codec of files and folders in IPFS. The data of UnixFS in it aren't
+// PbNode is a node of DAG-PB, the codec of files and folders in IPFS. UnixFS data in it is not
 // decoded.
 type PbNode struct {
 	// Links are in the order of the block.
@@ -15,7 +15,7 @@ type PbLink struct {
 	// Name is the link's name, if it has one. An empty name differs from a missing one.
 	Name    string
 	HasName bool
-	// Tsize is the size of what the link leads to, if the link has it. Nothing checks it.
+	// Tsize is the size of the link's target, if the link has it. It is not checked.
 	Tsize    uint64
 	HasTsize bool
 }

@@ -23,7 +23,7 @@ const (
 // The bytes, or those in a section of a CAR, are not a CID.
 const (
 	ErrCidEnd              Status = C.KOMBILAD_CID_END                // the bytes end too early
-	ErrCidNotShortest      Status = C.KOMBILAD_CID_NOT_SHORTEST       // a varint is too long
+	ErrCidNotShortest      Status = C.KOMBILAD_CID_NOT_SHORTEST       // a varint isn't the shortest
 	ErrCidVarintTooLarge   Status = C.KOMBILAD_CID_VARINT_TOO_LARGE   // a varint is 2^64 or more
 	ErrCidExplicitVersion0 Status = C.KOMBILAD_CID_EXPLICIT_VERSION_0 // the first byte is 0
 	ErrCidUnknownVersion   Status = C.KOMBILAD_CID_UNKNOWN_VERSION    // the version isn't 0 or 1
@@ -33,7 +33,7 @@ const (
 
 // The text is not a CID. Its error may also be one of the bytes that it encodes.
 const (
-	ErrTextUnknownBase   Status = C.KOMBILAD_TEXT_UNKNOWN_BASE   // the first letter names no base
+	ErrTextUnknownBase   Status = C.KOMBILAD_TEXT_UNKNOWN_BASE   // the text has no prefix of a base
 	ErrTextInvalidLength Status = C.KOMBILAD_TEXT_INVALID_LENGTH // no CID has this length
 	ErrTextInvalidLetter Status = C.KOMBILAD_TEXT_INVALID_LETTER // a letter isn't in the base
 	ErrTextUnusedBits    Status = C.KOMBILAD_TEXT_UNUSED_BITS    // bits after the last byte are 1
@@ -68,12 +68,12 @@ const (
 // The bytes are not a CAR. The error of a header may also be one of a block.
 const (
 	ErrCarUnexpectedEnd     Status = C.KOMBILAD_CAR_UNEXPECTED_END      // the bytes end too early
-	ErrCarLengthNotShortest Status = C.KOMBILAD_CAR_LENGTH_NOT_SHORTEST // a length is too long
+	ErrCarLengthNotShortest Status = C.KOMBILAD_CAR_LENGTH_NOT_SHORTEST // a varint isn't the shortest
 	ErrCarLengthTooLarge    Status = C.KOMBILAD_CAR_LENGTH_TOO_LARGE    // a length is 2^64 or more
-	ErrCarEmpty             Status = C.KOMBILAD_CAR_EMPTY               // a section has no bytes
-	ErrCarTooLong           Status = C.KOMBILAD_CAR_TOO_LONG            // a section exceeds its limit
+	ErrCarEmpty             Status = C.KOMBILAD_CAR_EMPTY               // a header or section is empty
+	ErrCarTooLong           Status = C.KOMBILAD_CAR_TOO_LONG            // a header or section too long
 	ErrCarNotAHeader        Status = C.KOMBILAD_CAR_NOT_A_HEADER        // not roots and version 1
-	ErrCarPayload           Status = C.KOMBILAD_CAR_PAYLOAD             // a payload that can't be there
+	ErrCarPayload           Status = C.KOMBILAD_CAR_PAYLOAD             // the payload is out of range
 	ErrCarShortPayload      Status = C.KOMBILAD_CAR_SHORT_PAYLOAD       // the bytes end in the payload
 )
 
@@ -121,7 +121,7 @@ const (
 	ErrCustom                                // a Marshaler or an Unmarshaler failed
 )
 
-// What the reasons report that the library does not have.
+// sentences are the sentences of the reasons that only this package has.
 var sentences = map[Status]string{
 	ErrType:            "the value has another type",
 	ErrRange:           "the number is out of range",

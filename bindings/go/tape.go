@@ -24,8 +24,8 @@ const keptKey = 32
 // tapes has tapes that are not in use, with the keys that they have kept.
 var tapes = sync.Pool{New: func() any { return new(tape) }}
 
-// withTape reads the tape of a block and uses it. A block of n bytes has at most n entries, and most
-// blocks have fewer than a quarter.
+// withTape reads the tape of a block and calls use with it. A block of n bytes has at most n
+// entries, and most blocks have fewer than n/4.
 func withTape(block []byte, call func([]entry) outcome, use func(*tape) *Error) *Error {
 	buffer := entryBuffers.get(min(len(block), max(1024, len(block)/4)))
 	defer entryBuffers.put(buffer)
@@ -58,8 +58,8 @@ func (t *tape) after(at int) int {
 	return at + 1
 }
 
-// content returns the bytes of a string, of bytes, of a link or of a key. They are those of the
-// block.
+// content returns the bytes of a float, a string, bytes, a link or a key. They are a part of the
+// block, not a copy.
 func (t *tape) content(e *entry) []byte {
 	return t.block[e.value : e.value+uint64(e.len)]
 }
@@ -81,7 +81,7 @@ func (t *tape) key(e *entry) string {
 	return *place
 }
 
-// integer returns an integer: an int64 if it is one, else a uint64 or a *big.Int.
+// integer returns an integer as an int64 if it fits, and otherwise as a uint64 or a *big.Int.
 func integer(e *entry) any {
 	switch {
 	case e.value > math.MaxInt64 && e.kind == kindUnsigned:
@@ -102,7 +102,7 @@ func bigInteger(e *entry, number *big.Int) *big.Int {
 	return number
 }
 
-// kindNames are the kinds of entries as an error names them.
+// kindNames are the names of the kinds of entries in errors.
 var kindNames = [...]string{
 	kindNull: "null", kindFalse: "a boolean", kindTrue: "a boolean", kindUnsigned: "an integer",
 	kindNegative: "an integer", kindFloat: "a float", kindString: "a string", kindBytes: "bytes",

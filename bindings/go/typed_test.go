@@ -21,7 +21,7 @@ type person struct {
 	Link    Cid      `ipld:"link"`
 }
 
-// roundTrip checks that a value has this block, and the block this value.
+// roundTrip checks that a value is encoded as this block, and the block is decoded to this value.
 func roundTrip(t *testing.T, value any, digits string) {
 	t.Helper()
 	block, err := Marshal(value)
@@ -301,7 +301,7 @@ func TestTypesWithMethods(t *testing.T) {
 	same(t, "an interface", []any{block, err}, []any{[]byte{0x83, 0xf6, 0x05, 0xf6}, nil})
 }
 
-// Each Go type takes values of its kinds, null, and no others.
+// Each Go type accepts null and values of its kinds, but no others.
 func TestOtherKindsOfValuesDoNotFit(t *testing.T) {
 	kinds := map[string][]byte{
 		"boolean": {0xf5}, "integer": {0x01}, "float": unhex(t, "fb3ff8000000000000"), "string": {0x60},

@@ -27,12 +27,12 @@ type Unmarshaler interface {
 // the tag names it. Keys without a field are ignored, unless
 // [Options.DisallowUnknownFields] is set. Fields without a key keep their value.
 //
-// Null makes a pointer, a slice, a map or an interface nil, and leaves any other value as it is. A
-// pointer is set to a new value if it is nil. Otherwise each kind of value fits:
+// Null makes a pointer, a slice, a map or an interface nil, and leaves any other value unchanged. A
+// pointer is set to a new value if it is nil. Otherwise each kind of value fits these Go types:
 //
 //   - a boolean: bool
 //   - an integer: int and uint of each size, if it is in range, big.Int, and float32 and float64, if
-//     they can hold it exactly
+//     they can represent it exactly
 //   - a float: float64, and float32 if it is in range
 //   - a string: string
 //   - bytes: []byte, and an array of bytes of the same length
@@ -65,7 +65,7 @@ func (o Options) Unmarshal(block []byte, v any) error {
 	}).asError()
 }
 
-// decoding is what the decoders of a block's parts share.
+// decoding is the state that the decoders of a block's parts share.
 type decoding struct {
 	*tape
 	strict bool
@@ -82,7 +82,7 @@ var (
 	decoders        sync.Map // of reflect.Type and decoder
 )
 
-// hasForm reports whether a struct is a value of another kind than a map.
+// hasForm reports whether a struct has another form in a block than a map.
 func hasForm(t reflect.Type) bool {
 	return t == cidType || t == bigType || t.Implements(marshalerType) ||
 		reflect.PointerTo(t).Implements(marshalerType) ||
@@ -176,7 +176,8 @@ func (d *decoding) misfit(at int, t reflect.Type) *Error {
 	return &Error{Status: ErrType, Offset: -1, Type: t, detail: detail}
 }
 
-// unlessNull returns nil for null, which leaves a value as it is.
+// unlessNull returns nil for null, which leaves a value unchanged. Otherwise it returns the error
+// of misfit.
 func (d *decoding) unlessNull(at int, t reflect.Type) *Error {
 	if d.entries[at].kind == kindNull {
 		return nil
@@ -243,7 +244,7 @@ func decodeFloat(d *decoding, at int, v reflect.Value) *Error {
 		v.SetFloat(number)
 		return nil
 	case kindUnsigned, kindNegative:
-		// 2^53 and 2^24 are the first integers after which a float leaves one out.
+		// A float of 64 bits has each integer up to 2^53, and one of 32 bits each up to 2^24.
 		limit := uint64(1) << 53
 		if v.Kind() == reflect.Float32 {
 			limit = 1 << 24
@@ -458,7 +459,7 @@ func newStructDecoder(t reflect.Type) decoder {
 		end := d.after(at)
 		for at++; at < end; at = d.after(at + 1) {
 			key := d.content(&d.entries[at])
-			// In canonical blocks the fields come in this order, some of them left out.
+			// In canonical blocks the keys have the order of the fields, and some may be missing.
 			if next >= len(fields) || fields[next].name != string(key) {
 				found, known := byName[string(key)]
 				if !known {
@@ -488,7 +489,7 @@ func unknownField(t reflect.Type, key string) *Error {
 	return &Error{Status: ErrUnknownField, Offset: -1, Type: t, detail: detail}
 }
 
-// place returns the field of a struct. It makes the embedded structs on the way.
+// place returns the field of a struct. It allocates the embedded structs on the path to it.
 func (f *field) place(v reflect.Value) (reflect.Value, *Error) {
 	for depth, at := range f.index {
 		if depth > 0 && v.Kind() == reflect.Pointer {

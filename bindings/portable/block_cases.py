@@ -1,11 +1,11 @@
-"""Small functions in LLVM's IR of memory, blocks, structs and calls, as those of
+"""Test functions in LLVM's IR for memory, blocks, structs and calls, like those of
 instruction_cases.py."""
 
 from instruction_cases import put
 
 
 def places(cases):
-    """Adds loads and stores of each type, and places by indices."""
+    """Adds loads and stores of each type, and addresses by indices."""
     for bits in (8, 16, 24, 32, 40, 48, 56, 64, 128):
         for at in (48, 49, 55):
             cases.add(
@@ -118,7 +118,7 @@ def places(cases):
 
 
 def blocks(cases):
-    """Adds loops, in which a phi takes what another one had, and switches."""
+    """Adds switches, and loops in which a phi takes the value that another phi had."""
     head = ["%a = load i64, ptr %in, align 1", "%b.p = getelementptr i8, ptr %in, i64 16"]
     head += ["%b = load i64, ptr %b.p, align 1", "%n = and i64 %a, 15", "br label %loop", "loop:"]
     tail = ["%more = icmp ult i64 %i.next, %n", "br i1 %more, label %loop, label %end", "end:"]

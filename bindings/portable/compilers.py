@@ -1,5 +1,5 @@
-"""The compilers by which the C file is tested: of each the command, its flags, and what runs a
-program of its processor."""
+"""The compilers that test the C file: for each the command, its flags, and the command that runs a
+program for its processor."""
 
 STANDARD = ["-std=c99", "-Wall", "-Wextra", "-pedantic"]
 ASAN = ["-g", "-fsanitize=address,undefined", "-fno-sanitize-recover=all"]
@@ -21,7 +21,7 @@ COMPILERS = {
     "musl-gcc": ("musl-gcc", [*STANDARD, "-O1", "-static"], []),
     "gcc sanitized": ("gcc", [*STANDARD, "-O1", *ASAN], []),
     "clang sanitized": ("clang", [*STANDARD, "-O1", *ASAN], []),
-    # With the flags by which gcc makes one instruction of a product and a sum, if it may.
+    # With these flags gcc compiles a product and a sum to one instruction, if the code allows it.
     "aarch64": cross("aarch64-linux-gnu", "aarch64", "-std=gnu99", "-fexpensive-optimizations"),
     "riscv64": cross("riscv64-linux-gnu", "riscv64"),
     "s390x": cross("s390x-linux-gnu", "s390x"),
@@ -30,7 +30,8 @@ COMPILERS = {
 
 
 def command(name):
-    """Returns the words of a compiler, with the folder of this file for what it includes."""
+    """Returns the command line of a compiler. It includes strict_memory.h from the folder of this
+    file."""
     compiler, flags, _ = COMPILERS[name]
     folder = __file__.rpartition("/")[0]
     return [compiler, *(f"{folder}/{it}" if it == "strict_memory.h" else it for it in flags)]

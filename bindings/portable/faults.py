@@ -1,13 +1,12 @@
 #!/usr/bin/env python3
-"""Plants faults in the translator, one at a time, and reports which test sees each.
+"""Plants faults in the translator, one at a time, and reports which test detects each.
 
 usage: faults.py FOLDER [WORD]    (those whose file or text has the word)
        faults.py --check          only looks whether each can be planted: its text is in its file once
 
 FOLDER has optimized.ll and libkombilad_c.a, such as crates/kombilad_c/out/unproved after `make.py
---unproved`. A fault is tried on a copy, by the tests of instructions
-first, and by the cases of compare/ if these don't see it. A fault that no test sees ends it with
-status 1.
+--unproved`. Each fault is put into a copy of the translator. The tests of instructions run first,
+and the cases of compare/ if those don't detect it. If no test detects a fault, the status is 1.
 """
 
 import pathlib
@@ -24,7 +23,7 @@ USUAL = "gcc -O0"
 PLAIN = "gcc strict memcpy"
 INPUTS = 256
 
-# The file, the text, what is put in its place, and the compilers by which it is looked for.
+# The file, the text, its replacement, and the compilers with which the tests run.
 FAULTS = [
     # Numbers
     ("instructions.py", 'cast(f"int{width}_t"', 'cast(f"uint{width}_t"', [USUAL]),
@@ -121,7 +120,7 @@ FAULTS = [
         "            at += 2",
         [USUAL],
     ),
-    # Blocks and what is done in order
+    # Blocks and the order of statements
     (
         "functions.py",
         "for other in moves if other is not it",
@@ -223,14 +222,14 @@ def planted(folder, fault):
 
 
 def run(*words):
-    """Returns whether a command fails, and how many cases it says that differ."""
+    """Returns whether a command fails, and the number of cases that it reports as different."""
     words = [sys.executable, *map(str, words)]
     done = subprocess.run(words, stdout=subprocess.PIPE, stderr=subprocess.STDOUT, text=True)
     return done.returncode != 0, sum(map(int, re.findall(r"(\d+) differ", done.stdout)))
 
 
 def seen_by(place, made, compilers):
-    """Returns which test sees a fault, and how; None if none does."""
+    """Returns the test that detects a fault, and how it does, or None if no test does."""
     failed, count = run(place / "test_ir2c.py", "--inputs", INPUTS, *compilers)
     if failed:
         return f"instructions ({count} functions)" if count else "instructions (stopped)"

@@ -1,5 +1,5 @@
-; Answers a proved program's question at its start, whether the processor has the features that its
-; module was compiled for: the C file needs none of them.
+; A proved program checks at its start whether the processor has the features for which its module
+; was compiled. This function returns all features, since the C file doesn't need any of them.
 target datalayout = "e-m:e-p270:32:32-p271:32:32-p272:64:64-i64:64-i128:128-f80:128-n8:16:32:64-S128"
 target triple = "x86_64-unknown-linux-gnu"
 

@@ -1,10 +1,10 @@
-"""Small functions in LLVM's IR of floats, as those of instruction_cases.py."""
+"""Test functions in LLVM's IR for floats, like those of instruction_cases.py."""
 
 from instruction_cases import put
 
 # The bits of doubles: zeros, ones, halves, thirds, the least and the greatest ones of each kind,
-# numbers about 2^53, 2^63 and 2^64, infinities, NaN of both kinds, and pairs whose products and sums
-# have to be rounded, with the even neighbour above and below.
+# and numbers near 2^53, 2^63 and 2^64. Also infinities, both kinds of NaN, and pairs whose products
+# and sums have to be rounded, with the even neighbour above and below.
 DOUBLES = [
     0x0000000000000000,
     0x8000000000000000,
@@ -44,7 +44,7 @@ DOUBLES = [
     0x7FF0000000000001,
     0xFFF7FFFFFFFFFFFF,
 ]
-# Integers about those that a double can't hold, and half way between two of its numbers.
+# Integers near those that a double can't represent, and half-way between two doubles.
 INTEGERS = [
     0,
     1,
@@ -86,8 +86,8 @@ OPERANDS = {
 
 
 def over_all(cases, name, table, lines):
-    """Adds a function that computes %r, a number of 64 bits, of %a and of each item %b of a table,
-    and writes a digest of all."""
+    """Adds a function that computes %r, a number of 64 bits, from %a and each item %b of a table.
+    It writes a digest of all results."""
     kind = "double" if table is DOUBLES else "i64"
     source = "doubles" if table is DOUBLES else "integers"
     for words, operand in OPERANDS.items():
@@ -118,8 +118,8 @@ def over_all(cases, name, table, lines):
 
 
 def settled(value="%v"):
-    """Returns lines that give the bits of a result, with one NaN for all: which one an operation
-    gives differs between processors."""
+    """Returns lines that set %r to the bits of a result. Each NaN becomes the same one, since
+    processors give different ones."""
     return [
         f"%is = fcmp uno double {value}, {value}",
         f"%v.bits = bitcast double {value} to i64",
@@ -142,7 +142,7 @@ def floats(cases):
                 64,
                 ["%d = bitcast i64 %a to double", f"%v = {op} double %d, {text}", *settled()],
             )
-    # The rounded product is what is added to, and not the exact one.
+    # The sum has the rounded product, and not the exact one.
     cases.declare("double @llvm.arithmetic.fence.f64(double)")
     fence = "call double @llvm.arithmetic.fence.f64(double"
     for name, lines in (
@@ -190,7 +190,8 @@ def floats(cases):
 
 
 def moved(cases):
-    """Adds what gives a float as it is, whatever its bits are: signs, choices, memory and calls."""
+    """Adds operations that keep the bits of a float, or change only its sign: signs, choices,
+    memory and calls."""
     double = "%d = bitcast i64 %a to double"
     end = "%r = bitcast double %v to i64"
     cases.declare("double @llvm.fabs.f64(double)")

@@ -1,4 +1,4 @@
-"""Writes a function: its variables, blocks, phis, and what is done in order."""
+"""Writes a function: its variables, blocks, phis, and statements."""
 
 import dataclasses
 import re
@@ -18,7 +18,7 @@ ALLOCATING = {
     "rattle_realloc": (PAIR, [POINTER, I64, I64, I64]),
     "rattle_dealloc": (None, [POINTER]),
 }
-# Those of posix.c, by which a program reaches the system.
+# The functions of posix.c, by which a program calls the system.
 HOST = {
     "__sysv_signal": (I64, [I32, I64]),
     "__xpg_strerror_r": (I32, [I32, POINTER, I64]),
@@ -55,22 +55,22 @@ def is_intrinsic(name):
 
 
 def host_name(name):
-    """Returns the name that a function of HOST has in C: that of POSIX after `host_`."""
+    """Returns the C name of a function of HOST: `host_`, and its name in POSIX."""
     return "host_" + re.sub("^(rattle_|__sysv_|__xpg_)", "", name)
 
 
 def host_declarations(code):
-    """Gives the declaration of each function of HOST that a text calls."""
+    """Yields the declaration of each function of HOST that a text calls."""
     called = set(re.findall(r"\bhost_\w+", code))
     for name, (result, parameters) in HOST.items():
         if host_name(name) in called:
-            # The mode of `open`, which is 0 if the call has none.
+            # The variadic parameter is the mode of `open`, which is 0 if a call doesn't have it.
             kinds = [c_type(I32 if it == VARIADIC else it) for it in parameters]
             yield f"{c_type(result)} {host_name(name)}({', '.join(kinds) or 'void'});"
 
 
 def is_statement(made):
-    """Returns whether an instruction does something, besides giving a value."""
+    """Returns whether an instruction has an effect, in addition to its value."""
     if made.op == "call":
         callee = made.words["callee"]
         if MEMORY.fullmatch(callee):
@@ -101,7 +101,7 @@ class Writer:
         self.parameters = []
         self.count = 0
 
-    # ---- What is needed
+    # ---- The needed instructions
 
     def find_uses(self):
         """Finds which instructions are needed, and how often and in which block each value is
@@ -130,8 +130,8 @@ class Writer:
         self.home = home
 
     def locals_of(self, made):
-        """Gives each local value that an instruction uses; those of a phi in the block that it
-        comes from."""
+        """Yields each local value that an instruction uses. For a phi it comes with the block that
+        passes it, otherwise with None."""
         for at, operand in enumerate(made.operands):
             for name in locals_in(operand):
                 yield (made.words["labels"][at] if made.op == "phi" else None), name
@@ -181,7 +181,7 @@ class Writer:
         if is_place or (value.text in self.names_known() and not value.loads):
             self.known[made.result] = value
         elif isinstance(made.kind, Vector) or isinstance(made.kind, Struct) and not value.fields:
-            # What takes a part of it would write all of it once more.
+            # Otherwise each use of a part would write the whole expression.
             self.assign(made.result, kind, value)
         elif uses == [block.name] and not value.is_large:
             self.pending[made.result] = value
@@ -197,7 +197,7 @@ class Writer:
         self.known[result] = Expression(name, frozenset([name]))
 
     def settle(self):
-        """Writes each load that waits into a variable, before what may change memory."""
+        """Assigns each pending load to a variable, before a statement that may change memory."""
         for name in list(self.pending):
             value = self.pending[name]
             if value.loads:
@@ -220,7 +220,7 @@ class Writer:
         self.lines.append(f"st_{name}({place.text}, {value.text});")
 
     def write_memory(self, made):
-        """Writes memcpy, memmove and memset; of no bytes they look at no pointer."""
+        """Writes memcpy, memmove and memset. For no bytes they don't use a pointer."""
         callee = made.words["callee"].split(".")[1]
         if made.operands[3].value:
             raise Unknown(f"a volatile access: {made.line}")
@@ -254,8 +254,8 @@ class Writer:
             self.assign(made.result, kind, literal(text))
 
     def write_alloca(self, made):
-        """Declares an array. Its type has its alignment up to 8, since some compilers align nothing
-        on the stack further than that."""
+        """Declares an array. Its type has its alignment up to 8, since some compilers don't support
+        a greater alignment on the stack."""
         size, alignment = made.words["size"], made.words["alignment"]
         name = self.new_name("a")
         if alignment > 16:
@@ -271,7 +271,7 @@ class Writer:
     # ---- Edges
 
     def moves(self, source, label):
-        """Returns the lines that give the phis of a block their values, and go there."""
+        """Returns the lines that assign the phis of a block, and jump to it."""
         moves = []
         for phi in self.blocks[label].phis:
             if phi not in self.needed:
@@ -296,7 +296,7 @@ class Writer:
                 None,
             )
             if free is None:
-                # Each variable is read by another move: those that read this one are made first.
+                # Another move reads each target. The moves that read this one are computed first.
                 free = moves[0]
                 for other in moves[1:]:
                     if free.target in other.value.reads:
@@ -323,8 +323,8 @@ class Writer:
             self.write_if(condition, self.moves(block, labels[0]), self.moves(block, labels[1]))
 
     def write_if(self, condition, first, second):
-        """Writes the first way in an if, and the second one after it: that to the block that comes
-        next, if one does."""
+        """Writes the lines of one branch in an if, and those of the other after it. The latter is
+        the branch to the next block, if one goes there."""
         if first == [f"goto {self.next_label};"] and first != second:
             first, second, condition = second, first, Expression(f"!{condition.operand}")
         self.lines += [f"if ({condition.text}) {{", *first, "}", *second]
@@ -346,11 +346,11 @@ class Writer:
             self.lines += self.moves(block, label)
         self.lines += ["default:", *self.moves(block, labels[0]), "}"]
 
-    # ---- The whole
+    # ---- The whole function
 
     def head(self):
-        """Returns the function's result and parameters; those that it doesn't use are named in its
-        first lines."""
+        """Returns the function's result, name and parameters. The first lines of its body name the
+        parameters that it doesn't use."""
         function = self.function
         parts, self.parameters, self.unused = [], set(), []
         for kind, name in function.parameters:
@@ -385,8 +385,8 @@ class Writer:
         return head, self.tidied()
 
     def ordered(self, blocks):
-        """Gives the blocks so that each value is made before the text that uses it: those that
-        dominate come first. `next_label` is that of the block after."""
+        """Yields the blocks so that each value is computed before the text that uses it: dominating
+        blocks come first. Sets `next_label` to the label of the next block."""
         order, seen = [], set()
         stack = [(blocks[0], iter(self.followers(blocks[0])))]
         seen.add(blocks[0].name)
@@ -462,7 +462,7 @@ def wrapped(start, names):
 
 
 def locals_in(operand):
-    """Gives the local values that an operand names."""
+    """Yields the local values that an operand names."""
     if operand.sort == "local":
         yield operand.value
     elif operand.sort == "items":
@@ -471,7 +471,7 @@ def locals_in(operand):
 
 
 def check_declared(module, known):
-    """Checks that the functions that the module declares are known ones."""
+    """Checks that the functions that the module declares are known."""
     for name, (result, parameters) in module.declared.items():
         if is_intrinsic(name):
             continue

@@ -1,7 +1,7 @@
-"""Small functions in LLVM's IR, of each instruction that the translator knows, at its edges.
+"""Test functions in LLVM's IR for each instruction that the translator knows, with edge cases.
 
-Each is `void @case(ptr %in, ptr %out)`: it takes numbers from the first 48 bytes at %in, three of 16
-bytes, and bytes from the 192 after them, and writes what it finds to the 256 bytes at %out. No
+Each is `void @case(ptr %in, ptr %out)`. It takes numbers from the first 48 bytes at %in, three of
+16 bytes, and bytes from the 192 after them. It writes its results to the 256 bytes at %out. No
 result depends on undefined behaviour or poison, for any bytes at %in.
 """
 
@@ -12,27 +12,27 @@ BYTES = 48
 
 
 class Cases:
-    """Collects functions, and what else the module has."""
+    """Collects functions, and the other parts of the module."""
 
     def __init__(self):
         self.functions, self.helpers, self.declared = [], [], set()
 
     def add(self, name, lines):
-        """Adds a function of lines, the first block's first."""
+        """Adds a function with these lines, which begin with those of the first block."""
         body = "\n".join(it if it.endswith(":") else "  " + it for it in lines)
         self.functions.append(
             (name, f'define internal void @"{name}"(ptr %in, ptr %out) {{\nstart:\n{body}\n}}\n')
         )
 
     def value(self, name, bits, lines, result=None):
-        """Adds a function that gives %r, a number, of %a, %b and %c of so many bits."""
+        """Adds a function that computes a number %r from %a, %b and %c, which have `bits` bits."""
         self.add(name, [*arguments(bits), *lines, *put(result or bits), "ret void"])
 
     def declare(self, text):
         self.declared.add("declare " + text)
 
     def module(self, layout, triple):
-        """Returns the module: `kombilad_run` calls the function of a number."""
+        """Returns the module. Its `kombilad_run` calls the function with a given number."""
         cases = "\n".join(f"    i32 {at}, label %c{at}" for at in range(len(self.functions)))
         calls = "\n".join(
             f'c{at}:\n  call void @"{name}"(ptr %in, ptr %out)\n  ret void'
@@ -55,7 +55,7 @@ class Cases:
 
 
 def arguments(bits, names="abc"):
-    """Returns lines that give %a, %b and %c, of any width."""
+    """Returns lines that load %a, %b and %c, of any width."""
     held = next(it for it in (8, 16, 32, 64, 128) if it >= bits)
     lines = []
     for at, name in enumerate(names):
@@ -68,7 +68,7 @@ def arguments(bits, names="abc"):
 
 
 def put(bits, value="%r", at=0):
-    """Returns lines that write a number, of any width, as one of 16 bytes."""
+    """Returns lines that write a number of any width as 16 bytes."""
     name = value.strip("%")
     lines = [f"%{name}.at = getelementptr inbounds i8, ptr %out, i64 {at}"]
     if bits != 128:
@@ -82,7 +82,8 @@ def arithmetic(cases):
         kind = f"i{bits}"
         for op in "add sub mul and or xor".split():
             cases.value(f"{op} {kind}", bits, [f"%r = {op} {kind} %a, %b"])
-        # What C computes in a wider type has to be cut before it is compared, divided or extended.
+        # C computes the result in a wider type. It has to be cut before it is compared, divided or
+        # extended.
         for op in "add sub mul".split():
             cases.value(
                 f"{op} {kind} compared",
@@ -101,7 +102,7 @@ def arithmetic(cases):
         for text in sorted({1, -1, 2, half - 1, -half, 0xFFFFFFFF % half}):
             for op in "add sub mul and or xor".split():
                 cases.value(f"{op} {kind} {text}", bits, [f"%r = {op} {kind} %a, {text}"])
-        # A constant that is taken from, or shifted, is of the type's width.
+        # A constant as the first operand of a subtraction or a shift has the width of the type.
         for op in "sub shl lshr ashr".split():
             count = f"%n = urem {kind} %a, {bits}" if bits < 128 else f"%n = and {kind} %a, 127"
             for text in (1, 5, -3, half):
@@ -148,7 +149,8 @@ def division(cases):
 
 
 def checks(cases):
-    """Adds what an unproved module has of 256 bits: whether a sum or a difference of 128 overflows."""
+    """Adds the operations of 256 bits in an unproved module, which check whether a sum or a
+    difference of 128 bits overflows."""
     for op in ("add", "sub"):
         for source in (64, 128):
             for condition in ("ugt", "ule", "ult", "uge"):
@@ -180,7 +182,7 @@ def conversions(cases):
                     f"trunc i{source} i{to}", source, [f"%r = trunc i{source} %a to i{to}"], to
                 )
     for bits in (8, 16, 32, 64):
-        # A chain in which each step has to be cut.
+        # A chain of operations, in which the result of each has to be cut.
         cases.value(
             f"cut {bits}",
             bits,
@@ -277,7 +279,7 @@ def intrinsics(cases):
 
 
 def copied(cases):
-    """Adds copies of memory, of constant lengths and of others, also over themselves."""
+    """Adds copies of memory with constant and variable lengths, some of which overlap."""
     cases.declare("void @llvm.memcpy.p0.p0.i64(ptr, ptr, i64, i1)")
     cases.declare("void @llvm.memmove.p0.p0.i64(ptr, ptr, i64, i1)")
     cases.declare("void @llvm.memset.p0.i64(ptr, i8, i64, i1)")
@@ -317,7 +319,7 @@ def copied(cases):
 
 
 def order(cases):
-    """Adds loads of what is changed afterwards: what was read before the change is what counts."""
+    """Adds loads of memory that changes afterwards. They must give the value before the change."""
     cases.helpers.append(
         "define internal void @write(ptr %p, i64 %v) noinline {\nstart:\n"
         "  store i64 %v, ptr %p, align 1\n  ret void\n}\n"
@@ -343,7 +345,7 @@ def order(cases):
     for name, lines in changes.items():
         tail = [*put(64, "%old"), "ret void"]
         cases.add(f"load before {name}", [*head, *lines, *tail])
-        # Also in an expression of which the load is a part.
+        # The load may also be a part of an expression.
         more = ["%sum = add i64 %old, %a", *lines, *put(64, "%sum"), "ret void"]
         cases.add(f"sum before {name}", [*head, *more])
     cases.add(
@@ -370,7 +372,7 @@ def order(cases):
             "ret void",
         ],
     )
-    # A load in a call's argument and in the next one.
+    # A load after one call, whose value is an argument of the next one.
     cases.add(
         "loads in calls",
         [
@@ -383,7 +385,7 @@ def order(cases):
             "ret void",
         ],
     )
-    # On an edge: the value of a phi is one from before the store.
+    # On an edge: a phi has a value from before the store.
     cases.add(
         "load before a store, on an edge",
         [

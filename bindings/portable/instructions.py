@@ -1,7 +1,7 @@
 """Writes the instructions that only compute a value as C expressions.
 
-Numbers are unsigned, those below 32 bits are computed as int or u32 and cut, and no expression has
-undefined behaviour in C, whatever its operands are, except a division by zero.
+Numbers are unsigned. Those below 32 bits are computed as int or u32, and cut. No expression has
+undefined behaviour in C for any operands, except a division by zero.
 """
 
 import dataclasses
@@ -41,7 +41,7 @@ OPERATORS = {
     "lshr": ">>",
 }
 COMPARISONS = {"eq": "==", "ne": "!=", "lt": "<", "le": "<=", "gt": ">", "ge": ">="}
-# Operations of floats, and the pieces of the prelude that they are.
+# Operations of floats, with their pieces of the prelude.
 FLOATS = {
     "fadd": "add_f64",
     "fsub": "sub_f64",
@@ -49,8 +49,8 @@ FLOATS = {
     "fdiv": "div_f64",
     "fneg": "neg_f64",
 }
-# Comparisons of floats: whether it is the opposite of the piece, the piece, and whether it takes
-# its operands in the other order.
+# Comparisons of floats: whether the result of the piece is negated, the piece of the prelude, and
+# whether the operands are swapped.
 FLOAT_COMPARISONS = {
     "oeq": (False, "eq", False),
     "ogt": (False, "lt", True),
@@ -67,8 +67,8 @@ FLOAT_COMPARISONS = {
     "une": (True, "eq", False),
     "uno": (True, "ord", False),
 }
-# Intrinsics of numbers of 8, 16, 32 or 64 bits: how many numbers they take, and the piece of the
-# prelude that each is.
+# Intrinsics of numbers of 8, 16, 32 or 64 bits, with the number of their operands. The piece of the
+# prelude has the same name.
 NUMERIC = {
     "umin": 2,
     "umax": 2,
@@ -81,13 +81,13 @@ NUMERIC = {
     "bswap": 1,
     "bitreverse": 1,
     "ctpop": 1,
-    # Followed by a flag, which says that a case gives poison.
+    # These also take a flag, which is set if one case gives poison.
     "abs": 1,
     "ctlz": 1,
     "cttz": 1,
 }
 FLAGGED = ("abs", "ctlz", "cttz")
-# Those of 128 bits.
+# The intrinsics of 128 bits.
 NUMERIC_128 = ("umin", "umax", "usub.sat", "abs")
 OVERFLOWING = {
     "uadd.with.overflow": "uadd_overflow",
@@ -117,19 +117,19 @@ def constant(operand, express):
 
 
 def stored_name(kind):
-    """Returns the name that a type has in the functions that read and write memory."""
+    """Returns the name of a type in the functions that read and write memory."""
     return f"V{kind.count}" if isinstance(kind, Vector) else c_type(kind)
 
 
 class Pure:
-    """Writes instructions as expressions; `express` gives that of an operand."""
+    """Writes instructions as expressions. `express` returns the expression of an operand."""
 
     def __init__(self, express):
         self.express = express
 
     def write(self, made):
         """Returns the expression of an instruction that neither writes nor calls a function."""
-        # The places of a shuffle aren't a value of their own.
+        # The indices of a shuffle have no expression.
         operands = made.operands[:2] if made.op == "shufflevector" else made.operands
         parts = [self.express(it) for it in operands]
         if made.op in OPERATORS or made.op in ("sdiv", "srem", "ashr"):
@@ -199,7 +199,7 @@ class Pure:
         return combine("(u32){} " + OPERATORS[made.op] + " {}", first, second)
 
     def shift(self, made, value, count):
-        """Writes a shift, whose count is cut to those of the type that holds the number."""
+        """Writes a shift. Its count is reduced to the width of the number's C type."""
         bits, width = made.kind.bits, held_bits(made.kind.bits)
         given = made.operands[1]
         if given.sort != "number" or given.value >= width:
@@ -211,7 +211,7 @@ class Pure:
         return self.cut(bits, combine("{} << {}", value, count), max(width, 32))
 
     def extended(self, bits, to, part):
-        """Returns a number with its sign, in the C type of `to` bits."""
+        """Returns a number with its sign extended to the C type of `to` bits."""
         if bits == to:
             return part
         width = max(to, 32)
@@ -378,7 +378,7 @@ class Pure:
         return self.replaced(made.kind, made.words["index"], whole, item)
 
     def replaced(self, kind, index, whole, item):
-        """Returns a struct in which one part is another."""
+        """Returns a struct with one part replaced."""
         fields = parts_of(whole, len(kind.fields))
         return structure(kind, fields[:index] + (item,) + fields[index + 1 :])
 
@@ -396,7 +396,7 @@ class Pure:
         raise Unknown(f"an operation of vectors: {made.line}")
 
     def lanes_binary(self, made, first, second):
-        """Writes an operation of vectors whose numbers are held one by one."""
+        """Writes an operation of vectors that are structs of their numbers."""
         pairs = zip(parts_of(first, made.kind.count), parts_of(second, made.kind.count))
         values = []
         for at, pair in enumerate(pairs):
@@ -414,7 +414,7 @@ class Pure:
         return Operand(operand.kind.item, operand.sort, operand.value)
 
     def halves(self, kind, whole):
-        """Returns the two numbers of 64 bits that the bytes of a vector are."""
+        """Returns the bytes of a vector as two numbers of 64 bits."""
         bits, parts = kind.item.bits, parts_of(whole, kind.count)
         found = []
         for begin in (0, kind.count // 2):
@@ -426,7 +426,7 @@ class Pure:
         return found
 
     def lanes_from(self, kind, halves):
-        """Returns the vector of two numbers of 64 bits."""
+        """Returns the vector whose bytes are two numbers of 64 bits."""
         bits = kind.item.bits
         values = [
             self.cut(bits, combine("{} >> {}", half, literal(str(at))), 64)
@@ -436,14 +436,14 @@ class Pure:
         return structure(lanes_of(kind), tuple(values))
 
     def place(self, made, operand):
-        """Returns a constant place in a vector."""
+        """Returns a constant index in a vector."""
         count = made.operands[0].kind.count
         if operand.sort != "number" or operand.value >= count:
             raise Unknown(f"a place in a vector that isn't constant: {made.line}")
         return operand.value
 
     def chunk(self, part, count, at):
-        """Returns sixteen bytes of a vector of `count`: those of the number `at`."""
+        """Returns the sixteen bytes with the number `at` of a vector of `count` bytes."""
         text = part.operand
         while count > 16:
             count //= 2
@@ -471,8 +471,8 @@ class Pure:
         return call(f"put_{vector_type(made.kind)}", whole, item, literal(str(at)))
 
     def write_shufflevector(self, made, first, second):
-        """Writes a choice of bytes of two vectors: of each sixteen, those from one place on, or one
-        byte alone."""
+        """Writes a choice of bytes of two vectors. Each sixteen bytes of the result are a run of
+        bytes, or all bytes are the same one."""
         source, places = made.operands[0].kind, self.places(made)
         if has_lanes(source) and has_lanes(made.kind):
             items = parts_of(first, source.count) + parts_of(second, source.count)
@@ -558,7 +558,7 @@ class Pure:
         return self.address(base, offset, moved)
 
     def address(self, base, offset, moved):
-        """Returns the place behind a pointer by a constant and by numbers."""
+        """Returns a pointer plus a constant and numbers."""
         if not moved:
             if offset == 0:
                 return base
@@ -612,7 +612,7 @@ class Pure:
 
 
 def in_array(name, offset, size):
-    """Returns a place in an array, of which the script knows that it isn't outside of it."""
+    """Returns a pointer into an array. The script knows that it isn't outside of the array."""
     text = f"{name} + {offset}" if offset else name
     is_atom = not offset and not name.startswith("(")
     return Expression(text, frozenset(), False, is_atom, 0, (name, offset, size))

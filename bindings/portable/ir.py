@@ -1,5 +1,5 @@
 """The part of LLVM's IR that the translator knows: types, their layout in memory, operands,
-instructions, and what stops the translation."""
+instructions, and the exception that stops the translation."""
 
 import dataclasses
 from typing import Any, Dict, List, Optional, Tuple
@@ -24,7 +24,7 @@ class Pointer:
 
 @dataclasses.dataclass(frozen=True)
 class Double:
-    """A float of 64 bits. It is held as the number that its bits are."""
+    """A float of 64 bits. In C it is the number of its bits."""
 
     bits = 64
 
@@ -47,7 +47,7 @@ class Struct:
 
 @dataclasses.dataclass(frozen=True)
 class Packed:
-    """A struct without space between its fields, which only constants have."""
+    """A struct without padding between its fields. Only constants have it."""
 
     fields: Tuple[Any, ...]
 
@@ -60,7 +60,7 @@ class Vector:
 
 I1, I8, I16, I32, I64, I128 = (Integer(bits) for bits in (1, 8, 16, 32, 64, 128))
 POINTER, DOUBLE, VOID = Pointer(), Double(), Void()
-# The last parameter of a function that takes more than it declares.
+# The last parameter of a variadic function.
 VARIADIC = "..."
 
 
@@ -91,7 +91,7 @@ TRIPLE = "x86_64-unknown-linux-gnu"
 
 
 def stored_bytes(kind):
-    """Returns how many bytes a load or a store of the type reads or writes."""
+    """Returns the number of bytes that a load or a store of the type reads or writes."""
     if isinstance(kind, Integer):
         if kind.bits % 8:
             raise Unknown(f"a number of {kind.bits} bits in memory")
@@ -122,7 +122,7 @@ def alignment_of(kind):
 
 
 def size_of(kind):
-    """Returns how far apart two values of the type are in an array."""
+    """Returns the number of bytes from one value of the type to the next in an array."""
     if isinstance(kind, (Integer, Pointer, Double)):
         step = alignment_of(kind)
         return (stored_bytes(kind) + step - 1) // step * step
@@ -151,16 +151,20 @@ def offset_of(kind, field):
     return at
 
 
-# ---- Operands: a value beside its type
+# ---- Operands: a value with its type
 
 
 @dataclasses.dataclass(frozen=True)
 class Operand:
     """A value that an instruction takes.
 
-    `sort` is "local" or "global" (`value` is the name), "number" (an int, of an integer type, or
-    the bits of a double), "null", "zero", "undef" (also poison), "items" (a tuple of operands: a vector, an array or a
-    struct), or "expression" (a constant Instruction).
+    `sort` states what `value` is:
+    - "local" or "global": the name
+    - "number": an int for an integer type, or the bits of a double
+    - "null", "zero" or "undef" (also for poison): None
+    - "bytes": the bytes of an array
+    - "items": a tuple of operands, for a vector, an array or a struct
+    - "expression": a constant Instruction
     """
 
     kind: Any
@@ -170,8 +174,8 @@ class Operand:
 
 @dataclasses.dataclass
 class Instruction:
-    """An instruction: `words` has what else its line says: the condition of a comparison, the
-    callee, indices, labels."""
+    """An instruction. `words` has the other parts of its line, such as the condition of a
+    comparison, the callee, indices or labels."""
 
     op: str
     kind: Any
@@ -203,8 +207,8 @@ class Function:
 
 @dataclasses.dataclass
 class Constant:
-    """A global constant, as bytes. `pointers` are the places in it of pointers into it, each with
-    the place that it leads to."""
+    """A global constant, as bytes. `pointers` has the offset of each pointer in it, and the offset
+    in it to which the pointer points."""
 
     name: str
     data: bytes

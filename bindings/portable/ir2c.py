@@ -4,8 +4,8 @@
 usage: ir2c.py [--unproved] MODULE.ll HEADER.h FOLDER    writes FOLDER/kombilad.c and kombilad.h
        ir2c.py [--unproved] MODULE.ll FOLDER/NAME.c      writes the program NAME
 
-MODULE.ll is a module for x86-64 that exports the calls which the header declares, or `main`. At
-anything in the module that isn't known the script stops, says what it is, and writes nothing.
+MODULE.ll is a module for x86-64 that exports the calls which the header declares, or `main`. If the
+module has anything unknown, the script stops, names it, and doesn't write a file.
 """
 
 import pathlib
@@ -87,7 +87,7 @@ def short_name(name, at):
 
 
 def indented(lines):
-    """Gives the lines of a function, indented by their braces."""
+    """Yields the lines of a function, indented by their braces."""
     depth = 1
     for line in lines:
         if line in ("}", "};"):
@@ -103,8 +103,8 @@ def as_comment(text):
 
 
 def constant_text(name, constant):
-    """Returns the definition of a constant. Its type has its alignment up to 8, as that of an array
-    on the stack."""
+    """Returns the definition of a constant. Its type has its alignment up to 8, as for an array on
+    the stack."""
     data = constant.data or b"\0"
     lines, line = [], "   "
     for byte in data:
@@ -122,7 +122,7 @@ def constant_text(name, constant):
 
 
 def translate(text, about, header=None):
-    """Returns the C file of a module's text: a library's with its header, or a program's."""
+    """Returns the C file of a module: of a library if it has a header, otherwise of a program."""
     module = read_module(text)
     check_declared(module, EXTERNALS if header is None else ALLOCATING)
     names, structs, bodies = {}, {}, []
@@ -160,7 +160,7 @@ def translate(text, about, header=None):
 
 
 def write_main(module, names, used):
-    """Returns the function by which posix.c starts a program."""
+    """Returns the function that posix.c calls to start a program."""
     exported = [name for name, it in module.functions.items() if not it.is_internal]
     if exported != ["main"]:
         raise Unknown(f"a program that exports {exported}")
@@ -180,7 +180,7 @@ def write_main(module, names, used):
 
 
 def about(facts, is_proved, program=None):
-    """Returns the head of the library's file, or of a program's."""
+    """Returns the head of the library's file, or of a program's file."""
     lines = "".join(f" * {it}\n" for it in facts)
     if program is None:
         what, kind, build, proved = "libkombilad", "library", "cc -O2 -c kombilad.c", PROVED

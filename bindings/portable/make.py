@@ -6,19 +6,19 @@ usage: make.py [--unproved] FOLDER [NAME..]    writes the files into a folder
        make.py --of-dist FOLDER [NAME..]       copies those in dist/ that are of the sources as they
                                                are, and makes the others without proofs
 
-A NAME is `kombilad`, which is kombilad.c and kombilad.h, `ipld` or `ipld_links`, which are programs,
-with posix.c. Without a NAME all are made.
+A NAME is `kombilad`, for kombilad.c and kombilad.h, or a program, `ipld` or `ipld_links`, for its C
+file and posix.c. Without a NAME all are made.
 
-1. `rattle` proves a crate, and hands its compiler an LLVM module, which modules.py keeps. With
-   --unproved it is a module of the same sources, without their proofs, by .ci/quick.py.
+1. `rattle` proves a crate, and passes an LLVM module to its compiler. modules.py keeps the module.
+   With --unproved .ci/quick.py makes a module from the same sources, without their proofs.
 2. The kit's clang optimizes it, with -O2.
 3. ir2c.py translates it to C.
 
 If FOLDER is dist/ at the top, bindings/go gets copies of kombilad.c and kombilad.h.
 
-The head of each file states a digest of all that it is made of. --compare ends with status 1 if that
-in dist/ is of the sources and the toolchain as they are, and its bytes are not those in FOLDER. If
-the sources changed since, it only prints by how many commits.
+The head of each file states a digest of its sources, and its toolchain. --compare ends with status
+1 if a file in dist/ states the current ones, but differs from that in FOLDER. If the sources
+changed since, it only prints the number of commits.
 """
 
 import hashlib
@@ -42,9 +42,9 @@ PROGRAMS = ("ipld", "ipld_links")
 HEADER = HERE.parent / "c" / "kombilad.h"
 DIST = TOP / "dist"
 OPTIONS = {"--unproved", "--compare", "--of-dist"}
-# Files that are the same, and who needs them in a place of their own.
+# Copies of files in dist/, which the Go package needs in its own folder.
 COPIES = {TOP / "bindings" / "go" / it: DIST / it for it in ("kombilad.c", "kombilad.h")}
-# What translates a module. What tests that is no part of it.
+# The files that translate a module, without those that test them.
 TRANSLATOR = [
     HERE / f"{it}"
     for it in "make.py modules.py ir2c.py tokens.py reading.py ir.py values.py instructions.py"
@@ -57,7 +57,7 @@ def crate_of(name):
 
 
 def sources(name):
-    """Returns the files that a C file is made of."""
+    """Returns the files from which a C file is made."""
     crate = crate_of(name)
     found = [TOP / "VERSION", TOP / "crates.txt", *TRANSLATOR]
     found += [HEADER if name == LIBRARY else HERE / "posix.c"]
@@ -76,7 +76,7 @@ def digest_of(name):
 
 
 def git(*words):
-    """Returns what git writes, or None if there is no git or no repository."""
+    """Returns the output of git, or None if git is missing or fails."""
     words = ["git", "-C", str(TOP), *words]
     try:
         done = subprocess.run(words, stdout=subprocess.PIPE, stderr=subprocess.DEVNULL, text=True)
@@ -86,7 +86,7 @@ def git(*words):
 
 
 def facts(name):
-    """Returns what the head of a file states of its making."""
+    """Returns the lines in the head of a file that state how it was made."""
     named = [str(it.relative_to(TOP)) for it in sources(name)]
     commit = git("log", "-1", "--format=%H", "--", *named) or "none, made outside of a repository"
     changes = git("status", "--porcelain", "--", *named)
@@ -118,8 +118,8 @@ def files_of(name):
 
 def copy_or_make(folder, name):
     """
-    Copies the files of a name from dist/ if they are of the sources as they are. Otherwise makes
-    them without proofs.
+    Copies the files of a name from dist/ if they were made from the current sources. Otherwise
+    makes them without proofs.
     """
     made = DIST / f"{name}.c"
     is_there = made.is_file() and fact(made.read_text(encoding="utf-8"), "Sources")
@@ -134,7 +134,7 @@ def copy_or_make(folder, name):
 
 
 def fact(text, name):
-    """Returns what the head of a file states, or None."""
+    """Returns the fact with this name in the head of a file, or None."""
     found = re.search(rf"^ \* {name}: +(.*)$", text, re.M)
     return found[1] if found else None
 
@@ -145,14 +145,15 @@ def without_commit(text):
 
 
 def commits_since(commit, name):
-    """Returns by how many commits the sources changed since one, in words."""
+    """Returns in words the number of commits since one that changed the sources."""
     named = [str(it.relative_to(TOP)) for it in sources(name)]
     count = commit and git("rev-list", "--count", f"{commit}..HEAD", "--", *named)
     return f"{count} commits" if count else "commits that this clone doesn't have"
 
 
 def compare(folder, name):
-    """Returns what is wrong with the files of a name in dist/, and prints how they are."""
+    """Compares the files of a name in dist/. Returns the errors, and prints the state of each
+    file."""
     file = f"{name}.c"
     committed, made = DIST / file, (folder / file).read_text(encoding="utf-8")
     if not committed.is_file():

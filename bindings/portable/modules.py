@@ -1,4 +1,5 @@
-"""The LLVM modules of which the C files are made: those of the library kombilad_c, and of programs."""
+"""The LLVM modules from which the C files are made: that of the library kombilad_c, and those of
+programs."""
 
 import os
 import pathlib
@@ -8,7 +9,7 @@ import tempfile
 
 sys.dont_write_bytecode = True
 HERE = pathlib.Path(__file__).resolve().parent
-# It is put before what is there, so that a name is looked for here first.
+# It comes first in the path, so that a module is searched there first.
 sys.path.insert(0, str(HERE.parent.parent / ".ci"))
 import quick  # noqa: E402
 from built import (  # noqa: E402
@@ -23,9 +24,9 @@ from built import (  # noqa: E402
 )
 
 LIBRARY = "kombilad_c"
-# What is linked with a module before it is optimized.
+# The module that is linked with each module before it is optimized.
 FEATURES = HERE / "features.ll"
-# Without vectors, but those that the source has; and without tables of pointers, which aren't
+# Without vectors, except those in the source. Also without tables of pointers, which aren't
 # constants in C on every processor.
 OPTIMIZE = (
     "--target=x86_64-unknown-linux-gnu -march=x86-64-v2 -x ir -O2 -fno-vectorize -fno-slp-vectorize"
@@ -34,7 +35,7 @@ OPTIMIZE = (
 
 
 def is_newer(path):
-    """Returns whether a file is there, and made of the sources and by the kit as they are."""
+    """Returns whether a file exists, and is newer than the sources and the kit."""
     return path.is_file() and path.stat().st_mtime > max(
         newest_source(), (kit() / "bin" / "rattle").stat().st_mtime
     )
@@ -42,14 +43,14 @@ def is_newer(path):
 
 def proved(crate):
     """
-    Returns the module that `rattle` proved and handed to its compiler. If it is older than a source,
-    the crate is proved and built again.
+    Returns the module that `rattle` proved and passed to its compiler. If it is older than a
+    source, the crate is proved and built again.
     """
     made = CRATES / crate / "out" / "module" / "module.bc"
     if is_newer(made):
         return made
     if not has_libraries(crate):
-        # It has no libraries of `rt ci`, so `rt lib` proves those below the library for C.
+        # There are no libraries from `rt ci`. For the C library `rt lib` proves those below it.
         if crate != LIBRARY:
             raise NotBuilt(f"what is below {crate} is not proved: run rt ci first")
         static_library(crate)

@@ -1,4 +1,4 @@
-"""The functions of prelude.c, of which a file gets those that it calls."""
+"""The functions of prelude.c. A C file gets only those that it calls."""
 
 import pathlib
 import re
@@ -145,7 +145,7 @@ def used_pieces(text):
 
 
 def in_order(known, wanted):
-    """Gives each wanted piece after those that it names."""
+    """Yields each wanted piece after the pieces that it names."""
     given = set()
 
     def visit(name):

@@ -1,5 +1,4 @@
-"""Reads the text of an LLVM module. Every line of a function is an instruction that is known here;
-any other stops the translation."""
+"""Reads the text of an LLVM module. An unknown instruction in a function stops the translation."""
 
 import re
 
@@ -10,7 +9,7 @@ from tokens import BINARY, CASTS, FLAGS, LINKAGE, Line, plain
 LABEL = re.compile(r'^("(?:[^"\\]|\\.)*"|[-\w.$]+):(?:\s*;.*)?$')
 CONDITIONS = set("eq ne ult ule ugt uge slt sle sgt sge".split())
 FLOAT_CONDITIONS = set("oeq ogt oge olt ole one ord ueq ugt uge ult ule une uno".split())
-# Calls that say something to the optimizer, and do nothing.
+# Calls that inform the optimizer, and have no effect.
 HINTS = (
     "llvm.lifetime.start.p0",
     "llvm.lifetime.end.p0",
@@ -95,7 +94,8 @@ class InstructionLine(Line):
         return Instruction(op, DOUBLE, [first])
 
     def double(self):
-        """Reads the type of an operation of floats, which has no words that let it be inexact."""
+        """Reads the type of an operation of floats. It fails at a flag that allows inexact
+        results."""
         if self.peek() != "double":
             self.fail(f"`{self.peek()}` in place of `double`")
         return self.type()
@@ -210,7 +210,7 @@ class InstructionLine(Line):
         self.attributes()
         kind = self.type()
         if self.peek() == "(":
-            # The parameters of a function that takes more than it declares.
+            # The parameters of a variadic function.
             self.skip_parentheses()
         if self.peek()[:1] != "@":
             self.fail("a call that isn't of a named function")
@@ -288,7 +288,7 @@ def bytes_of(operand):
 
 
 def pointers_of(name, value):
-    """Returns the places of the pointers in a constant, which lead into it, and where they lead."""
+    """Returns the offset of each pointer in a constant, and the offset in it to which it points."""
     found, at = [], 0
     for item in value.value if isinstance(value.kind, Packed) else ():
         if item.kind == POINTER:
@@ -372,7 +372,7 @@ def read_body(function, lines):
 
 
 def read_module(text):
-    """Returns a module of its text."""
+    """Returns the module of a text."""
     module, lines = Module(), iter(text.split("\n"))
     layout = triple = None
     for text in lines:

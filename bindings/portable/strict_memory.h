@@ -1,5 +1,5 @@
-/* Given to a compiler before a file: a memcpy of bytes that overlap goes backwards, so that it isn't
- * a memmove, and neither looks at a pointer for no bytes. */
+/* Included before a file. Its memcpy copies bytes that overlap in the wrong order, so the result
+ * differs from that of memmove. A memcpy of no bytes aborts. */
 #include <stdlib.h>
 #include <string.h>
 

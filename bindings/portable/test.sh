@@ -1,8 +1,9 @@
 #!/bin/sh
-# Makes the C files of the library and of the programs, and tests them: each instruction that the
-# translator knows, each call beside the library for x86-64, and the programs with their files; on
-# other processors too, with fewer inputs. The file of `ipld` is that in dist/ if that is of the sources
-# as they are, otherwise one without proofs. With --unproved it takes all modules without proofs.
+# Makes the C files of the library and of the programs, and tests them. It tests each instruction
+# that the translator knows, compares each call with the library for x86-64, and runs the programs.
+# It also tests on other processors, with fewer inputs. The file of `ipld` is that in dist/ if that
+# was made from the current sources, otherwise one without proofs. With --unproved all modules are
+# without proofs.
 set -eu
 cd "$(dirname "$0")"
 # shellcheck source=../../.ci/start.sh
@@ -19,7 +20,7 @@ mkdir -p "$out"
 ./faults.py --check
 ./make.py "$@" "$out" kombilad ipld_links
 ./make.py --compare "$out" kombilad ipld_links
-# A proof of ipld takes eight minutes, and `rt ci` keeps no module of its own.
+# A proof of ipld takes eight minutes, and `rt ci` doesn't keep its module.
 ./make.py --of-dist "$out" ipld
 ./test_ir2c.py --inputs 64 "gcc -O0" "gcc -O2" "clang -O2" tcc aarch64 riscv64 s390x i386
 compare/same.py "$out" "$library" --cases 50 "gcc -O2" "clang -O2" "gcc sanitized"

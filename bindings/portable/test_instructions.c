@@ -1,5 +1,5 @@
-/* Runs each function of a module of cases over many inputs, and prints for each of them its number
- * and a digest of all bytes that it wrote.
+/* Runs each function of a module of cases with many inputs. Prints for each function its number and
+ * a digest of all bytes that it wrote.
  *
  * usage: test_instructions FUNCTIONS INPUTS */
 #include "kombilad.h"
@@ -36,7 +36,7 @@ static void put(uint8_t *at, uint64_t number) {
     for (byte = 0; byte < 8; byte++) at[byte] = (uint8_t)(number >> 8 * byte);
 }
 
-/* The input of a number: the first ones are each pair of edges. */
+/* Writes the input with this number. The first inputs have each pair of EDGES. */
 static void fill(uint8_t *in, uint32_t number) {
     int at;
     state = number;
@@ -51,7 +51,7 @@ static void fill(uint8_t *in, uint32_t number) {
     } else if (number & 1) {
         for (at = 0; at < 48; at += 8) put(in + at, EDGES[random_number() % COUNT]);
     }
-    /* Places in a vector, and letters. */
+    /* Indices in a vector. Some have the highest bit set. */
     if (number & 2)
         for (at = 113; at < 145; at++) in[at] &= 0x8f;
 }

@@ -1,12 +1,12 @@
 #!/usr/bin/env python3
-"""Compares what ir2c.py makes of each instruction with what the kit's compiler makes of it.
+"""Compares the C code that ir2c.py makes from each instruction with the code of the kit's compiler.
 
 usage: test_ir2c.py [--inputs COUNT] [COMPILER..]
 
-Each function of instruction_cases.py and block_cases.py is compiled by the kit's clang, without
-optimization, and translated to C, which is compiled by each compiler of COMPILERS, or of those that
-are named. All are run over the same inputs, and all bytes that they write are compared. Without
-names, compilers that aren't installed are left out; a named one has to be there.
+The kit's clang compiles each function of the files *_cases.py, without optimization. ir2c.py
+translates it to C, which each compiler of COMPILERS compiles, or each named one. All run with the
+same inputs, and all bytes that they write are compared. Without names, compilers that aren't
+installed are left out. A named one has to be installed.
 """
 
 import pathlib
@@ -39,7 +39,7 @@ enum { KOMBILAD_NO_MEMORY = 1 };
 void kombilad_run(uint32_t which, uint8_t *in, uint8_t *out);
 #endif
 """
-# What stops the translation, and a word of the reason.
+# Lines that stop the translation, and a part of the reason.
 STOPS = [
     ("%r = fadd float %a, %b", "in place of `double`"),
     ("%r = fadd fast double 1.0e+00, 2.0e+00", "in place of `double`"),
@@ -80,7 +80,7 @@ def run(words, **more):
 
 
 def check_stops():
-    """Checks that the translator stops at what it doesn't know, and says what it is."""
+    """Checks that the translator stops at anything unknown, and names it."""
     failed = []
     for lines, reason in STOPS:
         text = (
@@ -155,7 +155,7 @@ def main():
     words, inputs = sys.argv[1:], 1024
     if words[:1] == ["--inputs"]:
         inputs, words = int(words[1]), words[2:]
-    from built import kit  # the tests of the script alone need no kit
+    from built import kit  # only this function needs the kit
 
     failed = check_stops()
     cases = all_cases()

@@ -1,5 +1,5 @@
-"""Reads a line of an LLVM module: its tokens, types, attributes and operands. Every word is one that
-is known here; any other stops the translation."""
+"""Reads a line of an LLVM module: its tokens, types, attributes and operands. An unknown word stops
+the translation."""
 
 import re
 import struct
@@ -24,7 +24,8 @@ TOKEN = re.compile(
 BINARY = set("add sub mul udiv sdiv urem srem and or xor shl lshr ashr".split())
 CASTS = set("zext sext trunc ptrtoint ptrtoaddr inttoptr bitcast uitofp".split())
 FLAGS = set("nuw nsw exact disjoint nneg samesign inbounds nusw".split())
-# Attributes of a parameter, an argument or a result, which say of it what holds anyway.
+# Attributes of a parameter, an argument or a result. They state facts that are true anyway, so they
+# are ignored.
 PLAIN_ATTRIBUTES = set(
     "noundef nonnull readonly writeonly readnone zeroext signext noalias nocapture immarg returned"
     " nofree writable dead_on_unwind dead_on_return".split()
@@ -54,7 +55,7 @@ def plain(name):
 
 
 def unescaped(text):
-    """Returns the bytes of a constant c"..", in which `\\\\` and `\\xx` stand for a byte."""
+    """Returns the bytes of a constant c"..", in which `\\\\` and `\\xx` are one byte each."""
     found, at = bytearray(), 2
     while at < len(text) - 1:
         if text[at] != "\\":
@@ -70,7 +71,7 @@ def unescaped(text):
 
 
 def bits_of_float(text):
-    """Returns the bits of a double, which stands as them or as a decimal number of that value."""
+    """Returns the bits of a double. The text has them in hexadecimal, or is a decimal number."""
     if text.startswith("0x"):
         return int(text, 16)
     return int.from_bytes(struct.pack("<d", float(text)), "little")
@@ -110,7 +111,7 @@ class Line:
         return False
 
     def words(self, known):
-        """Takes all words of a set that come next."""
+        """Takes the next tokens, as long as they are words of a set."""
         while self.peek() in known:
             self.at += 1
 
@@ -146,7 +147,7 @@ class Line:
                 return
 
     def ends(self):
-        """Checks that nothing follows but an alignment and metadata."""
+        """Checks that nothing follows, except an alignment and metadata."""
         while self.at < len(self.tokens):
             self.expect(",")
             if self.has("align"):
@@ -195,7 +196,7 @@ class Line:
         return tuple(fields)
 
     def operand(self, kind=None):
-        """Reads a type, where it isn't given, and a value."""
+        """Reads a value, and before it a type, unless that is given."""
         kind = kind or self.type()
         sort, text = self.sort(), self.take()
         if sort == "name":

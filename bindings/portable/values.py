@@ -1,4 +1,4 @@
-"""C expressions, and how types, constants and operands are written in C."""
+"""C expressions, and the C code of types, constants and operands."""
 
 import dataclasses
 from typing import Optional, Tuple
@@ -19,7 +19,7 @@ from ir import (
     name_of,
 )
 
-# How deep an expression may nest: C99 promises 63 levels of parentheses.
+# The maximum depth of an expression. C99 guarantees 63 levels of parentheses.
 DEEPEST = 12
 LONGEST = 160
 
@@ -28,9 +28,9 @@ LONGEST = 160
 class Expression:
     """A C expression without side effects.
 
-    `reads` are the variables that it reads, `loads` says whether it reads memory, and `is_atom`
-    whether it is an operand as it stands. `within` is the array that it points into, the offset and
-    the array's size. `fields` are the parts of a struct that isn't written yet.
+    `reads` are the variables that it reads. `loads` is whether it reads memory, and `is_atom`
+    whether it is an operand without parentheses. `within` is the array that it points into, the
+    offset and the array's size. `fields` are the parts of a struct that isn't written yet.
     """
 
     text: str
@@ -61,7 +61,7 @@ def joined(text, parts, is_atom):
 
 
 def combine(form, *parts):
-    """Returns the expression of a form such as "{} + {}", with parentheses where needed."""
+    """Returns the expression of a form such as "{} + {}", with parentheses if necessary."""
     return joined(form.format(*(it.operand for it in parts)), parts, False)
 
 
@@ -82,7 +82,7 @@ def literal(text):
 
 
 def held_bits(bits):
-    """Returns the width of the C type that holds a number of so many bits."""
+    """Returns the width of the C type of a number with this many bits."""
     for width in (8, 16, 32, 64):
         if bits <= width:
             return width
@@ -97,20 +97,21 @@ def held(kind):
 
 
 def vector_type(kind):
-    """Returns the C type of a vector of bytes, or of truths, each of which is a byte 0 or 255. One
-    of less than 16 is the beginning of one of 16, whose other bytes may be any."""
+    """Returns the C type of a vector of bytes, or of truths, each of which is a byte 0 or 255. A
+    vector of less than 16 is the beginning of one of 16, whose other bytes may have any value."""
     if kind.item not in (I1, I8) or kind.count not in (2, 4, 8, 16, 32, 64):
         raise Unknown(f"a vector {name_of(kind)}")
     return f"V{max(kind.count, 16)}"
 
 
 def has_lanes(kind):
-    """Returns whether it is a vector of 16 bytes of wider numbers, which are held one by one."""
+    """Returns whether a type is a vector of 16 bytes of wider numbers. In C it is a struct of
+    them."""
     return isinstance(kind, Vector) and kind in (Vector(8, I16), Vector(4, I32), Vector(2, I64))
 
 
 def lanes_of(kind):
-    """Returns the struct that holds the numbers of a vector."""
+    """Returns the struct of the numbers of a vector."""
     return Struct((kind.item,) * kind.count)
 
 
@@ -143,8 +144,8 @@ def struct_definition(kind):
 
 
 def number(bits, value):
-    """Returns a number of so many bits; those below 32 bits are of the type int, as what C computes
-    of them is."""
+    """Returns a number of this many bits. Below 32 bits it has the type int, like the results that
+    C computes from such numbers."""
     value %= 1 << bits
     if bits == 128:
         low = value & (1 << 64) - 1
@@ -157,7 +158,7 @@ def number(bits, value):
 
 
 def zero(kind):
-    """Returns the value of which every bit is zero."""
+    """Returns the value of a type with all bits zero."""
     if isinstance(kind, (Integer, Double)):
         return number(kind.bits, 0)
     if isinstance(kind, Pointer):
@@ -179,13 +180,13 @@ def parts_of(whole, count):
 
 
 def structure(kind, fields):
-    """Returns a struct of its fields."""
+    """Returns a struct with these fields."""
     text = f"({c_type(kind)}){{ {', '.join(it.text for it in fields)} }}"
     return dataclasses.replace(joined(text, fields, True), fields=fields)
 
 
 def vector_of(kind, items):
-    """Returns a vector of constant bytes; an undefined one is 0."""
+    """Returns a vector of constant bytes. An undefined byte is 0."""
     scale = 255 if kind.item == I1 else 1
     numbers = []
     for item in items:

@@ -1,4 +1,4 @@
-"""Small functions in LLVM's IR of vectors, as those of instruction_cases.py."""
+"""Test functions in LLVM's IR for vectors, like those of instruction_cases.py."""
 
 from instruction_cases import put
 

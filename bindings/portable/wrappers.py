@@ -1,9 +1,9 @@
-"""The calls of the header: the header itself, and the C functions that hand what they take to the
-translated ones.
+"""Writes the header, and the C functions of its calls, which call the translated functions.
 
-The translated code has numbers with their lowest byte first and pointers and sizes of eight bytes.
-Where the processor has that too, a call passes on what it takes. Elsewhere a number that is written
-goes through eight bytes, and records get that order before the call and their own after it.
+In the translated code numbers have their lowest byte first, and pointers and sizes have eight
+bytes. If the processor has the same layout, a call passes its arguments unchanged. Otherwise a
+number that the call writes goes through eight bytes. Records are converted to this layout before
+the call, and back after it.
 """
 
 import dataclasses
@@ -21,7 +21,7 @@ WIDTHS = {"size_t": 8, "uint64_t": 8, "uint32_t": 4}
 
 @dataclasses.dataclass(frozen=True)
 class Parameter:
-    """A parameter of a call: `count` names how many records a pointer leads to."""
+    """A parameter of a call. `count` is an expression for the number of records at a pointer."""
 
     type: str
     name: str
@@ -47,8 +47,8 @@ def without_comments(text):
 
 
 def portable_header(header, head):
-    """Returns the header in which the sizes in records are numbers of 64 bits, so that a record has
-    the same bytes on every processor."""
+    """Returns the header with the sizes in records as numbers of 64 bits. So a record has the same
+    layout on every processor."""
 
     def widened(match):
         return match[0].replace("size_t ", "uint64_t ")
@@ -77,7 +77,7 @@ def calls_of(header):
 
 
 def records_of(header):
-    """Returns the widths of the numbers of each record: none of one that is of bytes."""
+    """Returns the widths of the numbers of each record. A record of bytes has none."""
     found = {}
     for name, body in RECORD.findall(without_comments(header)):
         fields = FIELD.findall(body)
@@ -91,7 +91,7 @@ def records_of(header):
 
 
 def check(call, function):
-    """Checks that a translated function takes and returns what the call does."""
+    """Checks that a translated function has the parameters and the result of the call."""
     wanted = [POINTER if it.is_pointer else SCALARS.get(it.type) for it in call.parameters]
     result = VOID if call.result == "void" else I32
     if [kind for kind, _ in function.parameters] != wanted or function.result != result:
@@ -99,7 +99,7 @@ def check(call, function):
 
 
 def record_functions(name, widths):
-    """Returns the function that puts records into the code's order of bytes, or back."""
+    """Returns the function that converts records to the byte order of the code, or back."""
     offset, lines = 0, []
     for width in widths:
         lines.append(f"        reverse(p + {offset}, {width});")
@@ -147,7 +147,7 @@ class Wrapper:
         self.declared, self.before, self.after, self.freed = [], [], [], []
 
     def argument(self, it):
-        """Returns what is passed for a parameter, and notes what is done around the call."""
+        """Returns the argument for a parameter, and adds the lines before and after the call."""
         if not it.is_pointer:
             return it.name
         if it.type in ("size_t", "uint64_t") and not it.is_constant:
@@ -168,7 +168,7 @@ class Wrapper:
         return self.copied(it, order)
 
     def copied(self, it, order):
-        """Has constant records copied where their bytes are to be in another order."""
+        """Returns the argument for constant records. They are copied if the byte order differs."""
         copy = f"{it.name}_copy"
         self.declared.append(f"{it.type} *{copy} = NULL;")
         self.before.insert(
@@ -213,7 +213,7 @@ class Wrapper:
 
 
 def write_wrappers(header, module, names):
-    """Returns the functions of the header's calls: what they need before them, and they."""
+    """Returns the functions of the header's calls, after the helpers that they need."""
     calls, records = calls_of(header), records_of(header)
     exported = {name for name, it in module.functions.items() if not it.is_internal}
     declared = {it.name for it in calls}

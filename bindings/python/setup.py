@@ -36,7 +36,7 @@ def copy_from_repository():
 
 
 class BuildNative(build_ext):
-    """Names what is needed if a C file can't be compiled."""
+    """Reports the required tools if a C file can't be compiled."""
 
     def build_extensions(self):
         try:

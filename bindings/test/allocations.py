@@ -1,5 +1,5 @@
-"""Each allocation of making values and blocks refused in turn: CPython's by `_testcapi`, and those
-of libkombilad.
+"""Makes each allocation fail in turn while values and blocks are made: those of libkombilad, and by
+`_testcapi` those of CPython.
 
 usage: python allocations.py
 
@@ -49,7 +49,8 @@ def works():
 
 def refused(what, begin, end, most=2000):
     """
-    Lets each allocation fail in turn, until the work is done in spite of that; how many it was.
+    Makes each allocation of the works fail in turn, until they succeed. Prints the number of
+    failures.
     """
     failures = 0
     for work in works():
@@ -88,7 +89,7 @@ def main():
             "allocations: this Python has no _testcapi, so that its own allocations were not refused"
         )
         return
-    # From the one of this number on all fail.
+    # All allocations from this number on fail.
     refused(
         "Python's allocations",
         lambda number: _testcapi.set_nomemory(number),

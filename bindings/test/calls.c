@@ -1,6 +1,6 @@
-/* Each call of kombilad.h from C: what it returns and what it writes, with each buffer that is too
- * short, and with each allocation refused. Expected values are those of other programs, or written
- * out by hand. `calls deep` nests 10,000,000 lists. */
+/* Tests each call of kombilad.h from C: what it returns and writes, also with buffers that are too
+ * short, and if an allocation fails. Expected values are from other programs, or written by hand.
+ * `calls deep` nests 10,000,000 lists. */
 #include <kombilad.h>
 
 #include <pthread.h>
@@ -18,8 +18,8 @@ static void failed(const char *fact, int line, const char *what) {
     exit(1);
 }
 
-/* ---- Allocations, counted and refused: the linker hands these the calls of malloc, realloc and
- * free. */
+/* ---- Allocations, counted and refused: the linker replaces malloc, realloc and free by these
+ * functions. */
 
 static _Thread_local long refused_at = -1; /* counts down to the allocation that is refused */
 static _Thread_local long held;
@@ -47,8 +47,8 @@ void __wrap_free(void *block) {
     __real_free(block);
 }
 
-/* ---- Bytes from hexadecimal digits, in a block of just their length, so that a sanitizer sees
- * each byte too many. */
+/* ---- Bytes from hexadecimal digits, in an allocation of exactly their length, so that a sanitizer
+ * detects each access beyond it. */
 
 typedef struct bytes {
     uint8_t *at;
@@ -265,8 +265,8 @@ static void check_cid_of_block(void) {
 static const struct {
     const char *block;
     uint32_t status;
-    size_t links;          /* of a block how many, else the offset of the error */
-    const char *canonical; /* NULL where it is the block itself */
+    size_t links;          /* the number of links of a block, or the offset of the error */
+    const char *canonical; /* NULL if it is the block itself */
 } blocks[] = {
     {"f6", KOMBILAD_OK, 0, NULL},
     {"a0", KOMBILAD_OK, 0, NULL},
@@ -415,7 +415,7 @@ static void check_each_kind(void) {
     free(block.at);
 }
 
-/* What has no block: entries over the data 00 'b' 'a' ff 01 55 00 00 7f f8 00 00 00 00 00 00, the
+/* Invalid tapes: entries over the data 00 'b' 'a' ff 01 55 00 00 7f f8 00 00 00 00 00 00, the
  * status, and the entry at fault. */
 static const struct {
     kombilad_entry entries[5];
@@ -497,7 +497,7 @@ static void check_no_tapes(void) {
     free(data.at);
 }
 
-/* The block of the tape of a block is the canonical one of it. */
+/* Checks that the tape of a block is encoded as the block's canonical form. */
 static void check_encode(const char *name, bytes block, bytes canonical) {
     size_t count = 0, ignored;
     CHECK_OF(name, kombilad_tape(block.at, block.len, 100, 100, NULL, 0, &count, &ignored) ==
@@ -522,8 +522,8 @@ static void check_encode(const char *name, bytes block, bytes canonical) {
     free(entries);
 }
 
-/* ---- Nodes of DAG-PB: a link with its name and its size, one with neither, data, and the
- * entries that they are. */
+/* ---- Nodes of DAG-PB: a link with its name and its size, one with neither, data, and their
+ * entries. */
 
 #define PB_BARE "12060a0401550000"
 #define PB_DATA "0a026869"
@@ -658,7 +658,7 @@ static void check_blocks(void) {
     free(block.at), free(v1.at), free(v0.at);
 }
 
-/* Blocks and their DAG-JSON, which are made of each other. */
+/* Blocks and their DAG-JSON. Each converts to the other. */
 static const struct {
     const char *block, *text;
 } same[] = {
@@ -689,7 +689,7 @@ static const struct {
     {"a261216161612f6161", "{\"!\":\"a\",\"/\":\"a\"}"},
 };
 
-/* Blocks without a text, or with one of which another block is made. */
+/* Blocks without a text, or with a text that converts to another block. */
 static const struct {
     const char *block, *text;
     uint32_t status;
@@ -706,7 +706,7 @@ static const struct {
     {"82a1612f616181", "", KOMBILAD_BLOCK_END, 7},
 };
 
-/* Texts without a block, or with one of which another text is made. */
+/* Texts without a block, or with a block that converts to another text. */
 static const struct {
     const char *text, *block;
     uint32_t status;
@@ -892,8 +892,8 @@ static uint32_t call_check_canonical(bytes block, void *out, size_t len, size_t 
     return kombilad_block_check_canonical(block.at, block.len, 100, 100, &offset);
 }
 
-/* Refuses the first allocation of the call, then the second, and so on, until none is refused. How
- * many there are is returned. */
+/* Makes the first allocation of the call fail, then the second, and so on, until none fails.
+ * Returns the number of allocations. */
 static long refuse_each(call *made, bytes input, size_t len) {
     uint8_t *out = malloc(len);
     for (long at = 0;; at++) {
@@ -938,7 +938,7 @@ static void check_refused(void) {
     free(node.at);
     CHECK(refuse_each(call_check_canonical, block, 1) > 0);
 
-    /* These allocate nothing. */
+    /* These calls don't allocate. */
     kombilad_cid_parts parts;
     kombilad_cid read;
     size_t place;
@@ -955,7 +955,7 @@ static void check_refused(void) {
 
 /* ---- CARs, and digests */
 
-#define LEAF "01550000" /* the CID of no bytes, which carries them */
+#define LEAF "01550000" /* the CID of an empty block, with the identity hash */
 #define HEADER "11a265726f6f7473806776657273696f6e01"
 #define FRONT2               \
     "0aa16776657273696f6e02" \
@@ -994,8 +994,8 @@ static const struct {
      52},
 };
 
-/* Of each CAR, by kombilad_car_open_part: what it returns with all bytes and with as many as are
- * said, and how many more it needs. */
+/* CARs of which kombilad_car_open_part gets the first `given` bytes, and the number of bytes that
+ * it needs in addition. */
 static const struct {
     const char *car;
     size_t given;
@@ -1083,7 +1083,7 @@ static const struct {
     size_t limit;
     uint64_t version, at, end;
     uint32_t status;
-    size_t cid, block, next; /* or the offset or the number of bytes, and nothing */
+    size_t cid, block, next; /* with another status: the offset or the number of bytes, 0, 0 */
 } parts[] = {
     {"04" LEAF, 0, 4, 1, 9, UINT64_MAX, KOMBILAD_OK, 1, 5, 5},
     {"06" LEAF "6869ff", 0, 6, 2, 100, 107, KOMBILAD_OK, 1, 5, 7},
@@ -1244,8 +1244,8 @@ static bool reports(uint32_t status, const char *sentence) {
            needed == strlen(sentence) && memcmp(text, sentence, needed) == 0;
 }
 
-/* Every number has a sentence: of at most 80 bytes, in ASCII, without a full stop. What follows it
- * in the buffer stays, and so does a buffer that is too short. */
+/* Checks that every number has a sentence of at most 80 bytes, in ASCII, without a full stop. The
+ * bytes after it in the buffer don't change, and neither does a buffer that is too short. */
 static void check_sentences(void) {
     for (uint32_t status = 0; status < 70000; status++) {
         uint8_t text[81];

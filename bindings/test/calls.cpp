@@ -1,4 +1,4 @@
-// The header in C++, and a call of each kind through the shared library.
+// Tests the header in C++, with a call of each kind through the shared library.
 #include <kombilad.h>
 
 #include <cstdio>

@@ -1,5 +1,5 @@
 """
-What the docstrings of the Python package don't show: bytes-like objects, comparing, pickling,
+Tests what the docstrings of the Python package don't show: bytes-like objects, comparing, pickling,
 threads and failures.
 """
 
@@ -65,7 +65,7 @@ class Bytes(unittest.TestCase):
     def test_a_block_is_free_afterwards(self):
         block = bytearray(b"\x81")
         self.assertRaises(kombilad.BlockError, kombilad.links, block)
-        block.extend(b"\x80")  # a buffer that is still lent can't grow
+        block.extend(b"\x80")  # it can't grow while the library uses its buffer
         kombilad.check(block)
         before = sys.getrefcount(block)
         for _ in range(100):

@@ -1,10 +1,15 @@
-"""Random CARs, cut and changed, and what the plain reader reads of each: what a package is to read.
+"""Writes random CARs, whole, cut and changed, with the results of the plain reader. A package has
+to read the same.
 
 usage: python3 car_cases.py FILE [COUNT [SEED]]
 
-Each line of FILE is JSON: a CAR in hexadecimal; its version and roots, or null; of each section the
-CID, the block, and where the section and the block begin; and the name and the offset of the error
-at which reading ends, or null. A header has at most 8 MiB, and a section 32 MiB.
+Each line of FILE is a JSON list:
+- a CAR in hexadecimal
+- its version and roots, or null
+- for each section the CID, the block, and the offsets of the section and the block
+- the name and the offset of the error at which reading ends, or null
+
+A header has at most 8 MiB, and a section 32 MiB.
 """
 
 import json
@@ -12,7 +17,7 @@ import struct
 import sys
 import types
 
-# Of random_blocks only what makes CIDs is used, and nothing of the package that it tests.
+# Only the part of random_blocks that makes CIDs is used, and not the package that it tests.
 sys.modules.setdefault("kombilad", types.ModuleType("kombilad"))
 import car_reader  # noqa: E402
 import random_blocks  # noqa: E402
@@ -51,7 +56,7 @@ def made(source):
 
 
 def read(data, header_limit=HEADER_LIMIT, section_limit=SECTION_LIMIT):
-    """What a reader returns of a CAR, one section after another."""
+    """Returns the result of reading a CAR, one section after another."""
     head, sections = None, []
     try:
         version, at, end, roots = car_reader.opened(data, header_limit)

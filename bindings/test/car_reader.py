@@ -1,7 +1,7 @@
-"""CARs, read plainly: what the tests of the bindings compare with. It shares nothing with the
+"""A plain reader of CARs, with which the tests of the bindings compare. It shares no code with the
 library.
 
-`Rejected` of `reader` names the error as `kombilad.h` does, and says at which byte it is.
+`Rejected` of `reader` has the name of the error in `kombilad.h`, and its offset.
 """
 
 import struct
@@ -14,7 +14,7 @@ NO_LIMIT = 2**64 - 1
 
 
 def length(data, at, end, cut):
-    """The varint at a place, and the place behind it."""
+    """Returns the varint at an offset, and the offset after it."""
     number = 0
     for place in range(at, at + 10):
         if place >= min(end, len(data)):
@@ -31,7 +31,7 @@ def length(data, at, end, cut):
 
 
 def framed(data, at, end, limit):
-    """Where those bytes begin and end that the length at a place counts."""
+    """Returns the beginning and the end of the bytes after the length at an offset."""
     cut = "CAR_SHORT_PAYLOAD" if len(data) < end else "CAR_UNEXPECTED_END"
     size, start = length(data, at, end, cut)
     if size == 0:
@@ -55,7 +55,7 @@ def header(roots):
 
 
 def roots_of(data, start, end):
-    """The roots in the block of a header."""
+    """Returns the roots in the block of a header."""
     try:
         block = reader.read(data[start:end], 2, 10**9, reader.Read)
     except Rejected as why:
@@ -68,7 +68,7 @@ def roots_of(data, start, end):
 
 
 def opened(data, limit):
-    """The version, where the sections begin and end, and the roots."""
+    """Returns the version, the beginning and the end of the sections, and the roots."""
     start, behind = framed(data, 0, len(data), limit)
     if data[start:behind] != PRAGMA:
         return 1, behind, len(data), roots_of(data, start, behind)
@@ -84,7 +84,7 @@ def opened(data, limit):
 
 
 def cid_len(content):
-    """How many bytes the CID has that begins the bytes."""
+    """Returns the number of bytes of the CID with which the content begins."""
     if content[:2] == b"\x12\x20":
         size, at = 32, 2
     elif content in (b"", b"\x12"):
@@ -110,8 +110,8 @@ def cid_len(content):
 
 def section(data, at, end, limit=NO_LIMIT):
     """
-    Where the CID and the block of a section stand, and where the next begins; None where the
-    sections end.
+    Returns the positions of the CID and the block of a section, and the beginning of the next one.
+    Returns None at the end of the sections.
     """
     if at >= end:
         return None

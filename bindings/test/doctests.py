@@ -1,4 +1,4 @@
-"""The examples in the docstrings of the installed package."""
+"""Tests the examples in the docstrings of the installed package."""
 
 import doctest
 import sys

@@ -1,9 +1,9 @@
-"""Checks that the libraries show only the calls of kombilad.h, in the shared one with the version of
-kombilad.map, and need only the C library.
+"""Checks that the libraries export only the calls of kombilad.h, and need only the C library. In
+the shared library each call must have its version in kombilad.map.
 
 usage: python exports.py libkombilad.a libkombilad.so.0 ARCHIVE
 
-The first two are the library for x86-64. ARCHIVE is what a C compiler made of kombilad.c.
+The first two are the library for x86-64. ARCHIVE is kombilad.c, compiled by a C compiler.
 """
 
 import pathlib
@@ -14,7 +14,7 @@ import sys
 HEADER = pathlib.Path(__file__).resolve().parent.parent / "c" / "kombilad.h"
 MAP = HEADER.with_suffix(".map")
 WANTED = {"free", "malloc", "memcpy", "memmove", "memset", "realloc"}
-# What the linker and the C compiler put into each shared library.
+# The symbols that the linker and the C compiler put into each shared library.
 WEAK = {
     "_ITM_deregisterTMCloneTable",
     "_ITM_registerTMCloneTable",
@@ -41,7 +41,7 @@ def same(what, seen, expected):
 
 
 def by_version():
-    """Returns the calls with the version that added each, by the linker's script."""
+    """Returns the calls with the version of each in the linker's script."""
     return {
         f"{call}@@{version}"
         for version, calls in re.findall(
@@ -57,7 +57,7 @@ def main():
     same("of the archive", names(told("nm", "-g", "--defined-only", archive)), calls)
     same("the archive wants", names(told("nm", "-u", archive)), WANTED)
     same("of the compiled archive", names(told("nm", "-g", "--defined-only", compiled)), calls)
-    # Compilers call different ones of these functions. Proved code doesn't reach its calls of abort.
+    # Each compiler calls some of these functions. Proved code doesn't reach its calls of abort.
     wanted = WANTED | {"abort"}
     same("the compiled archive wants", names(told("nm", "-u", compiled)) | wanted, wanted)
     exported = told("nm", "-D", "--defined-only", "--with-symbol-versions", shared)

@@ -1,14 +1,14 @@
-/* malloc and realloc of libkombilad, which fail if a test asks for it. The extension module contains
- * them, by the linker's --wrap. */
+/* malloc and realloc for libkombilad, which fail if a test requests it. The extension module
+ * contains them, by the linker's --wrap. */
 #include <stdlib.h>
 
 void *__real_malloc(size_t size);
 void *__real_realloc(void *block, size_t size);
 
-/* How many more allocations succeed; -1 for all. */
+/* The number of allocations that still succeed, or -1 for all. */
 static long left = -1;
 
-/* From now on this many allocations succeed, and no other; -1 for all. */
+/* Makes this many more allocations succeed, and the others fail. With -1 all succeed. */
 void kombilad_test_fail_after(long allocations) { left = allocations; }
 
 static int fails(void) {

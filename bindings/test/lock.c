@@ -1,6 +1,6 @@
-/* Calls of libkombilad that look whether their thread holds the interpreter's lock, and that wait
- * for one another if a test asks for it. The extension module contains them, and in it the library's
- * own calls have the prefix `real_`. */
+/* Calls of libkombilad that record whether their thread holds the interpreter's lock. If a test
+ * requests it, they wait for each other. The extension module contains them, and in it the
+ * library's own calls have the prefix `real_`. */
 #include <pthread.h>
 #include <stdbool.h>
 #include <time.h>
@@ -14,18 +14,18 @@ static pthread_mutex_t mutex = PTHREAD_MUTEX_INITIALIZER;
 static pthread_cond_t changed = PTHREAD_COND_INITIALIZER;
 static size_t wanted, inside;
 
-/* From now on calls are counted, with this function of CPython's; and each of the next so many
- * waits until all of them are there. */
+/* Begins to count calls. `holds` is CPython's function that reports whether the thread holds the
+ * lock. Each of the next `threads` calls waits until all of them have begun, for at most 20 s. */
 void kombilad_test_watch(int (*holds)(void), size_t threads) {
     holds_lock = holds;
     seen[0] = seen[1] = inside = 0;
     wanted = threads;
 }
 
-/* How many calls were made without the lock (0), and with it (1). */
+/* Returns the number of calls without the lock (0) or with it (1). */
 size_t kombilad_test_seen(int with_lock) { return seen[with_lock]; }
 
-/* How many calls were inside at once. */
+/* Returns the number of calls that were inside at the same time, up to `threads`. */
 size_t kombilad_test_inside(void) { return inside; }
 
 static void look(void) {

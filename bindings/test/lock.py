@@ -1,10 +1,10 @@
-"""That the interpreter's lock is released where the package says so, and held else; and that two
-threads are in the library at once.
+"""Tests that the package releases the interpreter's lock in the calls for which it is documented,
+and holds it in all others. Tests also that two threads are in the library at the same time.
 
 usage: python lock.py
 
-The package is one whose extension module contains lock.c. The library in it asks CPython at each call on a block whether its thread holds the lock; no time is
-measured.
+The package is one whose extension module contains lock.c. At each call on a block the library in it
+asks CPython whether its thread holds the lock. No time is measured.
 """
 
 import ctypes
@@ -22,13 +22,13 @@ library.kombilad_test_watch.argtypes, library.kombilad_test_watch.restype = [
 library.kombilad_test_seen.restype = library.kombilad_test_inside.restype = ctypes.c_size_t
 HOLDS = ctypes.cast(ctypes.pythonapi.PyGILState_Check, ctypes.c_void_p)
 
-# Just below the size from which on the lock is released, and just of it.
+# Of the greatest size with which the lock is held, and of the least with which it is released.
 VALUES = ["x" * 65_532, "x" * 65_533]
 SMALL, LARGE = map(kombilad.encode_dag_cbor, VALUES)
 
 
 def calls(work, threads=0):
-    """How many calls were made without the lock, and how many with it."""
+    """Returns the number of calls without the lock, and the number of calls with it."""
     library.kombilad_test_watch(HOLDS, threads)
     try:
         work()
@@ -57,8 +57,8 @@ class Lock(unittest.TestCase):
             self.assertEqual(calls(lambda: call(SMALL))[0], 0)
             self.assertEqual(calls(lambda: call(bytearray(LARGE)))[0], 0)
         self.assertEqual(calls(lambda: kombilad.decode_dag_cbor(LARGE))[1], 0)
-        # Where the first block ends is looked for in the first 64 KiB with the lock, and further on
-        # without it.
+        # The end of the first block is searched in the first 64 KiB with the lock, and then in all
+        # bytes without it.
         self.assertEqual(calls(lambda: kombilad.decode_dag_cbor_multi(LARGE + b"\x01")), (1, 3))
         longer = kombilad.encode_dag_cbor(VALUES[1] + "x")
         self.assertEqual(calls(lambda: kombilad.decode_dag_cbor_multi(longer + b"\x01")), (2, 3))

@@ -1,11 +1,12 @@
-"""python/examples/missing_blocks.py over random CAR files by two processes, beside what these files
-were made of, and beside `ipld car --missing` of the files merged where the program is built.
+"""Runs python/examples/missing_blocks.py over random CAR files by two processes. Compares the
+result with the blocks of these files. If the program `ipld` is built, also compares it with that of
+`ipld car --missing` over the merged files.
 
 usage: python missing_blocks.py FOLDER [FILES [BLOCKS [SEED]]]
 
-It writes the files to the folder, which is a new one. BLOCKS is how many a file has. It also tests
-that the processes listen only on the loopback address and end by themselves, and that files that
-can't be read are reported.
+It writes the files to the folder, which it creates. BLOCKS is the number of blocks for each file.
+It also tests that the processes listen only on the loopback address and end by themselves, and that
+unreadable files are reported.
 """
 
 import hashlib
@@ -27,7 +28,7 @@ import reader  # noqa: E402
 HERE = pathlib.Path(__file__).resolve().parent
 EXAMPLE = HERE.parent / "python" / "examples" / "missing_blocks.py"
 DAG_CBOR, DAG_PB, RAW, DAG_JSON = 0x71, 0x70, 0x55, 0x0129
-# For each run of the example.
+# The limit for each run of the example.
 SECONDS = 120
 
 
@@ -60,7 +61,7 @@ def link(cid):
 
 
 def cbor(chance, links):
-    """A block with these links, and with a number that tells it from others."""
+    """Returns a block with these links, and with a number that distinguishes it from others."""
     return (
         b"\xa2"
         + b"\x61l"
@@ -72,7 +73,7 @@ def cbor(chance, links):
 
 
 def node(chance, links):
-    """A node of DAG-PB with these links."""
+    """Returns a node of DAG-PB with these links."""
     messages = [
         b"\x0a"
         + varint(len(cid))
@@ -100,7 +101,7 @@ def car(roots, blocks, version=1):
 
 
 class Files:
-    """Random files: what each has, and which blocks all of them lack."""
+    """Random files: the roots and blocks of each, and the blocks that all of them lack."""
 
     def __init__(self, chance, files, blocks):
         self.named, self.there, self.unknown = set(), set(), 0
@@ -121,7 +122,7 @@ class Files:
         for roots, _ in self.files:
             roots.append(chance.choice(known))
             self.named.update(roots)
-        # A root and a link in carried blocks, one in the other.
+        # A root, and a link through nested identity CIDs, to blocks that are in no file.
         lost = cid_of(RAW, b"lost")
         inner = b"\1\x71\0" + varint(len(link(lost[:2] + b"\0\1a"))) + link(lost[:2] + b"\0\1a")
         short = b"\1\x55\x12\3abc"
@@ -153,7 +154,7 @@ class Files:
 
 
 def processes(session):
-    """The processes of a session that haven't ended."""
+    """Returns the processes of a session that haven't ended."""
     found = []
     for name in filter(str.isdigit, os.listdir("/proc")):
         try:
@@ -167,8 +168,8 @@ def processes(session):
 
 def listening(session):
     """
-    The addresses at which the processes of the session wait for connections, as /proc/net writes
-    them.
+    Yields the addresses at which the processes of the session wait for connections, as /proc/net
+    writes them.
     """
     sockets = set()
     for process in processes(session):
@@ -187,8 +188,8 @@ def listening(session):
 
 def run(*arguments):
     """
-    Status, output and complaints of the example, and where its processes listened. They all have to
-    end by themselves.
+    Returns the status, the output and the errors of the example, and the addresses at which its
+    processes listened. All of them have to end by themselves.
     """
     words = [sys.executable, EXAMPLE, *arguments]
     end, addresses = time.monotonic() + SECONDS, set()
@@ -208,7 +209,7 @@ def run(*arguments):
                 except subprocess.TimeoutExpired:
                     addresses.update(listening(ran.pid))
                     assert time.monotonic() < end, f"it had not ended after {SECONDS} seconds"
-            # What watches over the memory that processes share ends just after them.
+            # The process that tracks shared memory ends shortly after the others.
             while processes(ran.pid):
                 assert (
                     time.monotonic() < end
@@ -256,7 +257,7 @@ def main():
         assert sorted(ran.stdout.splitlines()) == expected, (ran.stdout, ran.stderr)
         assert ran.returncode == 1, ran
 
-    # Files that can't be read don't end the run, and the blocks before the error count.
+    # Unreadable files don't end the run, and the blocks before the error count.
     _, alone, _, _ = run("--workers", "2", names[0])
     cut, absent = folder / "cut.car", folder / "absent.car"
     cut.write_bytes(names[0].read_bytes()[:-1])

@@ -1,5 +1,6 @@
 """
-Texts in each base: the vectors of the multibase specification, and random bytes there and back.
+Tests texts in each base: the vectors of the multibase specification, and random bytes, encoded and
+decoded.
 """
 
 import base64
@@ -8,7 +9,7 @@ import unittest
 
 from kombilad import Cid, libipld
 
-# "yes mani !" in each base, as the specification's tests have it.
+# "yes mani !" in each base, from the specification's tests.
 VECTORS = [
     "\0yes mani !",
     "001111001011001010111001100100000011011010110000101101110011010010010000000100001",

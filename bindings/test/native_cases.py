@@ -1,12 +1,15 @@
-"""Random, changed and cut blocks, CIDs and texts, and what the native library does with each: what
-the module for JavaScript is to do too.
+"""Writes random, changed and cut blocks, CIDs and texts, with the results of the native library.
+The module for JavaScript has to give the same.
 
 usage: python3 native_cases.py LIBRARY FILE [COUNT [SEED]]
 
-Each line of FILE is JSON: the name of a call, its input in hexadecimal, its numbers, how many bytes
-or records its buffer has, and what came of it: the status, the number that it writes beside the
-buffer, the offset, and the buffer. Buffers and numbers are filled with a pattern before, so that
-what is written and shouldn't be is seen.
+Each line of FILE is a JSON list:
+- the name of a call, its input in hexadecimal, and its numbers
+- the number of bytes or records of its buffer
+- its results: the status, the number that it writes, the offset, and the buffer
+
+Buffers and numbers are filled with a pattern before the call. So the comparison finds any write
+that the call shouldn't make.
 """
 
 import ctypes
@@ -14,8 +17,8 @@ import json
 import sys
 import types
 
-# Of random_blocks and random_pb only what makes blocks is used, and nothing of the package that it
-# tests.
+# Only the parts of random_blocks and random_pb that make blocks are used, and not the package that
+# they test.
 sys.modules.setdefault("kombilad", types.ModuleType("kombilad"))
 from random_blocks import BASES  # noqa: E402
 from random_pb import PbSource  # noqa: E402
@@ -36,7 +39,7 @@ class Native:
         self.has_tape = hasattr(self.library, "kombilad_tape")
 
     def call(self, name, data, numbers, length, width):
-        """Status, number, offset and buffer of a call."""
+        """Returns the status, the number, the offset and the buffer of a call."""
         buffer = (ctypes.c_uint8 * max(1, length * width))(*[FILL] * (length * width))
         needed, offset = ctypes.c_size_t(UNWRITTEN), ctypes.c_size_t(UNWRITTEN)
         given = (ctypes.c_char_p(data), ctypes.c_size_t(len(data)))
@@ -170,7 +173,7 @@ def lines(native, source, count):
 
 
 def hard():
-    """Blocks that take much of something: levels, bytes, values, keys, links."""
+    """Yields blocks with many levels, bytes, values, keys or links."""
     link = bytes.fromhex("d82a450001550000")
     yield b""
     yield b"\x81" * 100_000 + b"\x80"
@@ -192,8 +195,8 @@ def hard():
 
 def texts(choose):
     """
-    Strings of 64 bytes and more, which are checked by vectors: of each kind of character, and of
-    many a byte is changed.
+    Yields blocks that are strings of 64 bytes or more, which the library checks by vectors. They
+    have characters of each length, and in most of them a byte is changed.
     """
     characters = [
         "a",

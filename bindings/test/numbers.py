@@ -1,5 +1,6 @@
-"""Whether the header, kombilad-sys, the Python package and the definitions that the proofs cite give each status the same number; and
-whether the header and dag_cbor give each kind of entry the same."""
+"""Checks that each status has the same number in the header, in kombilad-sys, in the Python package
+and in the definitions that the proofs cite. Checks also that each kind of entry has the same number
+in the header and in dag_cbor_blocks."""
 
 import pathlib
 import re
@@ -18,7 +19,7 @@ def found(path, pattern):
 
 
 def defined():
-    """The number of each error in the definitions, by the name that the header has for it."""
+    """Returns the numbers of each error in the definitions, by its name in the header."""
     prefixes = {
         "cid": "CID_",
         "text": "TEXT_",

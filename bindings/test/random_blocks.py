@@ -1,10 +1,10 @@
-"""Random blocks, some with floats, and blocks that are changed in a few places, by the library and
-by a reader that shares nothing with it.
+"""Reads random blocks, some with floats, and blocks that are changed in a few places. Compares the
+library with a reader that shares no code with it.
 
 usage: python random_blocks.py [COUNT [SEED [LIBRARY]]]
 
-The values and keys that kombilad_tape lists are compared through ctypes, by LIBRARY, or by the one
-that the package has.
+The entries of kombilad_tape are compared through ctypes. They are those of LIBRARY, or of the
+library in the package.
 """
 
 import base64
@@ -27,7 +27,7 @@ BASES = {
 }
 CODES = [0x55, 0x70, 0x71, 0x12, 0, 1, 127, 128, 0x300001, 2**63, 2**64 - 1]
 LENGTHS = [0, 1, 20, 32, 32, 32, 32, 64]
-# What stands where no call writes.
+# The number in places to which no call writes.
 UNWRITTEN = 77
 
 
@@ -144,7 +144,7 @@ class Source:
 
 
 def name_of(rejected):
-    """The name of a reader's error as `kombilad.h` has it."""
+    """Returns the name of a reader's error in `kombilad.h`."""
     name = rejected.name
     if name.startswith("LINK "):
         return "LINK_" + name[5:]
@@ -152,7 +152,7 @@ def name_of(rejected):
 
 
 def outcome(call, *arguments, **named):
-    """What the call returns, or the name of its error and, of a block, its offset."""
+    """Returns the result of a call, or the name of its error, and its offset if it has one."""
     try:
         return call(*arguments, **named)
     except kombilad.KombiladError as error:
@@ -165,8 +165,8 @@ class Entry(ctypes.Structure):
 
 def tape(block, levels, values, count, library):
     """
-    What kombilad_tape leaves in a buffer of so many entries: the values and keys, or the name of
-    its error and the offset.
+    Calls kombilad_tape with a buffer of `count` entries. Returns the entries, or the name of its
+    error and the offset.
     """
     entries, needed, offset = (
         (Entry * (count + 1))(),
@@ -210,7 +210,7 @@ def compare(what, given, ours, theirs):
 
 
 def compare_tape(source, what, block, levels, values, read, library):
-    """In a buffer that is just long enough, one that is longer, or one that is too short."""
+    """Compares the tapes in a buffer that is long enough, and in one that is too short."""
     fine = not isinstance(read, tuple)
     count = len(read.tape) if fine else source.random.randrange(3)
     compare(
@@ -229,7 +229,7 @@ def compare_tape(source, what, block, levels, values, read, library):
 
 
 def as_json(value):
-    """What `json` reads of the DAG-JSON of a value."""
+    """Returns the value that `json` reads from the DAG-JSON of a value."""
     if isinstance(value, bytes):
         return {"/": {"bytes": base64.b64encode(value).decode().rstrip("=")}}
     if isinstance(value, kombilad.Cid):

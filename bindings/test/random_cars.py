@@ -1,5 +1,5 @@
-"""Random CARs, and CARs that are cut and changed, by the library and by a reader that shares
-nothing with it.
+"""Reads random CARs, and CARs that are cut and changed. Compares the library with a reader that
+shares no code with it.
 
 usage: python random_cars.py [COUNT [SEED]]
 """
@@ -80,7 +80,7 @@ def compare(what, data, ours, theirs):
 
 
 def opened_part(data, is_all, limit):
-    """What kombilad_car_open_part says: ("MORE", n) if it needs n bytes more."""
+    """Returns the result of kombilad_car_open_part, or ("MORE", n) if it needs n more bytes."""
     place, needed = Place(7, 7, 7), c_size_t(NONE)
     roots, more, offset = (raw.CidBytes * 300)(), c_uint64(NONE), c_uint64(NONE)
     arguments = byref(place), roots, 300, byref(needed), byref(more), byref(offset)
@@ -97,7 +97,7 @@ def opened_part(data, is_all, limit):
 
 
 def section_part(data, is_all, limit, numbers):
-    """What kombilad_car_next_part says of the bytes from a place on."""
+    """Returns the result of kombilad_car_next_part for the bytes from a place on."""
     place, cid, block = Place(*numbers), Span(7, 7), Span(7, 7)
     more, offset = c_uint64(NONE), c_uint64(NONE)
     arguments = byref(place), byref(cid), byref(block), byref(more), byref(offset)
@@ -116,15 +116,15 @@ def section_part(data, is_all, limit, numbers):
 
 
 def is_cut(call, data, *arguments):
-    """Whether the plain reader runs into the end of the bytes."""
+    """Returns whether the plain reader reaches the end of the bytes too early."""
     found = expected(call, data, *arguments)
     return found in (("CAR_UNEXPECTED_END", len(data)), ("CAR_SHORT_PAYLOAD", len(data)))
 
 
 def fed(source, data, at, read, what):
     """
-    What a call says that is given the bytes from a place on, a few at first and then as many as it
-    asks for.
+    Returns the result of a call that gets the bytes from an offset on: a few at first, and then as
+    many as it needs.
     """
     last = at + source.random.choice([0, 0, 1, 9, 30, 200])
     for _ in range(100):
@@ -141,7 +141,7 @@ def fed(source, data, at, read, what):
 
 
 def end_of(theirs, data):
-    """Where the sections end, by the place of the library: of version 1 at no byte that it knows."""
+    """Returns the end of the sections in the place of the library, which has none for version 1."""
     return 2**64 - 1 if theirs[0] == 1 else theirs[2]
 
 
@@ -177,7 +177,7 @@ def compare_part(source, data):
 
 
 class Trickle(io.BytesIO):
-    """A file that gives few bytes at a time."""
+    """A file that returns few bytes at a time."""
 
     def __init__(self, source, data):
         super().__init__(data)
@@ -188,7 +188,7 @@ class Trickle(io.BytesIO):
 
 
 def compare_package(source, data):
-    """The package's reader of a file."""
+    """Compares the package's reader of a file."""
     limits = source.random.choice([10**6, 50, 10]), source.random.choice([10**6, 30, 5])
     head, sections, error = read(data, *limits)
     ours, found, failed = None, [], None
@@ -207,8 +207,8 @@ def compare_package(source, data):
 
 def compare_needs(data):
     """
-    How many bytes a part needs: with fewer, the plain reader runs into the end of the bytes, and
-    with as many it doesn't, or has read one thing more: a length, or what comes before a payload.
+    Checks the number of bytes that the library needs after each beginning of a CAR: with fewer, the
+    plain reader reaches the end of the bytes too early.
     """
     for end in range(len(data)):
         found = opened_part(data[:end], 0, 10**6)

@@ -1,10 +1,10 @@
-"""Random nodes of DAG-PB, and nodes that are changed in a few places, by the library and by a
-reader that shares nothing with it.
+"""Reads random nodes of DAG-PB, and nodes that are changed in a few places. Compares the library
+with a reader that shares no code with it.
 
 usage: python random_pb.py [COUNT [SEED [LIBRARY]]]
 
-The entries that kombilad_pb_tape lists are compared through ctypes, by LIBRARY, or by the one that
-the package has.
+The entries of kombilad_pb_tape are compared through ctypes. They are those of LIBRARY, or of the
+library in the package.
 """
 
 import ctypes
@@ -17,7 +17,7 @@ from random_blocks import UNWRITTEN, Entry, Source, compare, outcome, varint
 
 class PbSource(Source):
     def number(self, number):
-        """A varint, now and then longer than need be."""
+        """Returns a varint, which is sometimes longer than necessary."""
         encoded = varint(number)
         if self.random.random() < 0.02 and len(encoded) < 10:
             return (
@@ -74,7 +74,7 @@ class PbSource(Source):
 
 def tape(block, count, library):
     """
-    What kombilad_pb_tape leaves in a buffer of so many entries: the entries, or the name of its
+    Calls kombilad_pb_tape with a buffer of `count` entries. Returns the entries, or the name of its
     error and the offset.
     """
     entries, needed, offset = (
@@ -119,7 +119,7 @@ def expected(block):
 
 
 def node_of(block, entries):
-    """The node of entries, with CIDs as bytes."""
+    """Returns the node of these entries, with CIDs as bytes."""
     node, links = {}, []
     for kind, length, value in entries:
         content = block[value : value + length]

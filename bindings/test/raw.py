@@ -1,5 +1,5 @@
-"""The calls of libkombilad by ctypes, in the extension module of the package: for tests of what the
-package doesn't show."""
+"""The calls of libkombilad in the extension module of the package, by ctypes. Tests use them for
+results that the package doesn't return."""
 
 import ctypes
 

@@ -1,10 +1,11 @@
 #!/bin/sh
-# Tests release.sh: that it makes the same bytes twice, from two checkouts of one commit, under another umask, time zone and language; that it
-# refuses what isn't committed, and a dist/ that isn't what the commit makes; and that CMake, cargo and go take what it makes, without the
-# checkout.
+# Tests release.sh:
+# - It makes the same bytes from two checkouts of one commit, under another umask, time zone and language.
+# - It rejects uncommitted changes, and a dist/ that differs from the files that the commit makes.
+# - CMake, cargo and go accept its files, without the checkout.
 #
-# bindings/test.sh calls it, over the C file in DIST, or else in dist/, and the packages for Python and npm that are in bindings/out. Its tools are in .ci/needs.txt.
-# Without a repository of git there is no release to test: it prints that this is skipped, and fails if the variable CI is `true`.
+# bindings/test.sh calls it. It uses the C file in DIST or in dist/, and the packages for Python and npm in bindings/out. .ci/needs.txt lists
+# its tools. Without a git repository there is no release to test. Then it prints that this is skipped, or fails if the variable CI is `true`.
 set -eu
 [ -z "${DIST:-}" ] || DIST=$(realpath "$DIST")
 cd "$(dirname "$0")/.."
@@ -20,11 +21,11 @@ failed() { said "$*"; exit 1; }
 quietly() { "$@" > "$tests/log" 2>&1 || { cat "$tests/log"; exit 1; }; }
 export BUILT=yes
 
-# Not in the repository, which has no other in it: rt stops at one.
+# It isn't in the repository, since rt stops at a repository in another one.
 another=$(mktemp -d)
 trap 'rm -rf "$another"' EXIT
 elsewhere=$another/checkout
-# Whoever owns the checkout, and whatever git is told of elsewhere.
+# git accepts a checkout of any owner, and doesn't read the user's configuration.
 export GIT_CONFIG_GLOBAL="$another/gitconfig"
 git config --global safe.directory '*'
 if ! git -C .. rev-parse -q --verify HEAD > /dev/null 2>&1; then
@@ -43,7 +44,7 @@ git -C .. diff --binary HEAD > "$tests/changes"
 mkdir "$elsewhere/bindings/out"
 cp "$out/kombilad-$version.tgz" "$elsewhere/bindings/out/"
 ln -s "$out/wheels" "$elsewhere/bindings/out/wheels"
-# Where all is committed, without the option: then it says nothing either way.
+# If everything is committed, the option is left out. It would not change the files.
 option=
 [ -z "$(git -C .. status --porcelain)" ] || option=--uncommitted
 # shellcheck disable=SC2086
@@ -53,7 +54,7 @@ diff -r "$tests/one" "$tests/two" || failed "two releases of one commit differ"
 [ "$(wc -l < "$tests/one/SHA256SUMS")" = 9 ] || failed "SHA256SUMS has another number of files"
 said "the same bytes twice: ok"
 
-# ---- What isn't committed: a script that makes no wheel, so that the one that stands there is taken
+# ---- Uncommitted changes: a script that doesn't make a wheel, so that the existing one is used
 
 echo '#!/bin/sh' > "$elsewhere/bindings/wheel.sh"
 ! "$elsewhere/bindings/release.sh" "$tests/three" > "$tests/log" 2>&1 || failed "it took a file that isn't committed"
@@ -64,7 +65,7 @@ quietly "$elsewhere/bindings/release.sh" --uncommitted "$tests/three"
 grep -q '^commit: [0-9a-f]*, and changes' "$tests/three/BUILT-FROM" || failed "BUILT-FROM doesn't say that there were changes"
 said "what isn't committed: ok"
 
-# ---- A dist/ that the commit doesn't make
+# ---- A dist/ that differs from the files that the commit makes
 
 printf '#!/bin/sh\necho make.py: dist/kombilad.c is older than its sources\n' > "$elsewhere/bindings/portable/make.py"
 ! BUILT='' "$elsewhere/bindings/release.sh" --uncommitted "$tests/four" > "$tests/log" 2>&1 || failed "it took another dist/ than the commit makes"
@@ -93,15 +94,15 @@ printf '\330\052\105\000\001\125\000\000' > "$tests/block"
 [ -e "$tests/prefix/lib/libkombilad.so.0" ] || failed "CMake installed no shared library"
 said "the library for C: ok"
 
-# ---- Rust: what cargo would pack, and a program over these crates and Debian's crate cc
+# ---- Rust: the files that cargo would pack, and a program with these crates and Debian's crate cc
 
 export CARGO_NET_OFFLINE=true CARGO_TARGET_DIR="$out/rust"
 registry=/usr/share/cargo/registry
 crates=$tests/crates
 mkdir "$crates"
 for crate in kombilad-sys kombilad kombilad-cid; do
-    # cargo adds a Cargo.lock to some, by its version, and the state of the repository if nothing is uncommitted; we add the licences and
-    # the C file.
+    # Some versions of cargo add a Cargo.lock to some crates. cargo adds the state of the repository if nothing is uncommitted. release.sh adds
+    # the licences and the C file.
     (cd "rust/$crate" && cargo package -q --list --allow-dirty --config 'source.crates-io.replace-with="debian"' \
         --config "source.debian.directory=\"$registry\"" 2> "$tests/log" || { cat "$tests/log" >&2; exit 1; }) | grep -vx 'Cargo.lock\|.cargo_vcs_info.json' > "$tests/theirs"
     tar -tzf "$tests/one/$crate-$version.crate" | sed "s|^$crate-$version/||" | grep -vx 'LICENSE-.*\|.cargo_vcs_info.json\|c/kombilad\.[ch]' > "$tests/ours"
@@ -128,7 +129,7 @@ CFLAGS=-O0 quietly cargo run -q --manifest-path "$tests/program/Cargo.toml" --co
 [ "$(cat "$tests/log")" = bafkqaaa ] || failed "a program over the crates doesn't work"
 said "the crates: ok"
 
-# ---- Go: go takes the zip, which has the files of the repository, except the benchmark, and the licences
+# ---- Go: go accepts the zip, which has the licences, and the files of the repository except the benchmark
 
 module=$(sed -n 's/^module //p' go/go.mod)
 proxy=$tests/proxy/$module/@v

@@ -1,8 +1,8 @@
 #!/bin/sh
-# Tests what build.sh, wheel.sh and wasm.sh make with --unproved: that each is marked in its name, that a call of each works, that the proved
-# ones stay as they are, and that release.sh refuses them.
+# Tests the files that build.sh, wheel.sh and wasm.sh make with --unproved: that each is marked in its name, that a call of each works, that the
+# proved files don't change, and that release.sh rejects them.
 #
-# It makes them first, which takes about 60 core seconds after the module is made. It needs no cargo and no browser.
+# It makes them first, which takes about 60 core seconds after the module is made. It doesn't need cargo or a browser.
 set -eu
 [ -z "${DIST:-}" ] || DIST=$(realpath "$DIST")
 cd "$(dirname "$0")/.."
@@ -17,7 +17,7 @@ failed() { said "$*"; exit 1; }
 ../.ci/needs --tools rt git cc header:stdlib.h ar ld objcopy readelf $python header:Python.h python:ensurepip python:setuptools python:wheel clang wasm-ld node npm ||
     failed "nothing was tested: install what is listed above"
 
-# The name, the size and the time of each file that is there beside the unproved ones.
+# Prints the name, the size and the time of each file except the unproved ones.
 others() { [ ! -d "$out" ] || find "$out" -path "$made" -prune -o -path "$out/wheels" -prune -o ! -type d -printf '%p %s %T@\n' | sort; }
 before=$(others)
 rm -rf "$made"
@@ -80,7 +80,7 @@ said "the package for npm: ok"
 # ---- A release
 
 if git -C .. rev-parse -q --verify HEAD > /dev/null 2>&1; then
-    # In a checkout of its own, where the unproved ones have the names of the proved ones. rt stops at a repository in another one.
+    # In a separate checkout, in which the unproved files get the names of the proved ones. rt stops at a repository in another one.
     another=$(mktemp -d)
     trap 'rm -rf "$another"' EXIT
     git clone -q --shared .. "$another/checkout"
@@ -98,7 +98,7 @@ if git -C .. rev-parse -q --verify HEAD > /dev/null 2>&1; then
     cp "${DIST:-../dist}/kombilad.c" "$dist"
     cp "$made/kombilad-$version+unproved.tar.gz" "$into/kombilad-$version.tar.gz"
     refused "kombilad-$version.tar.gz"
-    # A proved one is known by its name and its version.
+    # release.sh recognizes a proved file by its name and its version.
     mkdir "$another/kombilad-$version" "$another/kombilad-$version.dist-info"
     echo "Version: $version" > "$another/kombilad-$version/PKG-INFO"
     tar -C "$another" -czf "$into/kombilad-$version.tar.gz" "kombilad-$version"

@@ -1,5 +1,5 @@
-"""Values of blocks from Python: beside a plain reader and cbor2, every error with its offset,
-limits, depth, threads and what is encoded.
+"""Tests values of blocks from Python: compared with a plain reader and cbor2, every error with its
+offset, limits, depth, threads, and encoding.
 
 usage: python values.py [COUNT [SEED]]
 """
@@ -33,7 +33,7 @@ SEED = 1
 
 
 def plainly(block, at=0):
-    """The value of a valid block, with each link as a `Cid`, and where it ends."""
+    """Returns the value of a valid block, with each link as a `Cid`, and its end."""
     major, more, at = block[at] >> 5, block[at] & 31, at + 1
     width = 1 << more - 24 if more >= 24 else 0
     argument = int.from_bytes(block[at : at + width], "big") if width else more
@@ -66,13 +66,14 @@ def plainly(block, at=0):
 
 def shown(value):
     """
-    A text that differs where values or their types do, or the order of keys, or the sign of a zero.
+    Returns a text that differs if values, their types, the order of keys or the sign of a zero
+    differ.
     """
     return repr(value)
 
 
 def with_links(value, of):
-    """The value with something else in place of each CID."""
+    """Returns the value with each CID replaced."""
     if isinstance(value, Cid):
         return of(value)
     if isinstance(value, list):
@@ -83,7 +84,7 @@ def with_links(value, of):
 
 
 def outcome(call, *arguments, **named):
-    """What a call returns, or the name of its error and, of a block, its offset."""
+    """Returns the result of a call, or the type, the name and the offset of its error."""
     try:
         return call(*arguments, **named)
     except kombilad.KombiladError as error:
@@ -244,11 +245,11 @@ class Decoding(unittest.TestCase):
             self.assertRaises((TypeError, BufferError), kombilad.decode_dag_cbor, wrong)
         grown = bytearray(b"\x81")
         self.assertRaises(kombilad.BlockError, kombilad.decode_dag_cbor, grown)
-        grown.extend(b"\x80")  # a buffer that is still lent can't grow
+        grown.extend(b"\x80")  # it can't grow while the library uses its buffer
         self.assertEqual(kombilad.decode_dag_cbor(grown), [[]])
 
     def test_depth_takes_no_stack(self):
-        # CPython 3.13 takes megabytes of the stack to drop nested lists, whoever made them.
+        # CPython 3.13 takes megabytes of the stack to free nested lists.
         threading.stack_size((64 if sys.version_info < (3, 13) else 16 << 10) << 10)
         found = []
 
@@ -278,8 +279,8 @@ class Decoding(unittest.TestCase):
         self.assertEqual(found, [(*end, 10_000_000), (*end, 20_000_000), (300_000, True), True])
 
     def test_keys_are_kept_apart(self):
-        # More keys than are kept, of every length up to those that aren't; twice, so that kept ones
-        # are met again.
+        # More keys than are kept, of every length up to those that are too long to be kept. They
+        # come twice, so some are found among the kept ones.
         for _ in range(2):
             for length in range(80):
                 for letter in ("a", "b", "ö", "\0"):
@@ -353,7 +354,7 @@ class Color(enum.IntEnum):
 
 
 class Lies(dict):
-    """A dict that says other things than it holds."""
+    """A dict that reports another length and other pairs than it contains."""
 
     def __len__(self):
         return 9

@@ -2,7 +2,8 @@
 //
 //	bench FOLDER-OF-THE-DATA
 //
-// The folder is what bench/data.py writes. A time is the least of many runs, in microseconds.
+// The folder has the data that bench/data.py writes. A time is the least of many runs, in
+// microseconds.
 package main
 
 import (
@@ -113,7 +114,7 @@ func row(name string, size int, ours, theirs, encode, theirEncode func()) {
 		testing.AllocsPerRun(10, ours), testing.AllocsPerRun(10, theirs))
 }
 
-// typed measures a Go type of each. Both have to make the block again.
+// typed measures a Go type with each package. Both have to encode the same block again.
 func typed[Ours, Theirs any](name string, block []byte, decoding cbor.DecMode, encoding cbor.EncMode) {
 	var ours Ours
 	var theirs Theirs

@@ -1,4 +1,4 @@
-// Prints the links of the block that is in a file.
+// Prints the links of the block in a file.
 import { readFileSync } from 'node:fs'
 import { links } from 'kombilad'
 

@@ -1,4 +1,4 @@
-// The graph of a CAR as a drawing: a column for each step from the roots, and a line for each link.
+// Draws the graph of a CAR, with a column for each step from the roots and a line for each link.
 const WIDTH = 152
 const HEIGHT = 26
 const ACROSS = 208
@@ -16,8 +16,8 @@ function make (name, properties, ...children) {
 const shorten = (text) => text.length > 16 ? `${text.slice(0, 8)}…${text.slice(-6)}` : text
 
 /**
- * Draws the blocks in `at`, with the links from one to another. `follow` is called with the block
- * that is chosen.
+ * Draws the blocks and the links between them in the element `at`. Calls `follow` with a block when
+ * the user chooses it.
  */
 export function showGraph (at, { nodes, edges }, follow) {
   const columns = []
@@ -28,8 +28,9 @@ export function showGraph (at, { nodes, edges }, follow) {
   })
   const lines = edges.map(([from, to]) => {
     const steps = nodes[to].depth - nodes[from].depth
-    // A link on begins at the right of a block and ends at the left of one; a link back goes the
-    // other way, and one within a column bends out of it.
+    // A link to a later column begins at the right of its block and ends at the left of the other
+    // block. A link to an earlier column begins at the left and ends at the right. A link within a
+    // column bends out of it.
     const left = places[from][0] + (steps < 0 ? 0 : WIDTH)
     const right = places[to][0] + (steps > 0 ? 0 : WIDTH)
     const [top, bottom] = [places[from][1] + HEIGHT / 2, places[to][1] + HEIGHT / 2]
@@ -47,14 +48,14 @@ export function showGraph (at, { nodes, edges }, follow) {
     box.addEventListener('click', () => follow(node))
     return box
   })
-  // Where the last column has links within it they bend out of it.
+  // Links within the last column bend out of it, and need room on its right.
   const end = (place, size) => Math.max(...places.map((it) => it[place])) + size + (place ? MARGIN : ACROSS - WIDTH)
   const [width, height] = nodes.length ? [end(0, WIDTH), end(1, HEIGHT)] : [0, 0]
   const drawing = make('svg', { width, height, viewBox: `0 0 ${width} ${height}`, role: 'group', 'aria-labelledby': 'graph-title' }, arrow, ...lines, ...boxes)
 
   /**
-   * Which block an arrow key leads to: the next or last in the drawing, the first that is linked,
-   * the first that links.
+   * The block that each arrow key moves to: the next or the previous block of the drawing, the
+   * first block that this one links to, or the first block that links to it.
    */
   const steps = {
     ArrowDown: (number) => number + 1,

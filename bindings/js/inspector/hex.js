@@ -1,4 +1,4 @@
-// Bytes in hexadecimal, 32 lines at a time.
+// Shows bytes in hexadecimal, 32 lines at a time.
 const WIDTH = 16
 const LINES = 32
 
@@ -14,9 +14,9 @@ function span (text, name) {
 }
 
 /**
- * Shows the bytes, with the byte `at` marked as an error. Returns a function that shows and marks
- * others. `base` is the offset of the first byte, `buttons` those that go back and on, `range` what
- * says which bytes are shown.
+ * Shows the bytes in `pre`, with the byte `at` marked as an error. `base` is the offset of the
+ * first byte. `buttons` are the two buttons that page back and forward. `range` is the element for
+ * the range of the bytes shown. Returns a function that marks and shows other bytes.
  */
 export function showBytes (pre, bytes, { base = 0, at, buttons = [], range }) {
   const digits = String(base + bytes.length).length
@@ -31,7 +31,7 @@ export function showBytes (pre, bytes, { base = 0, at, buttons = [], range }) {
       lines.push(String(base + line).padStart(digits, ' ') + '  ')
       for (let offset = line; offset < line + WIDTH; offset++) {
         const there = offset < bytes.length
-        // The end of the bytes is where an error can stand, too.
+        // An error can also be at the end of the bytes.
         lines.push(span(there ? hex(bytes[offset]) : offset === at ? '--' : '  ', kind(offset)), offset % 8 === 7 ? '  ' : ' ')
       }
       for (let offset = line; offset < Math.min(line + WIDTH, bytes.length); offset++) lines.push(span(letter(bytes[offset]), kind(offset)))

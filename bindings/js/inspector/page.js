@@ -1,4 +1,4 @@
-// The page: it asks the worker, and shows what comes.
+// Runs the page: sends requests to the worker, and shows its answers.
 import { showTree } from './tree.js'
 import { showBytes } from './hex.js'
 import { showGraph } from './graph.js'
@@ -13,7 +13,7 @@ let from = 0
 let counts = {}
 const visited = []
 
-/** An element with this text and these properties. */
+/** Creates an element with these properties and children. */
 export function make (name, properties = {}, ...children) {
   const made = Object.assign(document.createElement(name), properties)
   made.append(...children)
@@ -75,7 +75,10 @@ const WHICH = {
   missing: 'links to what is not in the file'
 }
 
-/** A link that opens a block, or shows the parts of a CID whose block isn't here. */
+/**
+ * Creates a link that opens a block, or shows the parts of the CID if the file doesn't have its
+ * block.
+ */
 function linkTo ({ text, index }) {
   const button = make('button', { type: 'button', className: 'link', textContent: text })
   if (index === undefined) {
@@ -92,7 +95,7 @@ function visit (index) {
   ask({ type: 'block', index })
 }
 
-/** Shows one of the lists, from its beginning. */
+/** Shows the beginning of the list that `which` names. */
 function showList (which) {
   const chooser = element('which')
   chooser.value = which
@@ -200,7 +203,7 @@ element('back').addEventListener('click', () => {
   ask({ type: 'block', index: visited.at(-1) })
 })
 
-// ---- What the worker says
+// ---- The answers of the worker
 
 const answers = {
   ready () {
@@ -209,7 +212,7 @@ const answers = {
   },
   progress ({ done, all, blocks }) {
     Object.assign(element('progress'), { max: all, value: done })
-    // Not in what is read aloud as it changes: it changes ten times a second.
+    // Not in the status, which screen readers read aloud: this text changes ten times a second.
     element('read').textContent = `${number.format(Math.floor(done / 1e6))} of ${number.format(Math.ceil(all / 1e6))} MB, ${number.format(blocks)} blocks`
   },
   failed (message) {

@@ -1,4 +1,5 @@
-// The values of a block as a tree of the tape's entries. What is folded is not made.
+// Shows the values of a block as a tree of the tape's entries. The items of a folded list or map
+// are not created.
 const MANY = 200
 const LONGEST = 300
 
@@ -8,7 +9,7 @@ const MAP = 10
 const text = new TextDecoder('utf-8', { ignoreBOM: true })
 
 /**
- * An entry of the tape: kind, length, and value, which is a BigInt where it is an integer of the
+ * Returns the kind, length and value of an entry. The value is a BigInt if it is an integer of the
  * block.
  */
 function entry ({ kinds, lengths, values }, at) {
@@ -16,12 +17,12 @@ function entry ({ kinds, lengths, values }, at) {
   return [kind, lengths[at], kind === 3 || kind === 4 ? values[at] : Number(values[at])]
 }
 
-/** How many entries a value spans. */
+/** Returns the number of entries that a value spans. */
 const spanOf = ({ kinds, lengths }, at) => kinds[at] === LIST || kinds[at] === MAP ? lengths[at] : 1
 
 function shorten (string) { return string.length > LONGEST ? `${string.slice(0, LONGEST)}… (${string.length} characters)` : string }
 
-/** What a value says in one line. */
+/** Returns one line of text for a value. */
 function saying ([kind, length, value], bytes, link) {
   switch (kind) {
     case 0: case 1: case 2: return NAMES[kind]
@@ -37,18 +38,19 @@ function saying ([kind, length, value], bytes, link) {
 }
 
 /**
- * Shows the block's values in the list `root`. `select` is called with the bytes of what is chosen,
- * `follow` with a link.
+ * Shows the block's values in the list `root`. Calls `select` with the offset and length of the
+ * chosen item's bytes, and `follow` with a link that the user opens.
  */
 export function showTree (root, { tape, bytes, links }, { select, follow }) {
   root.replaceChildren()
   if (!tape) return
-  // Which link an entry is: the links of a block are in its order.
+  // The index in `links` for each entry that is a link. The links of a block are in the order of
+  // its bytes.
   const numbers = new Map()
   tape.kinds.forEach((kind, at) => { if (kind === 8) numbers.set(at, numbers.size) })
   let chosen
 
-  /** Where the content of an entry stands. */
+  /** Returns the offset and the length of the content of an entry. */
   function placeOf (at) {
     const [, length, offset] = entry(tape, at)
     return [offset, length]
@@ -104,8 +106,8 @@ export function showTree (root, { tape, bytes, links }, { select, follow }) {
   }
 
   /**
-   * Adds items of the list or map at `parent` to its group, from the entry `at` and the item
-   * `number` on.
+   * Adds items of the list or map at `parent` to its group, beginning with the entry `at`, which is
+   * the item `number`.
    */
   function more (group, at, number, parent, level) {
     const [kind, span, count] = entry(tape, parent)

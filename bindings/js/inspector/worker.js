@@ -1,18 +1,18 @@
-// Reads the file, beside the page: its sections, their digests, their links, and what of these is
-// not there.
+// Reads the file in a worker thread: its sections, their digests and links, and the links without a
+// block in the file.
 import { CID, CarBlockIterator, KombiladError, bases, dagPb, isCanonical, links, tape, verify } from './index.js'
 import { keyOf } from './cid.js'
 import { pbTape } from './pb.js'
 
 const DAG_PB = 0x70
 const DAG_CBOR = 0x71
-const ROOTS = 20 // of which the page shows the CIDs
-const VALUES = 4000000 // that a block may have to be shown as a tree
+const ROOTS = 20 // the maximum number of roots that the page shows
+const VALUES = 4000000 // the maximum number of values of a block that is shown as a tree
 const LONGEST_BLOCK = 64 << 20
-const EVERY = 100 // milliseconds between two reports
-const DRAWN = 60 // blocks of a graph
+const EVERY = 100 // the minimum number of milliseconds between two reports
+const DRAWN = 60 // the maximum number of blocks in the graph
 
-/** What is known of the file that is open. */
+/** The state of the open file. */
 let open = { turn: 0 }
 
 const CODECS = { 0x55: 'raw', 0x70: 'dag-pb', 0x71: 'dag-cbor', 0x72: 'libp2p-key', 0x78: 'git-raw', 0x85: 'dag-jose', 0x0129: 'dag-json', 0x0200: 'json', 0x51: 'cbor' }
@@ -47,13 +47,13 @@ async function * chunksOf (file) {
 
 const told = (error) => ({ code: error.code ?? 'OTHER', message: error.message, offset: error.offset })
 
-/** The links of a block of a codec that is read here. */
+/** Returns the links of a DAG-CBOR or DAG-PB block, and an empty array for other codecs. */
 function linksOf (cid, bytes) {
   if (cid.code === DAG_CBOR) return links(bytes)
   return cid.code === DAG_PB ? dagPb.decode(bytes).Links.map(({ Hash }) => Hash) : []
 }
 
-/** Adds a block: what its digest and its content are. */
+/** Adds a block to `found`, and checks its digest and its content. */
 function add (found, { cid, bytes, offset }) {
   const index = found.cids.length
   const key = keyOf(cid)
@@ -75,7 +75,10 @@ function add (found, { cid, bytes, offset }) {
 
 const empty = (file, turn) => ({ file, turn, cids: [], offsets: [], lengths: [], index: new Map(), linked: new Map(), wrong: [], unknown: [], unordered: [], unreadable: [], missing: [], roots: [] })
 
-/** Whether the error says that the file begins with no header of a CAR. */
+/**
+ * Returns whether the package threw the error, for example for a file that does not begin with the
+ * header of a CAR.
+ */
 const isNoCar = (error) => error instanceof KombiladError
 
 async function read (file, turn) {
@@ -123,7 +126,7 @@ async function readBlock (found) {
   postMessage({ type: 'block-file', turn, name: file.name, size: file.size })
 }
 
-/** Some bytes of the file around one of them. */
+/** Returns up to 512 bytes of the file around `offset`, or undefined if there is no offset. */
 async function around (file, offset) {
   if (offset === undefined) return undefined
   const begins = Math.max(0, (offset & ~15) - 128)
@@ -133,7 +136,7 @@ async function around (file, offset) {
 const lists = { wrong: 'wrong', unknown: 'unknown', unordered: 'unordered', unreadable: 'unreadable', missing: 'missing' }
 const countsOf = (found) => ({ all: found.cids.length, ...Object.fromEntries(Object.keys(lists).map((name) => [name, found[name].length])) })
 
-/** A CID, and which block it names if that is here. */
+/** Returns a CID as a string, and the index of its block if the file has it. */
 function linkOf (cid) { return { text: cid.toString(), index: open.index.get(keyOf(cid)) } }
 
 function rowsOf (which, from, count) {
@@ -161,7 +164,7 @@ function rowsOf (which, from, count) {
   return rows
 }
 
-/** Whether a list in order has the number. */
+/** Returns whether a sorted list has the number. */
 function has (list, number) {
   let low = 0
   let high = list.length
@@ -178,8 +181,8 @@ async function bytesOf ({ file, offsets, lengths }, index) {
 }
 
 /**
- * What links lead to from the roots, or from the first block where there are none: the nearest,
- * where it is much.
+ * Posts the graph of the blocks that are reachable from the roots, or from the first block if there
+ * are no roots. The graph has at most the DRAWN nearest blocks.
  */
 async function graphOf (found) {
   const nodes = []
@@ -215,8 +218,8 @@ async function graphOf (found) {
 }
 
 /**
- * The entries of a tape in arrays, which go to the page without a copy. Keys that aren't in the
- * bytes have names.
+ * Returns the entries of a tape as arrays, which are transferred to the page without a copy. Keys
+ * that aren't in the bytes have names.
  */
 function packed (entries) {
   const made = { kinds: new Uint8Array(entries.length), lengths: new Uint32Array(entries.length), values: new BigUint64Array(entries.length), names: new Map() }
@@ -234,7 +237,7 @@ const MAP = 10
 const key = (name) => ({ kind: 11, length: 0, value: 0, name })
 const FIELDS = { 3: 'Tsize', 6: 'Name', 8: 'Hash' }
 
-/** A node of DAG-PB as a tape: a map of its data and its links. */
+/** Returns a DAG-PB node as a tape: a map with its data and its links. */
 function nodeTape (bytes) {
   const data = []
   const links = []
@@ -253,7 +256,7 @@ function nodeTape (bytes) {
   return [{ kind: MAP, length: data.length + links.length + 3, value: data.length / 2 + 1 }, ...data, key('Links'), list, ...links]
 }
 
-/** The tape of a block whose values are not too many to show. */
+/** Returns the tape of a block, or undefined if the block has too many values to show. */
 function shownTape (bytes) {
   try {
     return packed(tape(bytes, { values: VALUES }))

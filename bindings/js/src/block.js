@@ -12,7 +12,7 @@ function checkIn (core, bytes, levels, values) {
   if (status !== 0) throw failed(core, status)
 }
 
-/** Checks that the bytes are one block. */
+/** Checks that the bytes are exactly one block. Throws if they are not. */
 export function check (bytes, options) {
   run(checkIn, inputOf(bytes), levelsOf(options), valuesOf(options))
 }
@@ -25,14 +25,17 @@ function isCanonicalIn (core, bytes, levels, values) {
   throw failed(core, status)
 }
 
-/** Whether the bytes, which are one block, have the keys of each map in order. */
+/**
+ * Returns whether a block has the keys of each map in canonical order. Throws if the bytes are not
+ * exactly one block.
+ */
 export function isCanonical (bytes, options) {
   return run(isCanonicalIn, inputOf(bytes), levelsOf(options), valuesOf(options))
 }
 
 function canonicalizeIn (core, bytes, levels, values) {
   const size = sizeOf(bytes)
-  // A canonical block has the length of any other of its values.
+  // The canonical block of a value is as long as any other block of this value.
   const out = place(core, bytes, size, size)
   const status = core.calls.kombilad_block_canonicalize(core.room, size, levels, values, out, size, core.neededAt, core.offsetAt)
   if (status !== 0) throw failed(core, status)
@@ -40,16 +43,19 @@ function canonicalizeIn (core, bytes, levels, values) {
   return core.bytes.slice(out, end)
 }
 
-/** The block with the keys of each map in order, and all else as it stands. */
+/** Returns the block with the keys of each map in canonical order, and otherwise unchanged. */
 export function canonicalize (bytes, options) {
   return run(canonicalizeIn, inputOf(bytes), levelsOf(options), valuesOf(options))
 }
 
 // ---- Links
 
-/** A link takes eight bytes of a block at least: tag, head, zero byte, and four of the CID. */
+/**
+ * The minimum number of bytes of a link in a block: two of the tag, the head, a zero byte, and four
+ * of the CID.
+ */
 const SHORTEST_LINK = 8
-/** A record of where a link stands has two numbers of 64 bits. */
+/** The size in bytes of the record of a link's position: two 64-bit numbers. */
 const SPAN = 16
 
 function positionsIn (core, bytes, levels, values) {
@@ -64,8 +70,7 @@ function positionsIn (core, bytes, levels, values) {
 function linksIn (core, bytes, levels, values) {
   const first = positionsIn(core, bytes, levels, values)
   const count = core.needed()
-  // The CIDs come from the core's copy of the block, of which nothing has changed since it was
-  // read.
+  // The CIDs come from the core's copy of the block, which has not changed since the core read it.
   const { bytes: memory, words, room } = core
   const links = new Array(count)
   for (let each = 0, at = first; each < count; each++, at += 4) {
@@ -75,7 +80,7 @@ function linksIn (core, bytes, levels, values) {
   return links
 }
 
-/** The CIDs of the block's links in the order of its bytes, each as often as it stands there. */
+/** Returns the CIDs of the block's links in the order of its bytes, with duplicates. */
 export function links (bytes, options) {
   return run(linksIn, inputOf(bytes), levelsOf(options), valuesOf(options))
 }
@@ -88,7 +93,7 @@ function placesIn (core, bytes, levels, values) {
   return places
 }
 
-/** Where the CIDs of the block's links stand in it, in the same order. */
+/** Returns the offsets and lengths of the CIDs of the block's links, in the order of `links`. */
 export function linkPositions (bytes, options) {
   return run(placesIn, inputOf(bytes), levelsOf(options), valuesOf(options))
 }
@@ -101,7 +106,7 @@ function countIn (core, bytes, levels, values) {
   return core.needed()
 }
 
-/** How many links the block has. */
+/** Returns the number of links in the block. */
 export function countLinks (bytes, options) {
   return run(countIn, inputOf(bytes), levelsOf(options), valuesOf(options))
 }
@@ -111,13 +116,14 @@ export function countLinks (bytes, options) {
 const ENTRY = 16
 
 /**
- * What `work` returns of the core, which has the block in its room, of where the block's tape
- * begins in words, how many entries it has, and the block's length.
+ * Makes the tape of a block, and returns the result of `work`. The arguments of `work` are the core
+ * with the block in its room, the index of the first entry in 32-bit words, the number of entries,
+ * and the block's length. Throws NO_TAPE if this build of the core does not have tapes.
  */
 function withTape (core, bytes, levels, values, work) {
   if (core.calls.kombilad_tape === undefined) throw ofName('NO_TAPE')
   const length = sizeOf(bytes)
-  // Each entry takes a byte of the block at least; most take many.
+  // Each entry takes at least one byte of the block, and most take many.
   let most = length <= 4096 ? length : length >>> 2
   for (;;) {
     const tape = place(core, bytes, length, most * ENTRY)
@@ -130,36 +136,44 @@ function withTape (core, bytes, levels, values, work) {
 }
 
 const TWO_32 = 4294967296
-/** The high word of 2^53 - 1. */
+/** The high 32 bits of 2^53 - 1. */
 const SAFE_HIGH = 0x1fffff
 
-/** How many lists and maps one inside the other are made by calls one inside the other. */
+/**
+ * The maximum number of nested lists and maps that are built by recursive calls. Deeper ones are
+ * built in a loop.
+ */
 const CALLS = 200
 
-/** A list of so many items grows as they come; a shorter one has its length at once. */
+/**
+ * A list of at least this many items grows with each item. A shorter list has its length from the
+ * start.
+ */
 const LONG = 65536
 
 /**
- * A list of at most so many items is written as a literal, of which an engine makes an array in a
- * third of the time.
+ * A list of at most this many items is built by an array literal, which takes an engine a third of
+ * the time.
  */
 const SHORT = 4
 
-/** The number of an entry: a BigInt where a number doesn't hold it. */
+/** Returns the value field of an entry, as a BigInt if it is not a safe integer. */
 export function integer ({ words, longs }, at) {
   const high = words[at + 3] >>> 0
   return high <= SAFE_HIGH ? high * TWO_32 + (words[at + 2] >>> 0) : longs[(at + 2) >>> 1]
 }
 
-/** -1 less the number of an entry. */
+/**
+ * Returns -1 minus the value field of an entry, as a BigInt if the result is not a safe integer.
+ */
 function negative ({ words, longs }, at) {
   const high = words[at + 3] >>> 0
   const low = words[at + 2] >>> 0
-  // It is a number for all below 2^53 - 1.
+  // The result is a safe integer if the field is below 2^53 - 1.
   return high < SAFE_HIGH || (high === SAFE_HIGH && low < 0xffffffff) ? -1 - (high * TWO_32 + low) : ~longs[(at + 2) >>> 1]
 }
 
-/** Makes the values of a tape. `at` is the entry that comes next. */
+/** Builds the values of a tape. `at` is the word index of the next entry. */
 class Builder {
   constructor (core, first, length) {
     this.core = core
@@ -171,7 +185,10 @@ class Builder {
     this.calls = 0
   }
 
-  /** The value of the next entry, with all that is in it. */
+  /**
+   * Returns the value of the next entry, with all values in it. Throws TRAP if the kind of an entry
+   * is unknown.
+   */
   value () {
     const { words, at, block } = this
     this.at = at + 4
@@ -214,7 +231,7 @@ class Builder {
     for (let each = 0; each < count; each++) {
       const { at } = this
       let value
-      // Long lists are of integers as a rule.
+      // Long lists usually contain integers.
       if (words[at] === 3) {
         this.at = at + 4
         value = integer(core, at)
@@ -250,14 +267,14 @@ class Builder {
     return length === 1 ? String.fromCharCode(this.bytes[begins]) : this.texts.key(begins, length)
   }
 
-  /** The list or the map at this entry, made in one loop. */
+  /** Returns the list or map of the entry at `top`. Builds it in a loop, without recursion. */
   deep (top) {
     const { words } = this
     const end = top + words[top + 1] * 4
     const parents = []
     let parent
     let isMap = false
-    let left = 0 // how many items or pairs it still has
+    let left = 0 // the remaining items or pairs of `parent`
     let key = ''
     this.at = top
     while (this.at < end) {
@@ -286,7 +303,10 @@ class Builder {
   }
 }
 
-/** Gives the object a property of its own, also where the key means another thing to it. */
+/**
+ * Sets a property of the object. If the key is `__proto__`, defines an own property instead of
+ * setting the prototype.
+ */
 function put (object, key, value) {
   if (key === '__proto__') Object.defineProperty(object, key, { value, writable: true, enumerable: true, configurable: true })
   else object[key] = value
@@ -298,7 +318,7 @@ function valueOf (core, first, count, length) {
 
 function decodeIn (core, bytes, levels, values) { return withTape(core, bytes, levels, values, valueOf) }
 
-/** The value of a block, of which the core has checked every byte. */
+/** Decodes a block, after the core has checked all of its bytes. */
 export function decode (bytes, options) {
   return run(decodeIn, inputOf(bytes), levelsOf(options), valuesOf(options))
 }
@@ -312,7 +332,10 @@ export function entriesOf (core, first, count) {
 
 function tapeIn (core, bytes, levels, values) { return withTape(core, bytes, levels, values, entriesOf) }
 
-/** The entries of a block in their order: kind, length and value, as `kombilad_tape` has them. */
+/**
+ * Returns the entries of a block in their order: kind, length and value, as `kombilad_tape` writes
+ * them.
+ */
 export function tape (bytes, options) {
   return run(tapeIn, inputOf(bytes), levelsOf(options), valuesOf(options))
 }

@@ -1,11 +1,11 @@
-// CAR files from which one block is read at a time: for Node.
+// Reads CAR files one block at a time, in Node.
 import { createReadStream } from 'node:fs'
 import { open } from 'node:fs/promises'
 import { CarIndexer, byCid } from './car.js'
 import { keyOf } from './cid.js'
 import { ofName } from './errors.js'
 
-/** A CAR file of which only the places of the blocks are in memory. */
+/** Reads single blocks of a CAR file. Only the CIDs and positions of the blocks are in memory. */
 export class CarIndexedReader {
   constructor (version, file, roots, places) {
     this.version = version
@@ -15,7 +15,7 @@ export class CarIndexedReader {
     this._named = byCid(places)
   }
 
-  /** Reads the file once for the places of its blocks; it is open until `close` is called. */
+  /** Reads the file once to find its blocks. The file stays open until `close` is called. */
   static async fromFile (path) {
     const iterator = await CarIndexer.fromIterable(createReadStream(path))
     const places = []
@@ -27,7 +27,7 @@ export class CarIndexedReader {
     const bytes = new Uint8Array(blockLength)
     for (let there = 0; there < blockLength;) {
       const { bytesRead } = await this._file.read(bytes, there, blockLength - there, blockOffset + there)
-      // The file is shorter than it was.
+      // The file has become shorter.
       if (bytesRead === 0) throw ofName('CAR_UNEXPECTED_END', blockOffset + there)
       there += bytesRead
     }

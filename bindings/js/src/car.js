@@ -2,32 +2,35 @@ import { checkedCid, keyOf } from './cid.js'
 import { bytesOf, place, run } from './core.js'
 import { ofName, ofStatus } from './errors.js'
 
-/** How many bytes a header and a section may have. */
+/** The maximum sizes of a header and of a section, in bytes. */
 const LONGEST_HEADER = 8 << 20
 const LONGEST_SECTION = 32 << 20
-/** How many bytes may stand before the sections, with the padding of version 2 among them. */
+/** The maximum number of bytes before the sections, including the padding of version 2. */
 const LONGEST_FRONT = 2 * LONGEST_HEADER + 65536
-/** The byte of version 2 at which the number stands that places the payload. */
+/** The byte of a CAR of version 2 at which the field with the payload's offset begins. */
 const PLACE_OF_PAYLOAD = 27
-/** How many bytes the core is given at once, at most, where it doesn't need more. */
+/** The maximum number of bytes that are passed to the core at once, unless it needs more. */
 const CHUNK = 65536
 const MORE = 176
 const DONE = 96
-/** The bytes of the core's record of a CID, and of those that its calls for a CAR write. */
+/** The sizes in bytes of the core's record of a CID, and of the records of its calls for a CAR. */
 const CID_RECORD = 88
 const CALL_RECORDS = 72
 
-/** Bytes that come in chunks, of which those that are not yet taken are kept. */
+/** Reads bytes from an iterator of chunks, and keeps those that are not yet used. */
 class Source {
   constructor (chunks) {
     this.chunks = chunks
     this.kept = new Uint8Array(0)
-    this.at = 0 // of the kept bytes, where the next one stands
-    this.offset = 0 // of all bytes, where it stands
+    this.at = 0 // the index of the next byte in `kept`
+    this.offset = 0 // the offset of that byte among all bytes
     this.ended = false
   }
 
-  /** Reads on until so many bytes are there, or the chunks end. Returns how many are there. */
+  /**
+   * Reads chunks until `count` bytes are available, or the chunks end. Returns the number of
+   * available bytes. Throws INPUT if a chunk is not a typed array, a DataView or an ArrayBuffer.
+   */
   async fill (count) {
     let there = this.kept.length - this.at
     if (there >= count) return there
@@ -37,7 +40,7 @@ class Source {
       if (done) {
         this.ended = true
       } else {
-        // Not as a Buffer, of which `slice` would copy nothing.
+        // A plain view, since `slice` of a Buffer doesn't copy.
         const bytes = bytesOf(value)
         parts.push(bytes)
         there += bytes.length
@@ -59,8 +62,8 @@ class Source {
   }
 
   /**
-   * Returns the bytes that come next, at least so many where there are, and whether they are all
-   * that are left.
+   * Returns the next bytes: at least `least`, or all that are left. `isAll` is true if they are
+   * known to be the last bytes.
    */
   async next (least) {
     const there = await this.fill(least)
@@ -68,25 +71,26 @@ class Source {
     return { bytes: this.kept.subarray(this.at, this.at + size), isAll: this.ended && size === there }
   }
 
-  /** Passes over bytes that are there. */
+  /** Skips available bytes. */
   skip (count) {
     this.at += count
     this.offset += count
   }
 
-  /** Lets go of what the bytes come from, which is a file that is open, perhaps. */
+  /** Closes the iterator of chunks if it has not ended, since it may keep a file open. */
   async close () { if (!this.ended) await this.chunks.return?.() }
 }
 
-/** Returns the error of a status, with its offset unless memory ran out. */
+/** Returns the error of a status, with its offset unless the status is NO_MEMORY. */
 function wrong (status, offset) { return ofStatus(status, status === 1 ? undefined : offset) }
 
-/** Returns the number of 64 bits at a place of the core's memory. */
+/** Returns the 64-bit number at an address of the core's memory. */
 function numberAt (core, at) { return Number(core.numbers.getBigUint64(at, true)) }
 
 /**
- * Reads what comes before the sections, of the bytes that a CAR begins with. Returns how many bytes
- * more it needs, or the version, the roots, and the place of the sections.
+ * Reads the part before the sections from the first bytes of a CAR. Returns the version, the roots,
+ * and the place of the sections. If there are too few bytes, returns the minimum number of
+ * additional bytes. Throws if the part is invalid.
  */
 function openPart (core, bytes, isAll) {
   for (let most = 8; ;) {
@@ -109,9 +113,10 @@ function openPart (core, bytes, isAll) {
 }
 
 /**
- * Reads the sections in the bytes that come from a place of a CAR on. Returns them, how many bytes
- * they have, and what comes after them: the end, an error, or how many bytes more the next section
- * needs. Moves the place to there.
+ * Reads the complete sections in bytes of a CAR that begin at the place `at`, and moves `at` after
+ * them. Returns the sections and the number of their bytes. Also returns the error after them, or
+ * the minimum number of additional bytes for the next section. Returns neither at the end of the
+ * CAR.
  */
 function sectionsIn (core, bytes, isAll, at) {
   const records = place(core, bytes, bytes.length, CALL_RECORDS)
@@ -136,7 +141,10 @@ function sectionsIn (core, bytes, isAll, at) {
   }
 }
 
-/** Reads what comes before the sections. Returns the version, the roots and the place of the sections. */
+/**
+ * Reads the part of a CAR before the sections. Returns the version, the roots and the place of the
+ * sections. Throws CAR_TOO_LONG if the part has more than LONGEST_FRONT bytes.
+ */
 async function open (source) {
   for (let least = 1; ;) {
     const { bytes, isAll } = await source.next(Math.min(least, LONGEST_FRONT))
@@ -150,7 +158,7 @@ async function open (source) {
   }
 }
 
-/** The sections from a place on: of each the CID and the block, and where they stand. */
+/** Yields the sections from the place `at` on, with their CIDs, blocks and offsets. */
 async function * sections (source, at) {
   for (let least = 1; ;) {
     const { bytes, isAll } = await source.next(least)
@@ -174,7 +182,7 @@ function chunksOf (chunks) {
   throw ofName('INPUT')
 }
 
-/** An iterator of this class over the sections of a CAR. */
+/** Opens a CAR, and returns an iterator of the class `Iterator` over its sections. */
 async function begun (Iterator, chunks) {
   const source = new Source(chunksOf(chunks))
   try {
@@ -187,7 +195,7 @@ async function begun (Iterator, chunks) {
 }
 
 /**
- * The blocks of a CAR in their order, read while they are asked for:
+ * Iterates over the blocks of a CAR in their order, and reads them during the iteration:
  * `for await (const { cid, bytes } of iterator)`.
  */
 export class CarBlockIterator {
@@ -204,7 +212,7 @@ export class CarBlockIterator {
 
   async getRoots () { return this._roots }
 
-  /** The sections can be gone over once. */
+  /** Yields the sections. Throws CAR_READ_ONCE if they were already iterated over. */
   async * [Symbol.asyncIterator] () {
     if (this._begun) throw ofName('CAR_READ_ONCE')
     this._begun = true
@@ -216,7 +224,7 @@ export class CarBlockIterator {
   }
 }
 
-/** The CIDs of a CAR in their order. */
+/** Iterates over the CIDs of a CAR in their order. */
 export class CarCIDIterator extends CarBlockIterator {
   static async fromBytes (bytes) { return begun(CarCIDIterator, [bytesOf(bytes)]) }
   static async fromIterable (chunks) { return begun(CarCIDIterator, chunks) }
@@ -226,7 +234,7 @@ export class CarCIDIterator extends CarBlockIterator {
   }
 }
 
-/** Where the blocks of a CAR stand in it, in their order. */
+/** Iterates over the positions of the blocks of a CAR, in their order. */
 export class CarIndexer extends CarBlockIterator {
   static async fromBytes (bytes) { return begun(CarIndexer, [bytesOf(bytes)]) }
   static async fromIterable (chunks) { return begun(CarIndexer, chunks) }
@@ -236,7 +244,7 @@ export class CarIndexer extends CarBlockIterator {
   }
 }
 
-/** What there is of each CID; of several the first. */
+/** Returns a map from the key of each CID to the first item with this CID. */
 export function byCid (items) {
   const named = new Map()
   for (const item of items) {
@@ -246,7 +254,7 @@ export function byCid (items) {
   return named
 }
 
-/** A CAR of which all blocks are in memory. */
+/** Reads all blocks of a CAR into memory. */
 export class CarReader {
   constructor (version, roots, blocks) {
     this.version = version

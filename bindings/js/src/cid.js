@@ -3,16 +3,18 @@ import { bytesOf, inputOf, place, run, sizeOf } from './core.js'
 
 const PREFIXES = { base16: 'f', base32: 'b', base32upper: 'B', base36: 'k', base58btc: 'z', base64url: 'u' }
 const LONGEST_TEXT = 176
-/** The code of the codec DAG-PB, which all CIDs of version 0 have. */
+/** The code of the DAG-PB codec, which all CIDs of version 0 have. */
 const DAG_PB = 0x70
-/** What the class that was before `multiformats/cid` had, with a multihash of bytes. */
+/**
+ * The property that marks CIDs of the class before `multiformats/cid`. Their multihash is bytes.
+ */
 const OLD = Symbol.for('@ipld/js-cid/CID')
 
-/** The bases that a CID's text may be in. */
+/** The names of the bases of CID strings. */
 export const bases = Object.keys(PREFIXES)
 
 /**
- * Returns the number of a varint in bytes that were checked, and where it ends. A number that
+ * Returns the number of a varint in checked bytes, and the index after the varint. A number that
  * isn't a safe integer is a BigInt.
  */
 function varint (bytes, at) {
@@ -21,8 +23,8 @@ function varint (bytes, at) {
   let unit = 1
   let byte
   do {
-    // The end of the bytes ends the varint too: a caller can replace the bytes of a CID, or detach
-    // them.
+    // The end of the bytes also ends the varint, since a caller can replace or detach the bytes of
+    // a CID.
     byte = bytes[at++]
     number += (byte & 127) * unit
     unit *= 128
@@ -30,7 +32,7 @@ function varint (bytes, at) {
   return [Number.isSafeInteger(number) ? number : wideVarint(bytes, begins, at), at]
 }
 
-/** Returns the number of a varint between two places as a BigInt. */
+/** Returns the number of the varint between two indexes as a BigInt. */
 function wideVarint (bytes, begins, ends) {
   let number = 0n
   for (let at = ends - 1; at >= begins; at--) number = number << 7n | BigInt(bytes[at] & 127)
@@ -43,7 +45,10 @@ function equal (a, b) {
   return true
 }
 
-/** Returns the code of a codec, which is an integer below 2^64, as a BigInt. */
+/**
+ * Returns the code of a codec as a BigInt. Throws INPUT unless it is a safe integer of at least 0,
+ * or a BigInt from 0 to 2^64 - 1.
+ */
 function codeOf (code) {
   if (typeof code === 'bigint' ? code >= 0n && code < 1n << 64n : Number.isSafeInteger(code) && code >= 0) return BigInt(code)
   throw ofName('INPUT', undefined, ': the code of a codec')
@@ -57,7 +62,7 @@ function varintBytes (number) {
   return bytes
 }
 
-/** Throws what is wrong where the bytes are no CID; a call for `run`. */
+/** Throws if the bytes are not a CID. `run` calls it. */
 function isCid (core, bytes) {
   const size = sizeOf(bytes)
   place(core, bytes, size, 0)
@@ -65,7 +70,10 @@ function isCid (core, bytes) {
   if (status !== 0) throw ofStatus(status)
 }
 
-/** Returns the bytes of the CID that a call has written to the record, after their number. */
+/**
+ * Returns the bytes of the CID that a call has written to the record, after a byte with their
+ * number.
+ */
 function madeCid (core) {
   const cid = core.cidAt
   return core.bytes.slice(cid + 1, cid + 1 + core.bytes[cid])
@@ -106,7 +114,8 @@ function hash (core, bytes, code) {
 }
 
 /**
- * A multihash: `code` of the hash function, `size` and bytes of the `digest`, and all its `bytes`.
+ * Represents a multihash: the `code` of the hash function, the `size` of the `digest` in bytes, the
+ * `digest`, and all `bytes` of the multihash.
  */
 class Multihash {
   constructor (bytes) {
@@ -120,11 +129,14 @@ class Multihash {
 }
 
 /**
- * A content identifier, with the shape and names of the class of `multiformats/cid`. What reads one
- * checks all of it by the core.
+ * Represents a content identifier. Its properties and methods have the same names as in the class
+ * of `multiformats/cid`. The core checks every byte of a CID when it is read.
  */
 export class CID {
-  /** As the constructor of `multiformats/cid`; only the bytes are read, and they are checked. */
+  /**
+   * Creates a CID, with the parameters of the constructor of `multiformats/cid`. Reads and copies
+   * only the bytes. Throws if they are not a CID.
+   */
   constructor (version, code, multihash, bytes) {
     if (version === CHECKED) {
       this.bytes = code
@@ -132,7 +144,7 @@ export class CID {
       this.bytes = new Uint8Array(bytesOf(bytes))
       run(isCid, this.bytes)
     }
-    // By this a CID is known that a message to a worker left without its class.
+    // This property identifies a CID that has lost its class in a message to a worker.
     this['/'] = this.bytes
   }
 
@@ -141,7 +153,7 @@ export class CID {
   get byteLength () { return this.bytes.byteLength }
   get [Symbol.toStringTag] () { return 'CID' }
 
-  /** 0 or 1. */
+  /** The version: 0 or 1. */
   get version () { return this.bytes[0] === 0x12 ? 0 : 1 }
 
   /** The code of the codec. */
@@ -154,8 +166,10 @@ export class CID {
   }
 
   /**
-   * The text in a base by its name, or by an encoder of `multiformats/bases`; without one in
-   * base32, and of version 0 in base58btc.
+   * Returns the CID as a string. `base` is the name of a base, or an encoder of
+   * `multiformats/bases`. The default is base32 for version 1, and base58btc for version 0. Throws
+   * UNKNOWN_BASE if there is no base with this name, and V0_BASE if the base for version 0 is not
+   * base58btc.
    */
   toString (base) {
     if (base === undefined) return run(writeText, inputOf(this.bytes), 0)
@@ -192,8 +206,8 @@ export class CID {
   }
 
   /**
-   * Itself, a CID of the same bytes where the value is one of another class or version of it, or
-   * null.
+   * Returns a CID of this class unchanged. For a CID of another class, or of another version of
+   * this class, returns a new CID with the same bytes. Otherwise returns null.
    */
   static asCID (value) {
     if (value instanceof CID) return value
@@ -208,7 +222,7 @@ export class CID {
     }
   }
 
-  /** The CID of these parts; `digest` is a multihash, of which the bytes are taken. */
+  /** Creates a CID from its parts. Only the `bytes` of the multihash `digest` are read. */
   static create (version, code, digest) {
     if (version === 0) {
       if (code !== DAG_PB) throw ofName('WRONG_VERSION')
@@ -228,14 +242,14 @@ export class CID {
     return CID.decode(Uint8Array.from([1, ...varintBytes(codeOf(code)), ...bytesOf(digest.bytes)]))
   }
 
-  /** The CID that the bytes are, all of them. They are copied. */
+  /** Decodes bytes that are exactly one CID, and copies them. Throws if they are not. */
   static decode (bytes) {
     const own = new Uint8Array(bytesOf(bytes))
     run(isCid, own)
     return new CID(CHECKED, own)
   }
 
-  /** The CID that the bytes begin with, and the bytes behind it. */
+  /** Decodes the CID at the beginning of the bytes. Returns it and the bytes after it. */
   static decodeFirst (bytes) {
     const all = bytesOf(bytes)
     const length = firstLength(all)
@@ -243,8 +257,8 @@ export class CID {
   }
 
   /**
-   * The CID of a text in any of the bases, also after `/ipfs/`; or in the base of a decoder of
-   * `multiformats/bases`.
+   * Parses a CID from a string in any of the bases, with or without `/ipfs/` before it. `base` is a
+   * decoder of `multiformats/bases`, for strings that begin with its prefix.
    */
   static parse (text, base) {
     if (typeof text !== 'string') throw ofName('INPUT', undefined, ': the text of a CID')
@@ -252,13 +266,13 @@ export class CID {
     return new CID(CHECKED, run(readText, text))
   }
 
-  /** The CID of a block: version 1, by its SHA2-256 digest. */
+  /** Returns the CID of a block: version 1, with this codec and the block's SHA2-256 digest. */
   static ofBlock (code, bytes) {
     return new CID(CHECKED, run(hash, inputOf(bytes), codeOf(code)))
   }
 }
 
-/** What only this package passes to the constructor. */
+/** The argument that only this package passes to the constructor, for bytes that were checked. */
 const CHECKED = Symbol('checked')
 
 function ownCid (value) {
@@ -267,15 +281,19 @@ function ownCid (value) {
   return cid
 }
 
-/** The bytes of a CID, of this class or another, as a key of a Map. */
+/**
+ * Returns the bytes of a CID of any class as a string, for the key of a Map. Throws INPUT if the
+ * value is not a CID.
+ */
 export function keyOf (cid) { return String.fromCharCode.apply(null, bytesOf(ownCid(cid).bytes)) }
 
-/** The CID of bytes that the core has checked. */
+/** Returns the CID with these bytes, which the core has checked. */
 export function checkedCid (bytes) { return new CID(CHECKED, bytes) }
 
 /**
- * How many bytes the CID at the beginning has, by its varints alone: the core then checks just
- * these. Where they end too soon it is all of them, so that the core says what is wrong.
+ * Returns the length of the CID at the beginning of the bytes. It reads only the varints, and the
+ * core then checks this many bytes. If the bytes end too early, returns the number of all bytes, so
+ * that the core reports the error.
  */
 function firstLength (bytes) {
   if (bytes[0] === 0x12 && bytes[1] === 0x20) return Math.min(34, bytes.length)
@@ -290,7 +308,7 @@ function firstLength (bytes) {
   return Math.min(at + Math.min(Number(number), 65), bytes.length)
 }
 
-/** The hash function SHA2-256 of the core, as `multiformats/hashes` has one. */
+/** The hash function SHA2-256 of the core, in the form of a hasher of `multiformats/hashes`. */
 export const sha256 = {
   name: 'sha2-256',
   code: 0x12,
@@ -299,8 +317,8 @@ export const sha256 = {
 }
 
 /**
- * Whether the block is the one that the CID names; undefined where the hash function is neither
- * SHA2-256 nor identity.
+ * Returns whether the block matches the digest of the CID. Returns undefined if the hash function
+ * is neither SHA2-256 nor identity.
  */
 export function verify (cid, bytes) {
   const { code, digest } = ownCid(cid).multihash

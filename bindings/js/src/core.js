@@ -1,5 +1,6 @@
-// The instance of the core and its memory: [stack, constants][record][room][heap]. A call writes
-// numbers and a CID to the record, and reads and writes the rest in the room.
+// Manages the core's instance and its memory, which has the layout
+// [stack, constants][record][room][heap]. A call writes numbers and a CID to the record. Its other
+// inputs and outputs are in the room.
 import { ofName, ofStatus, startBy, useSentences } from './errors.js'
 import { base64 } from './module.js'
 
@@ -8,10 +9,13 @@ let instance
 let bound = 0xffff0000
 let started = 0
 
-/** Returns the bytes of the core's module, which wasm.sh writes into the package as text. */
+/** Returns the bytes of the core's module, which wasm.sh writes into the package as base64. */
 function moduleBytes () { return Uint8Array.from(atob(base64), (letter) => letter.charCodeAt(0)) }
 
-/** Returns an instance of the core's module, which is compiled if no call has done so. */
+/**
+ * Returns a new instance of the core's module. Compiles the module if no call has compiled it.
+ * Throws NOT_STARTED if the engine can't compile or instantiate it.
+ */
 function instantiated () {
   try {
     if (module === undefined) module = new WebAssembly.Module(moduleBytes())
@@ -22,8 +26,9 @@ function instantiated () {
 }
 
 /**
- * Compiles and starts the core without blocking, if no call has done so. Without it the first call
- * does that, which takes some milliseconds; older browsers refuse it on a page's thread.
+ * Compiles and starts the core without blocking, if it hasn't started. Without `init` the first
+ * call does this, which takes a few milliseconds. Older browsers refuse that on the main thread of
+ * a page.
  */
 export async function init () {
   if (instance !== undefined) return
@@ -33,9 +38,9 @@ export async function init () {
 }
 
 /**
- * How many bytes of memory the core may have, at most 2^32 - 65536. A call that needs more is the
- * error NO_MEMORY. Memory that the core has goes back when it is started anew, which this call
- * does.
+ * Sets the maximum size of the core's memory in bytes, which is at most 2^32 - 65536. A call that
+ * needs more throws NO_MEMORY. Also drops the current instance, so that its memory is freed and the
+ * next call starts a new one.
  */
 export function setMemoryLimit (bytes) {
   bound = Math.max(0, Math.min(bytes, 0xffff0000))
@@ -43,18 +48,18 @@ export function setMemoryLimit (bytes) {
 }
 
 /**
- * How often the core was started: once, and once after each trap and each `setMemoryLimit`. For
- * tests.
+ * Returns the number of times that the core was started: once at first, again after a trap or
+ * `setMemoryLimit`, and for a call that begins during another call. For tests.
  */
 export const starts = () => started
 
 /**
- * The room ends below 2^31, so that each number of 32 bits that is an address is the same with and
- * without a sign.
+ * The maximum size of the room in bytes. The room ends below 2^31, so that each address in it is
+ * the same number as a signed and as an unsigned 32-bit integer.
  */
 const LARGEST = 0x7f000000
 
-/** The size of the record: a number of bytes or items, an offset, and a CID. */
+/** The size of the record in bytes. It has a number of bytes or items, an offset, and a CID. */
 const RECORD = 96
 
 class Core {
@@ -70,7 +75,7 @@ class Core {
     useSentences((status) => this.sentence(status))
   }
 
-  /** Makes views of the memory as it is. */
+  /** Creates views of the memory's current buffer. */
   view () {
     const { buffer } = this.memory
     this.bytes = new Uint8Array(buffer)
@@ -80,17 +85,20 @@ class Core {
   }
 
   /**
-   * The memory is another buffer each time that it grows, and the views of the one before are
-   * empty.
+   * Creates new views if the memory has grown. Then it has a new buffer, and views of the old
+   * buffer are empty.
    */
   refresh () { if (this.bytes.length === 0) this.view() }
 
-  /** Makes room for so many bytes after the record. */
+  /**
+   * Grows the room after the record to at least `size` bytes. Throws NO_MEMORY if that is
+   * impossible.
+   */
   reserve (size) {
     this.refresh()
     if (size > this.size) {
       if (size > LARGEST) throw ofStatus(1)
-      // The next power of two, so that the room grows rarely; or just what is asked for.
+      // Tries the next power of two first, so that the room grows rarely, and then exactly `size`.
       let taken = Math.min(2 ** Math.ceil(Math.log2(Math.max(size, 4096))), LARGEST)
       let begins = this.calls.kombilad_wasm_room(RECORD + taken)
       if (begins === 0) {
@@ -107,19 +115,19 @@ class Core {
     }
   }
 
-  /** Returns the record's first number: how much a call wants to write, a count, or a place. */
+  /** Returns the record's first number: the size of a call's output, a count, or a position. */
   needed () {
     this.refresh()
     return this.words[this.neededAt >>> 2] >>> 0
   }
 
-  /** Returns what a status reports. The sentence is written to the place of the record's CID. */
+  /** Returns the sentence of a status. The core writes it over the record's CID. */
   sentence (status) {
     this.calls.kombilad_status_text(status, this.cidAt, RECORD - 8, this.neededAt)
     return String.fromCharCode(...this.bytes.subarray(this.cidAt, this.cidAt + this.needed()))
   }
 
-  /** Returns the record's second number. */
+  /** Returns the record's second number, which is the offset of an error. */
   offset () {
     this.refresh()
     return this.words[this.offsetAt >>> 2] >>> 0
@@ -130,25 +138,26 @@ startBy(() => {
   try {
     run(() => {})
   } catch {
-    // The core can't be started: the error then has its name for a sentence.
+    // If the core can't be started, the message of the error is its name.
   }
 })
 
-/** The error that a status is, with its offset where it has one. */
+/** Returns the error of a status, with its offset if the status has one. */
 export function failed (core, status) {
   const has = status === 6 || status === 7 || status >= 48
   return ofStatus(status, has ? core.offset() : undefined)
 }
 
 /**
- * Keeps an instance for the next call, unless another limit of memory was set while a call had it.
+ * Keeps an instance for the next call, unless the memory limit was changed while a call used it.
  */
 function keep (core) { if (core.bound === bound) instance = core }
 
 /**
- * Returns the result of `work` with the core. After a trap the instance is dropped, before anything
- * else can see it. A setter of Object.prototype can make a call while a map is built: this call
- * takes another instance, so the memory of the first call doesn't change.
+ * Calls `work` with the core, and returns its result. Throws TRAP after a trap or a RangeError, and
+ * drops the instance, so that no later call uses it. A setter of Object.prototype can make a call
+ * while a map is built. That call uses another instance, so the memory of the first call doesn't
+ * change.
  */
 export function run (work, a, b, c, d) {
   const core = instance ?? new Core()
@@ -167,8 +176,8 @@ export function run (work, a, b, c, d) {
 }
 
 /**
- * Returns the engine's own getter as a function. Objects and their classes can override the
- * property, but not this.
+ * Returns the engine's getter of a property as a function. Objects and their classes can override
+ * the property, but not this function.
  */
 function getter (prototype, name) {
   return Function.prototype.call.bind(Object.getOwnPropertyDescriptor(prototype, name).get)
@@ -189,8 +198,8 @@ const viewSize = getter(DataView.prototype, 'byteLength')
 const bufferSize = getter(ArrayBuffer.prototype, 'byteLength')
 
 /**
- * Returns whether the value is an ArrayBuffer. A proxy of one isn't, nor is an object with its
- * prototype.
+ * Returns whether the value is an ArrayBuffer. Returns false for a proxy of an ArrayBuffer, and for
+ * other objects with its prototype.
  */
 function isBuffer (value) {
   if (!(value instanceof ArrayBuffer)) return false
@@ -203,35 +212,36 @@ function isBuffer (value) {
 }
 
 /**
- * Returns whether the value is a Uint8Array of any realm. A proxy of one isn't, nor is an object
- * with its prototype.
+ * Returns whether the value is a Uint8Array of any realm. Returns false for a proxy of a
+ * Uint8Array, and for other objects with its prototype.
  */
 export function isBytes (value) { return typeOfArray(value) === 'Uint8Array' }
 
 /**
- * Returns how many bytes a Uint8Array has, whatever its class says; 0 if its buffer is detached.
+ * Returns the size of a Uint8Array in bytes, even if its class overrides `length`. Returns 0 if its
+ * buffer is detached.
  */
 export function sizeOf (bytes) { return arraySize(bytes) }
 
-/** Returns the error of an input that has no buffer any more. */
+/** Returns the error of an input whose buffer is detached or was resized. */
 export function detached (cause) {
   return Object.assign(ofName('INPUT', undefined, ': its buffer is detached, or was resized'), { cause })
 }
 
 /**
- * Returns a plain view of the bytes of a typed array, a DataView or an ArrayBuffer, or undefined
- * for any other value. The view has a fixed length, and no property that the input overrides is
- * read. Throws INPUT if the buffer is detached, or was resized to end before the input.
+ * Returns a view of the bytes of a typed array, a DataView or an ArrayBuffer. Returns undefined for
+ * any other value. The view is a Uint8Array of a fixed length. No property that the input overrides
+ * is read. Throws INPUT if the buffer is detached, or was resized and no longer contains the input.
  */
 export function viewOf (input) {
   try {
     if (!isView(input)) {
-      // By its size: without one the view would follow a buffer that is resized.
+      // With an explicit length the view doesn't follow a buffer that is resized.
       return isBuffer(input) ? new Uint8Array(input, 0, bufferSize(input)) : undefined
     }
     if (typeOfArray(input) === undefined) return new Uint8Array(viewBuffer(input), viewOffset(input), viewSize(input))
     const size = arraySize(input)
-    // The size is 0 too if the buffer no longer holds the array. Then `keys` throws.
+    // The size is also 0 if the buffer no longer contains the array. In that case `keys` throws.
     if (size === 0) arrayKeys(input)
     return new Uint8Array(arrayBuffer(input), arrayOffset(input), size)
   } catch (cause) {
@@ -240,8 +250,8 @@ export function viewOf (input) {
 }
 
 /**
- * Returns a plain view of the bytes of a typed array, a DataView or an ArrayBuffer, as `viewOf`
- * does. Throws INPUT for any other value.
+ * Returns a view of the bytes of a typed array, a DataView or an ArrayBuffer, like `viewOf`. Throws
+ * INPUT for any other value.
  */
 export function bytesOf (input) {
   const bytes = viewOf(input)
@@ -250,17 +260,18 @@ export function bytesOf (input) {
 }
 
 /**
- * Returns a Uint8Array of any class unchanged, for `sizeOf` and `place`: this is faster than a
- * view. Returns a view by `bytesOf` of any other input.
+ * Returns a Uint8Array of any class unchanged, since that is faster than a view. Returns the result
+ * of `bytesOf` for any other input. The result is for `sizeOf` and `place`.
  */
 export function inputOf (input) { return isBytes(input) ? input : bytesOf(input) }
 
 /**
- * Copies the bytes, which are so many by `sizeOf`, to the beginning of the room, with so much room
- * behind them from the next multiple of 16 on. Returns where that is.
+ * Copies the bytes to the beginning of the room. `size` is their number by `sizeOf`. Reserves
+ * `behind` bytes after them, from the next multiple of 16 on, and returns the address of these.
+ * Throws NO_MEMORY if the room can't grow, and INPUT if the buffer is detached.
  */
 export function place (core, bytes, size, behind) {
-  // The room can't hold a longer input, and the sum below takes numbers of 31 bits.
+  // A longer input doesn't fit in the room, and the sum below is only right for numbers below 2^31.
   if (size > LARGEST) throw ofStatus(1)
   const after = (size + 15) & ~15
   core.reserve(after + behind)
@@ -269,7 +280,7 @@ export function place (core, bytes, size, behind) {
   } catch (cause) {
     throw detached(cause)
   }
-  // Another thread can grow a shared buffer. The copy then overwrites memory behind the room, so
+  // Another thread can grow a shared buffer. The copy then overwrites memory after the room, so
   // `run` drops the instance.
   if (sizeOf(bytes) !== size) throw new RangeError('a shared buffer grew while it was copied')
   return core.room + after
@@ -277,10 +288,10 @@ export function place (core, bytes, size, behind) {
 
 const LEVELS = 1024
 
-/** The limit of levels as the core takes it; 2^32 - 1 is none. */
+/** Returns the limit on nested levels for the core. 2^32 - 1 means no limit. */
 export function levelsOf (options) { return limit(options?.levels, LEVELS) }
 
-/** The limit of values as the core takes it. */
+/** Returns the limit on the number of values for the core. 2^32 - 1 means no limit. */
 export function valuesOf (options) { return limit(options?.values, 0xffffffff) }
 
 function limit (given, usual) {

@@ -1,4 +1,7 @@
-/** The names of the statuses of `kombilad.h` but OK, TOO_SHORT, NOT_CANONICAL and those of a tape. */
+/**
+ * The names of the statuses in `kombilad.h`, except OK, TOO_SHORT, NOT_CANONICAL, OTHER and those
+ * of tapes.
+ */
 const NAMES = {
   1: 'NO_MEMORY',
   4: 'UNKNOWN_BASE',
@@ -65,14 +68,23 @@ const NAMES = {
   176: 'CAR_MORE'
 }
 
-/** The sentences of these statuses, which the core gives when it is first started, and what starts it. */
+/**
+ * The sentences of these statuses, which are read from the core when it first starts, and the
+ * function that starts it.
+ */
 let sentences
 let start
 
-/** Takes a function that starts the core, for an error that comes before any call of it. */
+/**
+ * Sets the function that starts the core. It is called if an error occurs before the core has
+ * started.
+ */
 export function startBy (work) { start = work }
 
-/** Takes the sentences from a function that returns that of a status. */
+/**
+ * Stores the sentences of these statuses, which `sentenceOf` returns. Only the first call has an
+ * effect.
+ */
 export function useSentences (sentenceOf) {
   if (sentences !== undefined) return
   sentences = Object.create(null)
@@ -87,7 +99,7 @@ function sentence (status) {
   return sentences?.[status] ?? NAMES[status] ?? `status ${status}`
 }
 
-/** What isn't said by a status of the core. */
+/** The messages of errors that are not a status of the core. */
 const OTHERS = {
   ENCODE_UNSUPPORTED: 'the data model has no such value',
   ENCODE_NUMBER: 'NaN, an infinity, or an integer that DAG-CBOR does not hold',
@@ -102,8 +114,8 @@ const OTHERS = {
 }
 
 /**
- * An error of this package: `code` names it, and `offset`, where it is a number, says at which byte
- * of the input.
+ * Represents an error of this package. `code` is its name. `offset` is the byte of the input at
+ * which it occurred, or undefined.
  */
 export class KombiladError extends Error {
   constructor (code, message, offset) {
@@ -114,15 +126,15 @@ export class KombiladError extends Error {
   }
 }
 
-/** The error that a status is. */
+/** Returns the error of a status. */
 export function ofStatus (status, offset) {
   return new KombiladError(NAMES[status] ?? 'OTHER', sentence(status), offset)
 }
 
-/** The error of a name above. */
+/** Returns the error of a name above, with `more` after its message. */
 export function ofName (code, offset, more = '') {
   return new KombiladError(code, (OTHERS[code] ?? sentence(statusNames[code])) + more, offset)
 }
 
-/** Numbers and names of the statuses, for tests. */
+/** The number of each status by its name. Tests use it too. */
 export const statusNames = Object.fromEntries(Object.entries(NAMES).map(([status, name]) => [name, Number(status)]))

@@ -1,19 +1,23 @@
-/** Limits of a call on a block. */
+/** The limits on the input of a call. */
 export interface Limits {
-  /** How deep lists and maps may nest; 1,024 if left out, and 2^32 - 1 or more for no limit. */
+  /**
+   * The maximum depth of nested lists and maps. The default is 1,024, and 2^32 - 1 or more means no
+   * limit.
+   */
   levels?: number
-  /** How many values there may be; no limit if left out. */
+  /** The maximum number of values. By default there is no limit. */
   values?: number
 }
 
-/** What has bytes in one piece. */
+/** An object with contiguous bytes. */
 export type Bytes = Uint8Array | ArrayBuffer | ArrayBufferView
 
-/** A value of the data model. */
+/** A value of the IPLD data model. */
 export type Value = null | boolean | number | bigint | string | Uint8Array | CID | Value[] | { [key: string]: Value }
 
 /**
- * The name of an error: the statuses of `kombilad.h` without `KOMBILAD_`, and this package's own.
+ * The name of an error: a status of `kombilad.h` without `KOMBILAD_`, or a name that only this
+ * package uses.
  */
 export type ErrorCode =
   | 'NO_MEMORY' | 'UNKNOWN_BASE' | 'V0_BASE' | 'TOO_DEEP' | 'TOO_MANY' | 'TOO_LONG' | 'OTHER'
@@ -26,12 +30,12 @@ export type ErrorCode =
   | 'JSON_UTF8' | 'JSON_SYNTAX' | 'JSON_END' | 'JSON_FLOAT' | 'JSON_INTEGER_RANGE' | 'JSON_DUPLICATE_KEY' | 'JSON_LINK' | 'JSON_BYTES' | 'JSON_RESERVED' | 'JSON_RESERVED_MAP'
   | 'ENCODE_UNSUPPORTED' | 'ENCODE_NUMBER' | 'ENCODE_STRING' | 'ENCODE_TOO_DEEP' | 'WRONG_VERSION' | 'INPUT' | 'NO_TAPE' | 'NOT_STARTED' | 'TRAP'
 
-/** Why a call failed. */
+/** Reports why a call failed. */
 export class KombiladError extends Error {
   readonly code: ErrorCode
   /**
-   * The byte of the input at which it stands, where the core says it; of a text, the place of the
-   * character.
+   * The byte offset of the error in the input, if the core reports one. For the string of a CID it
+   * is the position of the invalid character.
    */
   readonly offset?: number
 }
@@ -40,23 +44,26 @@ export class KombiladError extends Error {
 export interface Multihash {
   /** The code of the hash function: a `bigint` if it isn't a safe integer. */
   readonly code: number | bigint
-  /** The length of the digest. */
+  /** The length of the digest in bytes. */
   readonly size: number
   readonly digest: Uint8Array
-  /** The multihash itself. */
+  /** The bytes of the multihash. */
   readonly bytes: Uint8Array
 }
 
-/** A base of `multiformats/bases`. */
+/** An encoder of `multiformats/bases`. */
 export interface BaseEncoder { readonly prefix: string, encode(bytes: Uint8Array): string }
 export interface BaseDecoder { readonly prefix?: string, decode(text: string): Uint8Array }
 
 export type BaseName = 'base16' | 'base32' | 'base32upper' | 'base36' | 'base58btc' | 'base64url'
 
-/** The bases that a CID's text may be in. */
+/** The names of the bases of CID strings. */
 export const bases: BaseName[]
 
-/** A content identifier, with the shape and names of the class of `multiformats/cid`. */
+/**
+ * Represents a content identifier. Its properties and methods have the same names as in the class
+ * of `multiformats/cid`.
+ */
 export class CID {
   constructor(version: 0 | 1, code: number | bigint, multihash: { readonly bytes: Uint8Array }, bytes: Uint8Array)
   readonly version: 0 | 1
@@ -68,7 +75,10 @@ export class CID {
   readonly byteOffset: number
   readonly byteLength: number
   readonly asCID: CID
-  /** The text: in base32 of version 1, in base58btc of version 0, or in the base that is named. */
+  /**
+   * Returns the CID as a string. The default base is base32 for version 1, and base58btc for
+   * version 0.
+   */
   toString(base?: BaseName | BaseEncoder): string
   toJSON(): { '/': string }
   link(): CID
@@ -80,17 +90,20 @@ export class CID {
   static create(version: 0 | 1, code: number | bigint, digest: { readonly bytes: Uint8Array }): CID
   static createV0(digest: { readonly bytes: Uint8Array }): CID
   static createV1(code: number | bigint, digest: { readonly bytes: Uint8Array }): CID
-  /** The CID that the bytes are, all of them. */
+  /** Decodes bytes that are exactly one CID. Throws if they are not. */
   static decode(bytes: Bytes): CID
-  /** The CID that the bytes begin with, and the bytes behind it. */
+  /** Decodes the CID at the beginning of the bytes. Returns it and the bytes after it. */
   static decodeFirst(bytes: Bytes): [CID, Uint8Array]
-  /** The CID of a text in any of the bases, also after `/ipfs/`. */
+  /**
+   * Parses a CID from a string in any of the bases, with or without `/ipfs/` before it. `base`
+   * decodes strings that begin with its prefix.
+   */
   static parse(text: string, base?: BaseDecoder): CID
-  /** The CID of a block: version 1, by its SHA2-256 digest. */
+  /** Returns the CID of a block: version 1, with this codec and the block's SHA2-256 digest. */
   static ofBlock(code: number | bigint, bytes: Bytes): CID
 }
 
-/** The hash function SHA2-256, as `multiformats/hashes` has one. */
+/** The hash function SHA2-256, in the form of a hasher of `multiformats/hashes`. */
 export const sha256: {
   readonly name: 'sha2-256'
   readonly code: 0x12
@@ -99,21 +112,22 @@ export const sha256: {
 }
 
 /**
- * Whether the block is the one that the CID names; undefined where the hash function is neither
- * SHA2-256 nor identity.
+ * Returns whether the block matches the digest of the CID. Returns undefined if the hash function
+ * is neither SHA2-256 nor identity.
  */
 export function verify(cid: CID, bytes: Bytes): boolean | undefined
 
-/** The codec's name and code. */
+/** The name and the code of the DAG-CBOR codec. */
 export const name: 'dag-cbor'
 export const code: 0x71
 /**
- * The canonical block of a value. Whole numbers up to 2^53 - 1 are integers, other numbers floats.
+ * Encodes a value as a canonical block. Safe integers, from -(2^53 - 1) to 2^53 - 1, and values of
+ * type `bigint` become integers. Other numbers become floats.
  */
 export function encode(value: unknown): Uint8Array
-/** The value of a block. Integers that a number doesn't hold are of type `bigint`. */
+/** Decodes the value of a block. An integer that isn't a safe integer becomes a `bigint`. */
 export function decode<T = any>(bytes: Bytes, limits?: Limits): T
-/** The codec DAG-CBOR as one object: a `BlockCodec` of `multiformats`, as Helia takes it. */
+/** The DAG-CBOR codec as one object: a `BlockCodec` of `multiformats`, for example for Helia. */
 export const dagCbor: {
   readonly name: 'dag-cbor'
   readonly code: 0x71
@@ -121,39 +135,42 @@ export const dagCbor: {
   decode<T = any>(bytes: Bytes, limits?: Limits): T
 }
 
-/** A link of a node of DAG-PB. */
+/** A link of a DAG-PB node. */
 export interface PBLink { Hash: CID, Name?: string, Tsize?: number | bigint }
-/** A node of DAG-PB, in the form that `@ipld/dag-pb` has for it. */
+/** A DAG-PB node, in the form of `@ipld/dag-pb`. */
 export interface PBNode { Data?: Uint8Array, Links: PBLink[] }
-/** The codec DAG-PB, to read with. */
+/** The DAG-PB codec, which only decodes. */
 export const dagPb: {
   readonly name: 'dag-pb'
   readonly code: 0x70
-  /** The node of a block. Sizes that a number doesn't hold are of type `bigint`. */
+  /** Returns the node of a block. A `Tsize` that isn't a safe integer is a `bigint`. */
   decode(bytes: Bytes): PBNode
 }
 
-/** Checks that the bytes are one block. */
+/** Checks that the bytes are exactly one block. Throws if they are not. */
 export function check(bytes: Bytes, limits?: Limits): void
-/** Whether the bytes, which are one block, have the keys of each map in order. */
+/**
+ * Returns whether a block has the keys of each map in canonical order. Throws if the bytes are not
+ * exactly one block.
+ */
 export function isCanonical(bytes: Bytes, limits?: Limits): boolean
-/** The block with the keys of each map in order, and all else as it stands. */
+/** Returns the block with the keys of each map in canonical order, and otherwise unchanged. */
 export function canonicalize(bytes: Bytes, limits?: Limits): Uint8Array
 /**
- * Returns the DAG-JSON of a block, without blanks. Throws `JSON_RESERVED_MAP` if a map of the block
- * would be read as a link or as bytes.
+ * Returns the DAG-JSON of a block, without whitespace. Throws `JSON_RESERVED_MAP` if the JSON of a
+ * map would be read as a link or as bytes.
  */
 export function toJSON(bytes: Bytes, limits?: Limits): string
 /**
- * Returns the canonical block of a text in DAG-JSON, or of its UTF-8. The offset of an error is a
- * byte of the UTF-8. The limits count the arrays, objects and values of the text.
+ * Returns the canonical block of DAG-JSON, which is a string or UTF-8 bytes. The offset of an error
+ * is a byte of the UTF-8. The limits apply to the arrays, objects and values of the JSON.
  */
 export function fromJSON(text: string | Bytes, limits?: Limits): Uint8Array
-/** The CIDs of the block's links in the order of its bytes, each as often as it stands there. */
+/** Returns the CIDs of the block's links in the order of its bytes, with duplicates. */
 export function links(bytes: Bytes, limits?: Limits): CID[]
-/** Where the CIDs of the block's links stand in it, in the same order. */
+/** Returns the offsets and lengths of the CIDs of the block's links, in the order of `links`. */
 export function linkPositions(bytes: Bytes, limits?: Limits): Array<{ offset: number, length: number }>
-/** How many links the block has. */
+/** Returns the number of links in the block. */
 export function countLinks(bytes: Bytes, limits?: Limits): number
 
 /** An entry of a block's tape. */
@@ -163,39 +180,40 @@ export interface TapeEntry {
    * 7 bytes, 8 link, 9 list, 10 map, 11 key.
    */
   kind: number
-  /** How many bytes the content has; of a list or a map, how many entries it spans. */
-  length: number
   /**
-   * The integer, the byte of the block at which the content begins, or how many items or pairs
-   * there are.
+   * The number of bytes of the content. For a list or a map, the number of entries that it spans,
+   * including its own.
    */
+  length: number
+  /** The integer, the offset of the content in the block, or the number of items or pairs. */
   value: number | bigint
 }
-/** The entries of a block in their order: a value or a key each. */
+/** Returns the entries of a block in their order. Each is a value or a key. */
 export function tape(bytes: Bytes, limits?: Limits): TapeEntry[]
 
 /**
- * Compiles and starts the core without blocking. Without it the first call does that, which takes
- * some milliseconds; older browsers refuse it on a page's thread (`NOT_STARTED`).
+ * Compiles and starts the core without blocking. Without `init` the first call does this, which
+ * takes a few milliseconds. Older browsers refuse that on the main thread of a page
+ * (`NOT_STARTED`).
  */
 export function init(): Promise<void>
-/** How many bytes of memory the core may have. It is started anew. */
+/** Sets the maximum size of the core's memory in bytes. The next call starts the core again. */
 export function setMemoryLimit(bytes: number): void
 
 /** A block of a CAR. */
 export interface Block { cid: CID, bytes: Uint8Array }
 
-/** A block of a CAR, and where it stands in it. */
+/** A block of a CAR, and its position. */
 export interface Section extends Block {
-  /** The byte at which the section begins, with its length. */
+  /** The offset of the section, which begins with its length. */
   begins: number
-  /** The byte at which the block begins. */
+  /** The offset of the block. */
   offset: number
-  /** How many bytes the section has, with its length. */
+  /** The number of bytes of the section, including its length. */
   length: number
 }
 
-/** The blocks of a CAR in their order, read while they are asked for. */
+/** Iterates over the blocks of a CAR in their order, and reads them during the iteration. */
 export class CarBlockIterator implements AsyncIterable<Section> {
   readonly version: 1 | 2
   static fromBytes(bytes: Bytes): Promise<CarBlockIterator>
@@ -204,7 +222,7 @@ export class CarBlockIterator implements AsyncIterable<Section> {
   [Symbol.asyncIterator](): AsyncIterator<Section>
 }
 
-/** The CIDs of a CAR in their order. */
+/** Iterates over the CIDs of a CAR in their order. */
 export class CarCIDIterator implements AsyncIterable<CID> {
   readonly version: 1 | 2
   static fromBytes(bytes: Bytes): Promise<CarCIDIterator>
@@ -213,20 +231,20 @@ export class CarCIDIterator implements AsyncIterable<CID> {
   [Symbol.asyncIterator](): AsyncIterator<CID>
 }
 
-/** Where a block stands in a CAR, as `@ipld/car` has it. */
+/** The position of a block in a CAR, in the form of `@ipld/car`. */
 export interface BlockIndex {
   cid: CID
-  /** How many bytes the section has, with its length. */
+  /** The number of bytes of the section, including its length. */
   length: number
-  /** How many bytes the block has. */
+  /** The number of bytes of the block. */
   blockLength: number
-  /** The byte at which the section begins, with its length. */
+  /** The offset of the section, which begins with its length. */
   offset: number
-  /** The byte at which the block begins. */
+  /** The offset of the block. */
   blockOffset: number
 }
 
-/** Where the blocks of a CAR stand in it, in their order. */
+/** Iterates over the positions of the blocks of a CAR, in their order. */
 export class CarIndexer implements AsyncIterable<BlockIndex> {
   readonly version: 1 | 2
   static fromBytes(bytes: Bytes): Promise<CarIndexer>
@@ -235,14 +253,14 @@ export class CarIndexer implements AsyncIterable<BlockIndex> {
   [Symbol.asyncIterator](): AsyncIterator<BlockIndex>
 }
 
-/** A CAR of which all blocks are in memory. */
+/** Reads all blocks of a CAR into memory. */
 export class CarReader {
   readonly version: 1 | 2
   static fromBytes(bytes: Bytes): Promise<CarReader>
   static fromIterable(chunks: AsyncIterable<Uint8Array> | Iterable<Uint8Array>): Promise<CarReader>
   getRoots(): Promise<CID[]>
   has(cid: CID): Promise<boolean>
-  /** The block of this CID; of several the first. */
+  /** Returns the block with this CID, or the first of several. */
   get(cid: CID): Promise<Block | undefined>
   blocks(): AsyncGenerator<Block>
   cids(): AsyncGenerator<CID>

@@ -1,4 +1,4 @@
-// The package for browsers, workers and bundlers, and all but files for Node.
+// The entry point for browsers, workers and bundlers. It has everything except the reader of files.
 import { decode } from './block.js'
 import { encode } from './writer.js'
 
@@ -11,9 +11,9 @@ export { CarBlockIterator, CarCIDIterator, CarIndexer, CarReader } from './car.j
 export { KombiladError } from './errors.js'
 export { init, setMemoryLimit } from './core.js'
 
-/** The name and the code of the codec DAG-CBOR, as in `@ipld/dag-cbor`. */
+/** The name and the code of the DAG-CBOR codec, as in `@ipld/dag-cbor`. */
 export const name = 'dag-cbor'
 export const code = 0x71
 
-/** The codec DAG-CBOR as one object: a `BlockCodec` of `multiformats`, as Helia takes it. */
+/** The DAG-CBOR codec as one object: a `BlockCodec` of `multiformats`, for example for Helia. */
 export const dagCbor = { name, code, encode, decode }

@@ -2,7 +2,10 @@ import { failed, inputOf, levelsOf, place, run, sizeOf, valuesOf } from './core.
 import { textOfUtf8 } from './text.js'
 import { utf8 } from './writer.js'
 
-/** A text takes at most twice as many bytes as its block, as a rule, and so many more. */
+/**
+ * The number of extra bytes in the first buffer. The JSON usually has at most twice as many bytes
+ * as the block.
+ */
 const SPARE = 64
 
 function toJsonIn (core, bytes, levels, values) {
@@ -25,7 +28,7 @@ export function toJSON (bytes, options) {
 
 function fromJsonIn (core, bytes, levels, values) {
   const size = sizeOf(bytes)
-  // Only a float, or a string with a long head, takes more bytes than its text.
+  // Only a float, or a string of 256 bytes or more, takes more bytes in the block than in the text.
   let most = size + SPARE
   for (;;) {
     const out = place(core, bytes, size, most)
@@ -37,7 +40,7 @@ function fromJsonIn (core, bytes, levels, values) {
   }
 }
 
-/** Returns the canonical block of a text in DAG-JSON, or of its UTF-8. */
+/** Returns the canonical block of DAG-JSON, which is a string or UTF-8 bytes. */
 export function fromJSON (text, options) {
   return run(fromJsonIn, typeof text === 'string' ? utf8(text) : inputOf(text), levelsOf(options), valuesOf(options))
 }

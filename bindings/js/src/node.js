@@ -1,3 +1,3 @@
-// For Node, which has files.
+// The entry point for Node. It adds the reader of files.
 export * from './index.js'
 export { CarIndexedReader } from './car-file.js'

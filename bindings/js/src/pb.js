@@ -6,12 +6,13 @@ import { Texts } from './text.js'
 const ENTRY = 16
 
 /**
- * What `work` returns of the core, which has the block in its room, of where the node's entries
- * begin in words, how many there are, and the block's length.
+ * Makes the entries of a node, and returns the result of `work`. The arguments of `work` are the
+ * core with the block in its room, the index of the first entry in 32-bit words, the number of
+ * entries, and the block's length.
  */
 function withEntries (core, bytes, work) {
   const length = sizeOf(bytes)
-  // A link takes eight bytes of a block at least, and has three entries at most.
+  // A link takes at least eight bytes of a block, and has at most three entries.
   let most = Math.min(64, length)
   for (;;) {
     const tape = place(core, bytes, length, most * ENTRY)
@@ -43,15 +44,15 @@ function nodeOf (core, first, count, length) {
 }
 
 /**
- * The entries of a node as `kombilad_pb_tape` has them: of each link its CID (8), name (6) and size
- * (3), and the data (7).
+ * Returns the entries of a node in the order of `kombilad_pb_tape`: for each link its CID (kind 8),
+ * name (6) and size (3), and then the data (7).
  */
 export function pbTape (bytes) { return run(withEntries, inputOf(bytes), entriesOf) }
 
-/** The codec DAG-PB, to read with: its nodes have the shape that `@ipld/dag-pb` gives them. */
+/** The DAG-PB codec, which only decodes. Its nodes have the form of `@ipld/dag-pb`. */
 export const dagPb = {
   name: 'dag-pb',
   code: 0x70,
-  /** The node of a block. */
+  /** Returns the node of a block. */
   decode (bytes) { return run(withEntries, inputOf(bytes), nodeOf) }
 }

@@ -1,25 +1,26 @@
-// Text of bytes that the core has checked to be UTF-8.
+// Decodes strings from bytes that the core has checked to be UTF-8.
 
 const utf8 = new TextDecoder('utf-8', { ignoreBOM: true })
 const latin1 = new TextDecoder('latin1')
-// Node's own are several times as fast.
+// In Node the methods of Buffer are several times as fast.
 const { latin1Slice, utf8Slice } = globalThis.Buffer?.prototype ?? {}
 
 const sliceOf = latin1Slice === undefined
   ? (bytes, from, to) => latin1.decode(bytes.subarray(from, to))
   : (bytes, from, to) => latin1Slice.call(bytes, from, to)
 
-/** Returns the text of these bytes. */
+/** Returns the string of the UTF-8 bytes from `from` up to `to`. */
 export const textOfUtf8 = utf8Slice === undefined
   ? (bytes, from, to) => utf8.decode(bytes.subarray(from, to))
   : (bytes, from, to) => utf8Slice.call(bytes, from, to)
 
-// An engine copies parts of a string that are shorter than this; longer ones would keep all of it.
+// An engine copies a substring that is shorter than this. A longer substring would keep the whole
+// string in memory.
 const COPIED = 13
-// As many bytes at a time become one string, of which the short texts are parts.
+// The maximum number of bytes that are decoded at once. Short strings are substrings of the result.
 const PIECE = 16384
 
-// The keys of blocks are few: each place holds the last one of its hash.
+// A cache of keys, since blocks have few different ones. Each place has the last key with its hash.
 const PLACES = 4096
 const LONGEST = 32
 const keys = new Array(PLACES).fill('')
@@ -30,7 +31,7 @@ function isAscii (bytes, from, to) {
   return all < 128
 }
 
-/** The texts of a block, of which `limit` is the end. */
+/** Decodes the strings of a block that ends at `limit`. */
 export class Texts {
   constructor (bytes, limit) {
     this.bytes = bytes
@@ -40,7 +41,7 @@ export class Texts {
     this.to = 0
   }
 
-  /** The text of these bytes. */
+  /** Returns the string of the `length` bytes at `at`. */
   at (at, length) {
     const { bytes } = this
     const end = at + length
@@ -51,8 +52,8 @@ export class Texts {
   }
 
   /**
-   * Makes a string of the bytes from here on. Those of it that are ASCII are right, whatever the
-   * others are.
+   * Decodes the next bytes from `at` on as Latin-1. The result is right for all bytes that are
+   * ASCII, and only these are used.
    */
   take (at) {
     this.from = at
@@ -60,7 +61,7 @@ export class Texts {
     this.piece = sliceOf(this.bytes, at, this.to)
   }
 
-  /** The text of a key of several bytes, or none. */
+  /** Returns the string of a key. If the key is ASCII and has 1 to 32 bytes, it is cached. */
   key (at, length) {
     const { bytes } = this
     if (length > LONGEST || length === 0) return this.at(at, length)
@@ -75,7 +76,8 @@ export class Texts {
       if (same === end) return kept
     }
     const key = this.at(at, length)
-    // As many units as bytes: all are ASCII, so that the loop above compares bytes with bytes.
+    // If the key has as many UTF-16 units as bytes, it is ASCII, and the loop above compares its
+    // bytes.
     if (key.length === length) keys[place] = key
     return key
   }

@@ -1,17 +1,23 @@
-// Blocks written in plain JavaScript; the core then checks that they are canonical.
+// Encodes blocks in plain JavaScript. The core then checks that they are canonical.
 import { CID } from './cid.js'
 import { TypedArray, detached, failed, isBytes, place, run, sizeOf, viewOf } from './core.js'
 import { ofName, ofStatus } from './errors.js'
 
 const LEVELS = 1024
 const TWO_32 = 4294967296
-/** How many bytes the head of a value has at most. */
+/** The maximum number of bytes in the head of a value. */
 const HEAD = 9
-/** How long a text is that is written unit by unit: a longer one takes the engine less. */
+/**
+ * An ASCII string of fewer units is written unit by unit. For longer strings the engine's encoder
+ * is faster.
+ */
 const SHORT = 32
-/** The UTF-8 of a text has so many bytes for a unit at most. */
+/** The maximum number of UTF-8 bytes for each UTF-16 unit of a string. */
 const WIDEST = 3
-/** A text of more units has room made for its bytes as they are, not as they may be at most. */
+/**
+ * A string of more units is encoded first, so that the buffer grows by its actual size and not by
+ * the maximum.
+ */
 const LONG = 65536
 const encoder = new TextEncoder()
 const LONE = /[\ud800-\udbff](?![\udc00-\udfff])|(?<![\ud800-\udbff])[\udc00-\udfff]/
@@ -25,7 +31,10 @@ class Writer {
     this.order = byUnits
   }
 
-  /** The bytes of a value, with the keys of each map in this order. */
+  /**
+   * Returns the bytes of a value. `order` sorts the keys of each map. Throws NO_MEMORY if the
+   * engine can't allocate them.
+   */
   written (value, order) {
     this.at = this.level = 0
     this.order = order
@@ -37,7 +46,7 @@ class Writer {
     }
   }
 
-  /** Makes room for so many bytes more. */
+  /** Makes room for `size` more bytes. Throws NO_MEMORY if the engine can't allocate them. */
   more (size) {
     if (this.at + size > this.bytes.length) {
       const larger = zeros(Math.max(this.at + size, this.bytes.length * 2))
@@ -47,7 +56,7 @@ class Writer {
     }
   }
 
-  /** The head of a value: its argument is a number that is an integer. */
+  /** Writes the head of a value. The argument is a safe integer, 0 or more. */
   head (major, argument) {
     this.more(HEAD)
     const { bytes } = this
@@ -69,7 +78,7 @@ class Writer {
     }
   }
 
-  /** The head of an argument that takes eight bytes, a BigInt. */
+  /** Writes the head of a value whose argument takes eight bytes. The argument is a BigInt. */
   longHead (major, argument) {
     this.more(HEAD)
     this.bytes[this.at] = major << 5 | 27
@@ -78,8 +87,8 @@ class Writer {
   }
 
   /**
-   * Writes bytes, which are so many by `sizeOf`. It writes all of them, so the block has no byte of
-   * an earlier call.
+   * Writes all bytes of `content`, so that the block doesn't contain bytes of an earlier call.
+   * `size` is their number by `sizeOf`. Throws INPUT if the buffer of `content` is detached.
    */
   put (content, size) {
     this.more(size)
@@ -100,7 +109,7 @@ class Writer {
   text (text) {
     const { length } = text
     if (length < SHORT) {
-      // Short texts are mostly ASCII, and then have as many bytes as units.
+      // Most short strings are ASCII, and have as many bytes as units.
       this.more(HEAD + length)
       const { bytes } = this
       const begins = this.at + (length < 24 ? 1 : 2)
@@ -123,7 +132,7 @@ class Writer {
     }
     checkUnicode(text)
     this.more(HEAD + WIDEST * length)
-    // Where all is ASCII the head stands right before it at once.
+    // If the string is ASCII, this is the final position, and its bytes don't have to move.
     const begins = this.at + headLength(length)
     const { written } = encoder.encodeInto(text, this.bytes.subarray(begins))
     const moved = this.at + headLength(written)
@@ -173,7 +182,7 @@ class Writer {
 
   list (list) {
     this.deeper()
-    // A proxy of an array can return another length each time.
+    // A proxy of an array can return a different length each time.
     const { length } = list
     if (!Number.isSafeInteger(length) || length < 0) throw ofName('ENCODE_UNSUPPORTED', undefined, ': the length of a list')
     this.head(4, length)
@@ -181,7 +190,10 @@ class Writer {
     this.level--
   }
 
-  /** A value that is neither a list nor null: bytes, a link or a map. */
+  /**
+   * Writes an object that is neither a list nor null: bytes, a link or a map. Throws
+   * ENCODE_UNSUPPORTED for any other object.
+   */
   object (value) {
     const isOwn = value instanceof CID
     if (!isOwn) {
@@ -189,18 +201,18 @@ class Writer {
       if (content !== undefined) return this.byteString(content)
     }
     const { bytes } = value
-    // A CID, also of another class.
+    // A CID of this or another class.
     if (bytes !== undefined && isBytes(bytes) && (isOwn || value['/'] === bytes || value.asCID === value)) return this.link(bytes)
     if (value instanceof Map) return this.map([...value.keys()], (key) => value.get(key))
     const prototype = Object.getPrototypeOf(value)
-    // A proxy of a typed array has no bytes, nor has an object with its prototype.
+    // A proxy of a typed array, or another object with its prototype, does not have bytes.
     if (prototype !== null && prototype !== Object.prototype && (Object.prototype.toString.call(value) !== '[object Object]' || value instanceof TypedArray)) {
       throw ofName('ENCODE_UNSUPPORTED', undefined, `: ${Object.prototype.toString.call(value)}`)
     }
     this.map(Object.keys(value), (key) => value[key])
   }
 
-  /** A link to the CID of these bytes, which the core checks with the block. */
+  /** Writes a link to the CID with these bytes. The core checks the CID together with the block. */
   link (cid) {
     const size = sizeOf(cid)
     this.head(6, 42)
@@ -223,10 +235,10 @@ class Writer {
   }
 }
 
-/** Returns the error of an allocation that failed. */
+/** Returns the error of a failed allocation. */
 function noMemory (cause) { return Object.assign(ofStatus(1), { cause }) }
 
-/** Returns so many bytes, all zero. Throws NO_MEMORY if the engine can't allocate them. */
+/** Returns `size` zero bytes. Throws NO_MEMORY if the engine can't allocate them. */
 function zeros (size) {
   try {
     return new Uint8Array(size)
@@ -241,7 +253,7 @@ function checkUnicode (text) {
   if (text.isWellFormed !== undefined ? !text.isWellFormed() : LONE.test(text)) throw ofName('ENCODE_STRING')
 }
 
-/** Returns the UTF-8 of a text. Throws ENCODE_STRING if a surrogate has no partner. */
+/** Returns the UTF-8 of a string. Throws ENCODE_STRING if it has an unpaired surrogate. */
 export function utf8 (text) {
   checkUnicode(text)
   return encoder.encode(text)
@@ -250,8 +262,8 @@ export function utf8 (text) {
 const byLength = (a, b) => a.length - b.length || (a < b ? -1 : 1)
 
 /**
- * The keys by length, and by units where that is the same: the order of DAG-CBOR where all are
- * ASCII.
+ * Returns the keys sorted by length, and then by UTF-16 units. If all keys are ASCII, this is the
+ * order of DAG-CBOR.
  */
 function byUnits (keys) {
   let isSorted = true
@@ -260,13 +272,12 @@ function byUnits (keys) {
     isSorted = isSorted && byLength(before, key) < 0
     before = key
   }
-  // Those of a value that was decoded stand in order.
+  // The keys of a decoded value are usually sorted.
   return isSorted ? keys : keys.sort(byLength)
 }
 
 /**
- * The keys in the order of DAG-CBOR: by the length of their UTF-8, and by its bytes where that is
- * the same.
+ * Returns the keys in the order of DAG-CBOR: by the length of their UTF-8, and then by its bytes.
  */
 function byUtf8 (keys) {
   const pairs = keys.map((key) => [key, utf8(key)])
@@ -285,18 +296,18 @@ function isCanonicalIn (core, block) {
   throw failed(core, status)
 }
 
-// One writer serves all calls, but for those that a getter makes while it writes.
+// All calls share one writer, except calls that a getter makes while the writer is in use.
 let spare = new Writer()
 const LARGEST_SPARE = 1 << 20
 
-/** The canonical block of a value of the data model, which the core has checked to be canonical. */
+/** Encodes a value of the data model as a block, which the core checks to be canonical. */
 export function encode (value) {
   const writer = spare ?? new Writer()
   spare = undefined
   try {
     let block = writer.written(value, byUnits)
-    // Few keys are not ASCII: where the core finds one out of order the value is written again, by
-    // the bytes of its keys.
+    // Most keys are ASCII. If the core finds a key out of order, the value is written again, with
+    // its keys sorted by their bytes.
     if (!run(isCanonicalIn, block)) {
       block = writer.written(value, byUtf8)
       if (!run(isCanonicalIn, block)) throw ofName('ENCODE_UNSUPPORTED', undefined, ': the block is not canonical')

@@ -1,6 +1,5 @@
-// The package as its users call it. What is expected comes from RFC 8949, from the table of
-// multicodecs, from SHA2-256 as Node has it, and from CIDs that are known everywhere: of no bytes,
-// and of an empty map.
+// Tests the package through its public calls. The expected values come from RFC 8949, the table of
+// multicodecs, SHA2-256 in Node, and well-known CIDs of zero bytes and of an empty map.
 import assert from 'node:assert/strict'
 import { createHash } from 'node:crypto'
 import { describe, test } from 'node:test'
@@ -27,7 +26,7 @@ describe('CID', () => {
   const raw = CID.parse(EMPTY_RAW)
   const old = CID.parse(EMPTY_V0)
 
-  test('has the parts of its bytes', () => {
+  test('has the parts that its bytes encode', () => {
     assert.deepEqual([raw.version, raw.code, raw.multihash.code, raw.multihash.size], [1, 0x55, 0x12, 32])
     assert.equal(toHex(raw.multihash.digest), DIGEST)
     assert.equal(toHex(raw.multihash.bytes), '1220' + DIGEST)
@@ -55,7 +54,7 @@ describe('CID', () => {
     fails(() => CID.parse('bafkqäaa'), 'TEXT_INVALID_LETTER', 5)
   })
 
-  test('is read from bytes, all or the first', () => {
+  test('is decoded from all bytes or from the first bytes', () => {
     assert.ok(CID.decode(raw.bytes).equals(raw))
     assert.notEqual(CID.decode(raw.bytes).bytes.buffer, raw.bytes.buffer)
     for (const cid of [raw, old, CID.parse('bafkqaaa')]) {
@@ -71,7 +70,7 @@ describe('CID', () => {
     fails(() => CID.decode('bafkqaaa'), 'INPUT')
   })
 
-  test('is made of its parts', () => {
+  test('is created from its parts', () => {
     const digest = sha256.digest(new Uint8Array())
     assert.equal(String(CID.create(1, 0x55, digest)), EMPTY_RAW)
     assert.equal(String(CID.create(0, 0x70, digest)), EMPTY_V0)
@@ -101,9 +100,9 @@ describe('CID', () => {
     assert.equal(new CID(1, 0x55, digest, raw.bytes).toString(), EMPTY_RAW)
   })
 
-  test('compares, and takes the CIDs of another class for its own', () => {
-    // As the documentation of multiformats has its class, which asks the same of another copy of
-    // it.
+  test('compares with other CIDs, and accepts those of another class', () => {
+    // Like the class in the documentation of multiformats, which checks the CIDs of another copy of
+    // the package in the same way.
     class Other {
       constructor (version, code, multihash, bytes) { Object.assign(this, { version, code, multihash, bytes, '/': bytes }) }
       get asCID () { return this }
@@ -119,13 +118,12 @@ describe('CID', () => {
       assert.deepEqual(decode(encode({ cid: its, list: [its] })), { cid, list: [cid] })
       assert.equal(verify(its, new Uint8Array()), true)
     }
-    // A plain object of that shape, as a message to a worker leaves it.
+    // A plain object of that form, such as a message to a worker makes of a CID.
     const other = { code: 0x55, version: 1, multihash: raw.multihash, bytes: raw.bytes, '/': raw.bytes }
     assert.ok(raw.equals(other))
     assert.ok(CID.asCID(other) instanceof CID)
     assert.equal(CID.asCID(raw), raw)
-    // This class's own, too, as a message leaves them, and the shape of the class before that of
-    // multiformats.
+    // CIDs of this class after such a message, and CIDs of the class before that of multiformats.
     for (const cid of [raw, old]) {
       const sent = structuredClone({ list: [cid, cid] })
       assert.ok(CID.asCID(sent.list[0]).equals(cid))
@@ -159,7 +157,7 @@ describe('CID', () => {
 
 describe('values', needsTape, () => {
   const link = CID.parse('bafkqaaa')
-  // Of RFC 8949, appendix A; the links by DAG-CBOR's specification.
+  // The rows are from RFC 8949, appendix A, and for links from the specification of DAG-CBOR.
   const rows = [
     [0, '00'], [10, '0a'], [23, '17'], [24, '1818'], [100, '1864'], [1000, '1903e8'], [1000000, '1a000f4240'], [1000000000000, '1b000000e8d4a51000'],
     [18446744073709551615n, '1bffffffffffffffff'], [-18446744073709551616n, '3bffffffffffffffff'], [-1, '20'], [-10, '29'], [-100, '3863'], [-1000, '3903e7'],
@@ -171,7 +169,7 @@ describe('values', needsTape, () => {
     [link, 'd82a450001550000'], [{ '': link, é: 1, aaa: 2 }, 'a360d82a45000155000062c3a90163616161' + '02'], ['\ufeffx', '64efbbbf78'], ['a'.repeat(24), '7818' + '61'.repeat(24)]
   ]
 
-  test('are decoded and encoded as the standards have them', () => {
+  test('are decoded and encoded as in the standards', () => {
     for (const [value, bytes] of rows) {
       assert.deepEqual(decode(hex(bytes)), value, bytes)
       assert.equal(toHex(encode(value)), bytes)
@@ -179,7 +177,7 @@ describe('values', needsTape, () => {
     assert.ok(Object.is(decode(hex('fb8000000000000000')), -0))
   })
 
-  test('of each length come back', () => {
+  test('of each length are the same after encoding and decoding', () => {
     for (let length = 0; length < 70; length++) {
       const value = { ['k'.repeat(length)]: 't'.repeat(length), ['ö' + 'k'.repeat(length)]: 'ü'.repeat(length), b: new Uint8Array(length).fill(length), l: new Array(length).fill(length) }
       assert.deepEqual(decode(encode(value)), value)
@@ -188,9 +186,9 @@ describe('values', needsTape, () => {
     assert.deepEqual(decode(encode(large)), large)
   })
 
-  test('of each length in UTF-8 come back', () => {
-    // Where a head gets longer by what is not ASCII, and where an engine writes texts in another
-    // way.
+  test('of each length in UTF-8 are the same after encoding and decoding', () => {
+    // The lengths at which non-ASCII letters make a head longer, and at which an engine encodes
+    // strings differently.
     for (const letter of ['t', 'ü', '東', '\u{1f642}']) {
       for (const count of [1, 7, 8, 11, 12, 15, 16, 23, 24, 31, 32, 33, 63, 64, 84, 85, 86, 127, 128, 255, 256, 5000, 21845, 21846, 32767, 32768, 65535, 65536, 65537]) {
         const text = letter.repeat(count) + 'a'
@@ -201,13 +199,13 @@ describe('values', needsTape, () => {
       }
     }
     for (let count = 0; count < 10; count++) assert.deepEqual(decode(encode(new Array(count).fill([count]))), new Array(count).fill([count]))
-    // Integers of appendix A of RFC 8949, in a list that is no literal.
+    // Integers from RFC 8949, appendix A, in a list that is too long for an array literal.
     const integers = [-1, -100, -1000, 18446744073709551615n, -18446744073709551616n, 1000000, 9007199254740991]
     assert.deepEqual(decode(hex('87' + '20' + '3863' + '3903e7' + '1bffffffffffffffff' + '3bffffffffffffffff' + '1a000f4240' + '1b001fffffffffffff')), integers)
     assert.deepEqual(decode(encode(integers)), integers)
   })
 
-  test('deep in others come back, with what stands beside them', () => {
+  test('that nest deeply are the same after encoding and decoding, with the values next to them', () => {
     let value = { end: [] }
     for (let level = 0; level < 700; level++) value = level % 3 ? [level, value, [level], {}] : { a: value, b: [-level - 1], ['__proto__']: 'x', c: 'beside' }
     const made = decode(encode(value))
@@ -235,11 +233,13 @@ describe('values', needsTape, () => {
     assert.deepEqual([Object.keys(inner), inner.x], [['__proto__'], undefined])
   })
 
-  test('of one key in many blocks are told apart', () => {
-    // Keys that one place of the cache holds in turns, and keys of the same units but other bytes.
+  test('keep their keys when the cache has similar keys', () => {
+    // Keys that replace each other in the cache, and a key whose UTF-16 units are the bytes of
+    // another key.
     const keys = ['ab', 'ba', 'aab', 'a0b', 'é', 'Ã©', 'abcdefgh', 'abcXefgh', 'abcdXfgh', '\u0000', '']
     for (let round = 0; round < 3; round++) for (const key of keys) assert.deepEqual(Object.keys(decode(encode({ [key]: 1 }))), [key])
-    // A key whose units are the bytes of another: of so many pairs some share a place.
+    // Pairs of keys: the UTF-16 units of the first key are the bytes of the second. Among 30,000
+    // pairs, some have the same place in the cache.
     const keyOf = (key) => Object.keys(decode(Uint8Array.of(0xa1, 0x60 | Buffer.byteLength(key), ...Buffer.from(key), 1)))[0]
     for (let number = 0; number < 30000; number++) {
       const key = String.fromCharCode(0xa0 + number % 0x500, 0x61 + number % 7, 0x100 + number * 7 % 0x6ff)
@@ -248,11 +248,11 @@ describe('values', needsTape, () => {
     }
   })
 
-  test('keys stand in order, and are of the object alone', () => {
+  test('have sorted keys, which are own properties', () => {
     assert.equal(toHex(encode({ bb: 1, a: 2, ab: 3, b: 4 })), 'a4616102616204626162036262' + '6201')
-    // By UTF-8: U+FF5E comes before U+1F642, of which the first unit is lower.
+    // In the order of UTF-8, U+FF5E comes before U+1F642, whose first UTF-16 unit is lower.
     assert.deepEqual(Object.keys(decode(encode({ '\u{1f642}': 1, '\uff5ea': 2 }))), ['\u{1f642}', '\uff5ea'].sort((a, b) => Buffer.compare(Buffer.from(a), Buffer.from(b))))
-    // A value is gone through once, unless keys that aren't ASCII have another order.
+    // A value is read once, unless keys that aren't ASCII have a different order in UTF-8.
     for (const [others, last, times] of [[{ bb: 1, a: 2, ab: 3 }, 'b', 1], [{ '\u{1f642}': 1 }, '\uff5ea', 2]]) {
       let count = 0
       encode(Object.defineProperty(others, last, { get: () => ++count, enumerable: true }))
@@ -267,7 +267,7 @@ describe('values', needsTape, () => {
     assert.equal(toHex(encode(Object.assign(Object.create(null), { a: 1 }))), 'a1616101')
   })
 
-  test('that are none are rejected', () => {
+  test('outside the data model are rejected', () => {
     for (const value of [undefined, () => 1, Symbol('a'), [undefined], { a: undefined }, new Date(), new Map([[1, 2]]), new Set(), /a/]) fails(() => encode(value), 'ENCODE_UNSUPPORTED')
     for (const value of [NaN, Infinity, -Infinity, 2n ** 64n, -(2n ** 64n) - 1n]) fails(() => encode(value), 'ENCODE_NUMBER')
     fails(() => encode('a\ud800'), 'ENCODE_STRING')
@@ -278,7 +278,7 @@ describe('values', needsTape, () => {
     assert.deepEqual(encode([1]), hex('8101'), 'and the next call is as if there had been none')
   })
 
-  test('are not aliases of the input or of the memory', () => {
+  test('do not share memory with the input or the core', () => {
     const block = encode([new Uint8Array([1, 2, 3]), link])
     const [bytes, cid] = decode(block)
     block.fill(0)
@@ -292,7 +292,7 @@ describe('values', needsTape, () => {
 describe('blocks', () => {
   const link = 'd82a450001550000'
 
-  test('are checked, and errors say where', needsTape, () => {
+  test('are checked, and errors have an offset', needsTape, () => {
     assert.equal(check(hex('a0')), undefined)
     fails(() => check(hex('')), 'BLOCK_END', 0)
     fails(() => check(hex('8201')), 'BLOCK_END', 2)
@@ -311,7 +311,7 @@ describe('blocks', () => {
     fails(() => decode(undefined), 'INPUT')
   })
 
-  test('keep to limits', needsTape, () => {
+  test('are checked against limits', needsTape, () => {
     const deep = (levels) => hex('81'.repeat(levels) + '80')
     check(deep(1023))
     fails(() => check(deep(1024)), 'TOO_DEEP', 1024)
@@ -325,14 +325,14 @@ describe('blocks', () => {
     assert.equal(levels, 500000)
   })
 
-  test('are what they were when a call began', needsTape, () => {
+  test('do not change when a call makes other calls', needsTape, () => {
     const options = { get levels () { decode(encode([1, 2, 3])); return 5 }, get values () { links(hex('80')); return 9 } }
     assert.deepEqual(decode(hex('a16161820405'), options), { a: [4, 5] })
     assert.equal(isCanonical(hex('a2616202616101'), options), false)
     assert.equal(toHex(encode({ get a () { return decode(encode({ b: encode([1]) })).b } })), 'a1616142' + '8101')
   })
 
-  test('have links, in order', () => {
+  test('have links in order', () => {
     const block = hex(`83${link}a16161${link}61ff`.replace('61ff', '6178'))
     assert.deepEqual(links(block).map(String), ['bafkqaaa', 'bafkqaaa'])
     assert.equal(countLinks(block), 2)
@@ -348,7 +348,7 @@ describe('blocks', () => {
     assert.equal(links(many)[29999].bytes.buffer.byteLength, 4)
   })
 
-  test('are canonical, or made so', () => {
+  test('are canonical or can be made canonical', () => {
     assert.equal(isCanonical(hex('a2616101616202')), true)
     assert.equal(isCanonical(hex('a2616202616101')), false)
     assert.equal(toHex(canonicalize(hex('a2616202616101'))), 'a2616101616202')
@@ -357,7 +357,7 @@ describe('blocks', () => {
     assert.equal(canonicalize(hex('997530' + link.repeat(30000))).length, 240003)
   })
 
-  test('have a text in DAG-JSON, and are made of one', () => {
+  test('are converted to DAG-JSON and back', () => {
     for (const [text, block] of [
       ['null', 'f6'], ['18446744073709551615', '1bffffffffffffffff'], ['-0.0', 'fb8000000000000000'], ['"\\"é\\u001f"', '6422c3a91f'],
       ['{"/":{"bytes":"aGk"}}', '426869'], ['[{"/":"bafkqaaa"},[],{}]', '83d82a45000155000080a0'], ['{"aa":1,"b":{"/":2}}', 'a26162a1612f0262616101']
@@ -392,13 +392,13 @@ describe('blocks', () => {
 })
 
 describe('the instance', () => {
-  test('is made anew after a trap, and no call sees the old one', needsTape, () => {
+  test('is replaced after a trap, and no later call uses the old one', needsTape, () => {
     const block = encode({ a: [1, 2, 3] })
     const before = core.starts()
     let old
     fails(() => core.run((instance) => {
       old = instance
-      // An address behind the memory: what the core never makes.
+      // An address after the end of the memory. The core never returns such an address.
       instance.calls.kombilad_block_check(0xfffffff0, 100, 1, 1, instance.offsetAt)
     }), 'TRAP')
     assert.equal(core.starts(), before)
@@ -408,7 +408,7 @@ describe('the instance', () => {
     assert.equal(core.starts(), before + 1)
   })
 
-  test('is started by init, and not again by the first call', async () => {
+  test('is started by init, and is not started again by the first call', async () => {
     setMemoryLimit(0xffff0000)
     const before = core.starts()
     await Promise.all([kombilad.init(), kombilad.init()])
@@ -417,7 +417,7 @@ describe('the instance', () => {
     assert.equal(core.starts(), before + 1)
   })
 
-  test('is an error if the module can not be compiled at once', async () => {
+  test('fails to start if the module cannot be compiled synchronously', async () => {
     const { Module } = WebAssembly
     WebAssembly.Module = function () { throw new RangeError('the buffer is larger than 4KB') }
     try {
@@ -428,7 +428,7 @@ describe('the instance', () => {
     }
   })
 
-  test('keeps to a limit of memory, and goes on after it', needsTape, () => {
+  test('does not exceed a memory limit, and works after the error', needsTape, () => {
     const wide = hex('81'.repeat(200000) + '80')
     setMemoryLimit(6 << 20)
     fails(() => check(wide, { levels: Infinity }), 'NO_MEMORY')
@@ -439,7 +439,7 @@ describe('the instance', () => {
     check(wide, { levels: Infinity })
   })
 
-  test('frees what it took', needsTape, () => {
+  test('frees all that it allocates', needsTape, () => {
     for (const block of ['81'.repeat(5000) + '80', '81'.repeat(5000), 'a2616202616101', '1b00']) {
       for (const call of [check, decode, links, canonicalize, isCanonical, toJSON]) {
         try { call(hex(block), { levels: Infinity }) } catch (error) { assert.ok(error instanceof KombiladError) }
@@ -463,7 +463,7 @@ describe('dagPb.decode', () => {
     }
   }
 
-  // A plain writer, which shares nothing with the package.
+  // Encodes a node. It does not share code with the package.
   function written ({ Data, Links }, first) {
     const links = Links.map(({ Hash, Name, Tsize }) => field(18, small([
       field(10, Hash.bytes),
@@ -474,7 +474,7 @@ describe('dagPb.decode', () => {
     return small(first ? [...data, ...links] : [...links, ...data])
   }
 
-  test('has nodes in the form of @ipld/dag-pb', () => {
+  test('returns nodes in the form of @ipld/dag-pb', () => {
     assert.deepEqual([dagPb.name, dagPb.code], ['dag-pb', 0x70])
     assert.deepEqual(dagPb.decode(hex('')), { Links: [] })
     assert.deepEqual(dagPb.decode(hex('0a00')), { Data: hex(''), Links: [] })
@@ -493,7 +493,7 @@ describe('dagPb.decode', () => {
     assert.equal(node.Data.buffer.byteLength, 1, 'the data are a copy')
   })
 
-  test('says what is wrong, and where', () => {
+  test('reports errors and their offsets', () => {
     fails(() => dagPb.decode(hex('0a')), 'PB_END', 0)
     fails(() => dagPb.decode(hex('12060a0401550000' + '1800')), 'PB_UNKNOWN_FIELD', 8)
     fails(() => dagPb.decode(hex('12ffffffffffffffffff02')), 'PB_VARINT_TOO_LARGE', 0)
@@ -514,8 +514,7 @@ describe('hostile inputs', needsTape, () => {
   const hasGrowable = SharedArrayBuffer.prototype.grow !== undefined
 
   /**
-   * Leaves a secret in the buffer of the writer and in the room of the core, as an earlier call
-   * does.
+   * Leaves a secret in the buffer of the writer and in the room of the core, like an earlier call.
    */
   function leaveSecret () {
     const block = encode([SECRET.repeat(1000), new TextEncoder().encode(SECRET.repeat(1000))])
@@ -523,7 +522,7 @@ describe('hostile inputs', needsTape, () => {
     core.run((instance) => assert.ok(Buffer.from(instance.bytes.slice(instance.room, instance.room + 14010)).includes(SECRET)))
   }
 
-  /** Returns whether a result has the secret anywhere. */
+  /** Returns whether any part of a result contains the secret. */
   function tells (result) {
     if (result instanceof CID) return tells(result.bytes)
     if (result instanceof Uint8Array) return Buffer.from(result.buffer).includes(SECRET)
@@ -539,14 +538,11 @@ describe('hostile inputs', needsTape, () => {
   }
   const throwing = { get () { throw new Error('a property was read') } }
 
-  /**
-   * Makes objects of classes that override a property, and objects with such a property of their
-   * own.
-   */
+  /** Yields objects whose class overrides a property, and objects with such an own property. */
   function * liars (make) {
     for (const key of Reflect.ownKeys(lies)) {
       for (const lie of [...lies[key].map((value) => ({ get: () => value })), throwing]) {
-        // The prototype is one of a class that extends the class of the object.
+        // The prototype is like that of a class that extends the object's class.
         const input = make()
         const prototype = Object.create(Object.getPrototypeOf(input))
         yield [`${String(key)} of a class`, Object.setPrototypeOf(input, Object.defineProperty(prototype, key, lie))]
@@ -555,7 +551,7 @@ describe('hostile inputs', needsTape, () => {
     }
   }
 
-  /** Makes inputs that have these bytes, whatever their properties say. */
+  /** Yields inputs that have these bytes, even if their properties return other values. */
   function * inputs (bytes) {
     const buffer = () => bytes.buffer.slice(bytes.byteOffset, bytes.byteOffset + bytes.length)
     const filled = (made) => { new Uint8Array(made).fill(0xff); new Uint8Array(made).set(bytes, 8); return made }
@@ -598,7 +594,10 @@ describe('hostile inputs', needsTape, () => {
     }
   }
 
-  /** Makes inputs without bytes: proxies, and objects that only have the prototype. */
+  /**
+   * Yields inputs without bytes: proxies, objects that have only the prototype, and a shared
+   * buffer.
+   */
   function * others (bytes) {
     const long = { get: (target, key) => key === 'length' || key === 'byteLength' ? 200 : Reflect.get(target, key, target) }
     for (const traps of [{}, long]) {
@@ -611,7 +610,7 @@ describe('hostile inputs', needsTape, () => {
     yield ['a shared buffer', new SharedArrayBuffer(9)]
   }
 
-  /** Makes inputs whose bytes are gone. */
+  /** Yields inputs whose buffer is detached, or was resized and no longer contains them. */
   function * gone () {
     class Long extends Uint8Array { get length () { return 200 } }
     for (const View of [Uint8Array, Long, DataView, Float64Array]) {
@@ -636,7 +635,7 @@ describe('hostile inputs', needsTape, () => {
   const cid = '01551220' + sha(block)
   const withBytes = (bytes) => Object.assign(CID.parse('bafkqaaa'), { bytes })
   const parts = ({ Data, Links }) => [toHex(Data), Links]
-  // Each call, the bytes of its input, and the result that the formats say.
+  // The calls, the bytes of their inputs, and their results by the specifications of the formats.
   const calls = {
     check: [check, block, undefined],
     decode: [(input) => { const [bytes, link] = decode(input); return [toHex(bytes), toHex(link.bytes)] }, block, ['010203', '01550000']],
@@ -681,7 +680,7 @@ describe('hostile inputs', needsTape, () => {
   })
 
   test('are encoded as the bytes that they have', () => {
-    // Heads by RFC 8949, links by DAG-CBOR's specification.
+    // The heads are from RFC 8949, and the links from the specification of DAG-CBOR.
     const short = hex('80')
     const link = 'd82a582500' + cid
     for (const [call, bytes, expected] of [
@@ -731,7 +730,7 @@ describe('hostile inputs', needsTape, () => {
     assert.equal(String(proxy), EMPTY_RAW)
     assert.equal(toHex(encode(proxy)), 'd82a582500' + '01551220' + DIGEST)
     assert.ok(raw.equals(proxy) && verify(proxy, new Uint8Array()))
-    // The bytes of another class are read once: the second time they would be others.
+    // The bytes of a CID of another class are read once. Here a second read returns other bytes.
     const turns = { get bytes () { return reads++ === 0 ? raw.bytes : other }, get asCID () { return this } }
     for (const call of [(it) => toHex(CID.asCID(it).bytes), (it) => toHex(encode(it)).slice(10)]) {
       reads = 0
@@ -756,22 +755,22 @@ describe('hostile inputs', needsTape, () => {
       const bytes = list(3)
       fails(() => encode({ get a () { change(bytes.buffer); return 1 }, b: bytes }), 'INPUT')
     }
-    // The length of this one follows its buffer.
+    // The length of this array follows its buffer.
     const bytes = list()
     fails(() => decode(bytes, { get levels () { bytes.buffer.resize(2); return 9 } }), 'BLOCK_END', 2)
     fails(() => decode(bytes, { get levels () { bytes.buffer.resize(200); return 9 } }), 'BLOCK_TRAILING_BYTES', 3)
     assert.equal(toHex(encode({ get a () { bytes.buffer.resize(1); return 1 }, b: bytes })), 'a2616101616241' + '82')
-    // A buffer that is the input itself has the length that it had when the call began.
+    // If the input is a buffer, the call uses the length that the buffer had when the call began.
     const { buffer } = list()
     buffer.resize(3)
     assert.deepEqual(decode(buffer, { get levels () { buffer.resize(200); return 9 } }), [1, 2])
     fails(() => decode(buffer.resize(3) ?? buffer, { get levels () { buffer.resize(1); return 9 } }), 'INPUT')
-    // Another thread makes a shared buffer longer after its size is read.
+    // Simulates another thread that grows a shared buffer after its size is read.
     fails(() => core.run((instance) => core.place(instance, new Uint8Array(5), 3, 0)), 'TRAP')
     assert.deepEqual(decode(hex('820102')), [1, 2])
   })
 
-  test('that call again change nothing of the first call', () => {
+  test('that make another call do not change the first call', () => {
     const secret = encode([SECRET.repeat(100), { a: SECRET.repeat(9) }])
     Object.defineProperty(Object.prototype, 'hostile', { configurable: true, get: () => undefined, set () { decode(secret); encode(SECRET.repeat(100)); CID.parse(EMPTY_RAW) } })
     let made
@@ -783,7 +782,7 @@ describe('hostile inputs', needsTape, () => {
     assert.ok(!tells(made))
     assert.deepEqual(made, [{}, hex('010203'), 'a', [CID.parse('bafkqaaa')]])
     assert.equal(toHex(encode([{ get a () { return encode(SECRET.repeat(100)).length } }, { get b () { return 2 } }])), '82a161611902bfa1616202')
-    // A limit that is set while a call works holds for the next.
+    // A limit that is set during a call applies to the next call.
     Object.defineProperty(Object.prototype, 'hostile', { configurable: true, get: () => undefined, set () { setMemoryLimit(4 << 20) } })
     try {
       decode(hex('a167686f7374696c6501'))
@@ -794,7 +793,7 @@ describe('hostile inputs', needsTape, () => {
     }
   })
 
-  test('that fail half way leave nothing', () => {
+  test('that fail halfway do not affect the next call', () => {
     const throws = { get: () => { throw new Error('half way') }, enumerable: true }
     for (const value of [Object.defineProperty({ a: SECRET.repeat(100) }, 'b', throws), [SECRET, undefined], [SECRET, new Proxy(hex('01'), {})]]) {
       assert.throws(() => encode(value))
@@ -806,7 +805,7 @@ describe('hostile inputs', needsTape, () => {
     }
   })
 
-  test('for which there is no memory are an error, and the next call goes on', (context) => {
+  test('that need too much memory are an error, and the next call works', (context) => {
     const { Uint8Array } = globalThis
     const large = new Uint8Array(3 << 20)
     globalThis.Uint8Array = function () { throw new RangeError('Array buffer allocation failed') }
@@ -849,7 +848,7 @@ describe('hostile inputs', needsTape, () => {
     for (const [kind, input] of inputs(hex('01550000'))) assert.ok(await reader.has(withBytes(input)), kind)
   })
 
-  test('with a CID whose bytes are gone end a call', () => {
+  test('with a CID whose buffer is detached do not make a call hang', () => {
     const detached = CID.parse(EMPTY_RAW)
     structuredClone(detached.bytes.buffer, { transfer: [detached.bytes.buffer] })
     assert.equal(detached.code, 0)
@@ -863,7 +862,7 @@ test('the module is a codec', () => {
   assert.deepEqual([kombilad.name, kombilad.code], ['dag-cbor', 0x71])
 })
 
-test('each status has the name of the header, but for those of tapes, which the package does not write', async () => {
+test('each status has the name in the header, except those of tapes, which the package does not encode', async () => {
   const { readFile } = await import('node:fs/promises')
   if (process.env.HEADER === undefined) return
   const header = await readFile(process.env.HEADER, 'utf8')
@@ -873,7 +872,7 @@ test('each status has the name of the header, but for those of tapes, which the 
   assert.ok(statuses.length > 35)
 })
 
-test('errors say what the core has for their status', () => {
+test('errors have the sentence of the core for their status', () => {
   assert.throws(() => check(hex('a2616101616101')), { code: 'BLOCK_DUPLICATE_KEY', message: 'a map has the same key twice (at byte 4)' })
   assert.throws(() => CID.parse('bafkqaa1'), { code: 'TEXT_INVALID_LETTER', message: 'a character is not a letter of the base (at byte 7)' })
   for (const [name, status] of Object.entries(errors.statusNames)) {

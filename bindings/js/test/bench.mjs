@@ -1,7 +1,9 @@
-// The times of the package beside plain JavaScript of the same strictness, in turns, the least of
-// many runs.
+// Compares the times of the package and of an equally strict reader in plain JavaScript. They run
+// in turns, and each time is the minimum of many runs.
 //
-//     node bench.mjs PACKAGE FOLDER-OF-THE-DATA     (bench/data.py writes the data; a package that is no folder is found by its name)
+//     node bench.mjs PACKAGE FOLDER
+//
+// bench/data.py writes the data in FOLDER. If PACKAGE is not a folder, it is imported by its name.
 import { existsSync, readFileSync } from 'node:fs'
 import { deepStrictEqual } from 'node:assert'
 import { resolve } from 'node:path'
@@ -11,7 +13,7 @@ import * as plain from './plain.mjs'
 const [name, folder] = process.argv.slice(2)
 const kombilad = await import(existsSync(name) ? pathToFileURL(resolve(name, 'src/node.js')) : name)
 
-/** The microseconds of each piece of work. */
+/** Returns the minimum time of each function in microseconds. */
 function least (works, rounds = 120) {
   const times = works.map((work) => {
     const begun = performance.now()

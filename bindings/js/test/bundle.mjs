@@ -1,6 +1,6 @@
-// Bundles of bundled.js as bundlers make them: three for a browser, in Chromium, and one for Node.
+// Tests bundles of bundled.js: three for a browser, in Chromium, and one for Node.
 //
-//     node bundle.mjs FOLDER     (with the files below)
+//     node bundle.mjs FOLDER     (the folder has the files below)
 import assert from 'node:assert/strict'
 import { writeFileSync } from 'node:fs'
 import { createRequire } from 'node:module'

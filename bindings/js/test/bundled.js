@@ -1,4 +1,4 @@
-// A bundler makes one file of it and the package: bundle.mjs looks at the result.
+// A bundler makes one file from this file and the package. bundle.mjs checks the result.
 import { CID, KombiladError, decode, encode, links } from 'kombilad'
 
 const cid = CID.parse('bafyreiftoih67acderu7ozytqwpf5ftf7fr3r6r5dmquwy46nqp77cwohi')

@@ -1,4 +1,4 @@
-// CAR files, written here by hand as their specification has them:
+// Tests CAR files that are encoded here, without the package, by their specification:
 // https://ipld.io/specs/transport/car/
 import assert from 'node:assert/strict'
 import { createReadStream, mkdtempSync, rmSync, truncateSync, writeFileSync } from 'node:fs'
@@ -59,7 +59,7 @@ for (const [version, car] of [[1, one], [2, two]]) {
     assert.deepEqual((await all(await CarCIDIterator.fromBytes(car))).map(String), blocks.map(({ cid }) => String(cid)))
   })
 
-  test(`version ${version} is held in memory`, needsTape, async () => {
+  test(`version ${version} is read into memory`, needsTape, async () => {
     const reader = await CarReader.fromBytes(new Uint8Array(car))
     assert.equal(reader.version, version)
     assert.deepEqual(await reader.getRoots(), roots)
@@ -72,7 +72,7 @@ for (const [version, car] of [[1, one], [2, two]]) {
     await assert.rejects(reader.has(String(blocks[0].cid)), { code: 'INPUT' })
   })
 
-  test(`version ${version} has an index`, needsTape, async () => {
+  test(`version ${version} is indexed`, needsTape, async () => {
     for (const indexer of [await CarIndexer.fromBytes(car), await CarIndexer.fromIterable(chunks(car, 11))]) {
       assert.equal(indexer.version, version)
       assert.deepEqual(await indexer.getRoots(), roots)
@@ -88,7 +88,7 @@ for (const [version, car] of [[1, one], [2, two]]) {
     }
   })
 
-  test(`version ${version} is read from a file, a block at a time`, needsTape, async () => {
+  test(`version ${version} is read from a file one block at a time`, needsTape, async () => {
     const folder = mkdtempSync(join(tmpdir(), 'kombilad-'))
     const path = join(folder, 'blocks.car')
     try {
@@ -114,7 +114,7 @@ for (const [version, car] of [[1, one], [2, two]]) {
     }
   })
 
-  test(`version ${version} cut anywhere is read to there, or rejected`, needsTape, async () => {
+  test(`version ${version}, cut at any byte, is read up to this byte or rejected`, needsTape, async () => {
     const ends = new Set()
     let end = car.indexOf(one) + header(roots).length
     ends.add(end)
@@ -129,14 +129,14 @@ for (const [version, car] of [[1, one], [2, two]]) {
   })
 }
 
-test('of two blocks with one CID the first is found', needsTape, async () => {
+test('the first of two blocks with the same CID is found', needsTape, async () => {
   const other = new Uint8Array([1, 2, 3])
   const reader = await CarReader.fromBytes(Buffer.concat([one, framed(blocks[0].cid.bytes, other)]))
   assert.equal((await all(reader.blocks())).length, blocks.length + 1)
   assert.deepEqual(await reader.get(blocks[0].cid), blocks[0])
 })
 
-test('what the bytes come from is let go of', needsTape, async () => {
+test('the source of the bytes is closed', needsTape, async () => {
   let returned = 0
   const source = (bytes) => {
     const inner = chunks(bytes, 50)
@@ -155,7 +155,7 @@ test('what the bytes come from is let go of', needsTape, async () => {
   assert.equal(returned, 3)
 })
 
-test('what is wrong is named, with its byte', needsTape, async () => {
+test('errors have a code and an offset', needsTape, async () => {
   const fails = (car, code, offset) => assert.rejects(CarBlockIterator.fromBytes(car).then(all), (error) => {
     assert.deepEqual([error.code, error.offset], [code, offset])
     return true
@@ -177,18 +177,18 @@ test('what is wrong is named, with its byte', needsTape, async () => {
   await fails(Buffer.concat([empty, hex('040255000000')]), 'CID_UNKNOWN_VERSION', empty.length + 1)
   await fails(Buffer.concat([empty, hex('ffffffff0f')]), 'CAR_TOO_LONG', empty.length)
   await fails(Buffer.concat([hex('0aa16776657273696f6e02'), Buffer.alloc(16), words(5, 5, 0)]), 'CAR_PAYLOAD', 27)
-  // A payload of version 2 that ends within its last section, by the header.
+  // The header of version 2 ends the payload within the last section.
   const short = Buffer.from(two)
   short.writeBigUInt64LE(BigInt(one.length - 1), 11 + 24)
   await fails(short, 'CAR_UNEXPECTED_END', 60 + one.length - 1)
   await assert.rejects(CarBlockIterator.fromIterable(5), { code: 'INPUT' })
   await assert.rejects(CarBlockIterator.fromIterable(['text']), { code: 'INPUT' })
-  // Any order of the header's keys.
+  // The keys of the header may be in any order.
   const turned = framed(hex('a26776657273696f6e0165726f6f747380'))
   assert.deepEqual(await all(await CarBlockIterator.fromBytes(turned)), [])
 })
 
-test('random CARs are read as the plain reader reads them', { skip: process.env.CARS === undefined && 'CARS names no file' }, async () => {
+test('random CARs give the same results as with the plain reader', { skip: process.env.CARS === undefined && 'CARS names no file' }, async () => {
   const sizes = [1, 2, 9, 60, 300, 1 << 20]
   let count = 0
   for await (const line of createInterface({ input: createReadStream(process.env.CARS) })) {

@@ -1,4 +1,4 @@
-// Chromium without a window, by its debugging pipe; and a server of files.
+// Controls headless Chromium through its debugging pipe, and serves files.
 import { spawn } from 'node:child_process'
 import { createReadStream } from 'node:fs'
 import { mkdtemp, rm, stat } from 'node:fs/promises'
@@ -8,7 +8,7 @@ import { extname, join, normalize } from 'node:path'
 
 const TYPES = { '.html': 'text/html; charset=utf-8', '.js': 'text/javascript', '.css': 'text/css', '.wasm': 'application/wasm' }
 
-/** Serves the files of a folder, and returns where. */
+/** Serves the files of a folder. Returns the URL of the server, and a function that closes it. */
 export async function serve (folder) {
   const server = createServer(async ({ url }, response) => {
     const path = join(folder, normalize(new URL(url, 'http://x').pathname.replace(/\/$/, '/index.html')))
@@ -24,7 +24,7 @@ export async function serve (folder) {
   return { url: `http://127.0.0.1:${server.address().port}/`, close: () => server.close() }
 }
 
-/** A page of a fresh Chromium. */
+/** Opens a page in a new Chromium. */
 export async function browse (url, width = 1280, height = 1000) {
   const profile = await mkdtemp(join(tmpdir(), 'kombilad-'))
   const words = ['--headless=new', '--no-sandbox', '--disable-gpu', '--disable-dev-shm-usage', '--no-first-run', '--remote-debugging-pipe', `--user-data-dir=${profile}`, `--window-size=${width},${height}`]
@@ -61,7 +61,7 @@ export async function browse (url, width = 1280, height = 1000) {
   await call('Emulation.setDeviceMetricsOverride', { width, height, deviceScaleFactor: 1, mobile: false })
   await call('Page.navigate', { url })
 
-  /** The value of an expression in the page. */
+  /** Returns the value of an expression in the page. Throws if the expression throws. */
   async function value (expression) {
     const { result, exceptionDetails } = await call('Runtime.evaluate', { expression, awaitPromise: true, returnByValue: true })
     if (exceptionDetails) throw new Error(`${expression}: ${exceptionDetails.exception?.description ?? exceptionDetails.text}`)

@@ -1,4 +1,5 @@
-// The heap by itself, in the module that HEAP names: random blocks, with all their bytes.
+// Tests the heap without the library, in the module that HEAP names. Allocates random blocks, and
+// checks all of their bytes.
 import assert from 'node:assert/strict'
 import { readFileSync } from 'node:fs'
 import { describe, test } from 'node:test'
@@ -19,11 +20,11 @@ describe('the heap', { skip: process.env.HEAP === undefined && 'HEAP names no mo
     return { ...calls, bytes: () => new Uint8Array(memory.buffer), size: () => memory.buffer.byteLength }
   }
 
-  test('lies above the stack, so that what overflows the stack leaves the memory', () => {
+  test('is above the stack, so that a stack overflow traps', () => {
     assert.equal(start().__global_base.value, 65536)
   })
 
-  test('keeps blocks apart, aligned, and as they were written', () => {
+  test('keeps blocks separate, aligned and unchanged', () => {
     const heap = start()
     const choose = random(1)
     const blocks = new Map()
@@ -68,7 +69,7 @@ describe('the heap', { skip: process.env.HEAP === undefined && 'HEAP names no mo
     assert.ok(heap.size() < 64 * MEBIBYTE, 'what was freed is used again')
   })
 
-  test('uses again what was freed last, and all of it when none is left', () => {
+  test('reuses the last block when it is freed, and all memory when no block is left', () => {
     const heap = start()
     const first = heap.malloc(100)
     const second = heap.malloc(100)
@@ -90,7 +91,7 @@ describe('the heap', { skip: process.env.HEAP === undefined && 'HEAP names no mo
     assert.ok(bytes().length > 0)
   })
 
-  test('keeps to its bound, and says so', () => {
+  test('does not exceed its bound, and returns 0 instead', () => {
     const heap = start()
     heap.kombilad_wasm_bound(8 * MEBIBYTE)
     const held = []
@@ -110,8 +111,8 @@ describe('the heap', { skip: process.env.HEAP === undefined && 'HEAP names no mo
     for (const size of [0xffffffff, 0xfffffff0, 0x80000000]) assert.equal(heap.malloc(size), 0)
   })
 
-  test('is told by the host that there is no more memory', () => {
-    // The module's own memory ends at 16 MiB, below the bound.
+  test('returns 0 if the host has no more memory', () => {
+    // The module limits its memory to 16 MiB, which is below the bound of the heap.
     const heap = start()
     let held = 0
     while (heap.malloc(MEBIBYTE) !== 0) assert.ok(++held < 16)

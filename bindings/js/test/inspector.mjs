@@ -1,4 +1,4 @@
-// The inspector in Chromium: it opens blocks and CAR files, good and bad, and a large one.
+// Tests the inspector in Chromium with valid and invalid blocks and CAR files, and a large CAR.
 //
 //     node inspector.mjs INSPECTOR FOLDER [SCREENSHOTS]
 import assert from 'node:assert/strict'
@@ -12,7 +12,7 @@ const [inspector, folder, screenshots] = process.argv.slice(2).map((path) => res
 const MEGABYTES = Number(process.env.MEGABYTES ?? 100)
 mkdirSync(folder, { recursive: true })
 
-// ---- Files, written by hand
+// ---- Files, encoded without the package
 
 const varint = (number) => number < 128 ? [number] : [number & 127 | 128, ...varint(number >>> 7)]
 const head = (major, length) => length < 24 ? [major << 5 | length] : length < 256 ? [major << 5 | 24, length] : [major << 5 | 25, length >> 8, length & 255]
@@ -35,7 +35,7 @@ const car = Buffer.concat([
   header(cidOf(0x71, top)), ...[[0x71, top], [0x71, sorted], [0x71, post], [0x55, leaf], [0x71, bad]].map(([codec, bytes]) => framed(cidOf(codec, bytes), bytes)),
   framed(cidOf(0x55, gone.subarray(1)), gone), framed(Buffer.from([1, 0x55, 0x11, 1, 0]), leaf)
 ])
-// A node of DAG-PB with two links and data, by its fields.
+// A DAG-PB node with two links and data, field by field.
 const field = (number, content) => Buffer.concat([Buffer.from([number << 3 | 2, ...varint(content.length)]), content])
 const node = Buffer.concat([
   field(2, Buffer.concat([field(1, cidOf(0x55, leaf)), field(2, Buffer.from('leaf.txt')), Buffer.from([0x18, 21])])),
@@ -82,7 +82,8 @@ function writeLarge () {
 const server = await serve(inspector)
 const page = await browse(server.url)
 const picture = async (name) => { if (screenshots) writeFileSync(`${screenshots}/${name}.png`, await page.screenshot()) }
-// A part of the page as docs/ shows it: from the top of an element, in a window of 760 pixels.
+// Takes a picture of a part of the page for docs/: from the top of an element, in a window 760
+// pixels wide.
 const part = async (name, id, height) => {
   const window = (width) => page.call('Emulation.setDeviceMetricsOverride', { width, height: 1000, deviceScaleFactor: 1, mobile: false })
   await window(760)
@@ -98,7 +99,7 @@ try {
   await page.until("document.body.dataset.ready === 'true'")
   assert.equal(await page.value("getComputedStyle(document.getElementById('unserved')).display"), 'none')
 
-  // A CAR: what is right and wrong in it.
+  // A CAR: the numbers of its valid and invalid blocks.
   await page.choose('#file', files.car)
   await page.until("document.querySelectorAll('#list li').length === 7")
   assert.deepEqual(await Promise.all(['blocks', 'wrong digests', 'other hashes', 'not of their codec', 'keys out of order', 'missing'].map((term) => fact('facts', term))), ['7', '1', '1', '1', '1', '1'])
@@ -107,12 +108,13 @@ try {
   await page.value("(() => { const which = document.getElementById('which'); which.value = 'wrong'; which.dispatchEvent(new Event('change')) })()")
   await page.until("document.querySelectorAll('#list li').length === 1")
   assert.match(await said('list'), /wrong digest/)
-  // A number leads to what it counts.
+  // A number opens the list that it counts.
   await page.value("[...document.querySelectorAll('#facts dt')].find((it) => it.textContent === 'missing').nextElementSibling.firstChild.click()")
   await page.until("/not in the file/.test(document.getElementById('list').innerText)")
   assert.deepEqual(await page.value("[document.activeElement.id, document.activeElement.value]"), ['which', 'missing'])
 
-  // The graph: the root, what it links, and what that links, with a block that isn't there.
+  // The graph: the root, the blocks that it links to, and the blocks that these link to, including
+  // a missing block.
   await page.until("document.querySelectorAll('#drawing [role=button]').length === 4")
   assert.equal(await page.value("document.querySelectorAll('#drawing svg > path').length"), 4)
   await page.value("document.querySelector('#drawing [tabindex=\"0\"]').focus()")
@@ -127,7 +129,7 @@ try {
   await page.press('Enter')
   await page.until("document.activeElement.getAttribute('aria-label') === 'map map of 5'")
 
-  // From the root by keys to a child and back.
+  // The keyboard moves from the root to a child and back.
   await page.value("document.querySelector('#facts .link').click()")
   await page.until("document.activeElement.getAttribute('aria-label') === 'map map of 2'")
   await page.press('ArrowDown')
@@ -164,14 +166,14 @@ try {
   await page.value("document.getElementById('back').click()")
   await page.until("document.activeElement.getAttribute('aria-label') === 'map map of 2'")
 
-  // A CID by its text, and one that is none.
+  // A valid and an invalid CID as text.
   const ask = (cid) => page.value(`(() => { document.getElementById('text').value = '${cid}'; document.querySelector('#open button').click() })()`)
   await ask('QmdfTbBqBPQ7VNxZEYEj14VmRuZBkqFbiwReogJgS1zR1n')
   await page.until("document.getElementById('parts').innerText.includes('0x70 (dag-pb)')")
   await ask('bafkqaa1')
   await page.until("document.getElementById('parts').innerText.includes('TEXT_INVALID_LETTER')")
 
-  // A block, and one with an error, which is shown at its byte.
+  // A valid block, and an invalid block, whose error is shown at its byte.
   await page.choose('#file', files.block)
   await page.until("document.getElementById('facts').innerText.includes('post.cbor') && document.activeElement.getAttribute('aria-label') === 'map map of 5'")
   await page.choose('#file', files.wrong)
@@ -180,8 +182,8 @@ try {
   assert.match(await said('hex-range'), /the error is at byte 182$/)
   await part('inspector-error', 'block', 590)
 
-  // A node of DAG-PB: its links, one of which is there, and its data at their bytes; and a block
-  // that is none.
+  // A DAG-PB node: a link whose block is in the file and a link whose block isn't, and the bytes of
+  // the data. Then a block that is not a DAG-PB node.
   await page.choose('#file', files.directory)
   await page.until("document.getElementById('facts').innerText.includes('directory.car') && document.querySelectorAll('#drawing [role=button]').length === 3")
   assert.deepEqual(await Promise.all(['not of their codec', 'missing'].map((term) => fact('facts', term))), ['1', '1'])
@@ -213,7 +215,7 @@ try {
   await picture('inspector-narrow')
   await page.call('Emulation.setDeviceMetricsOverride', { width: 1280, height: 1000, deviceScaleFactor: 1, mobile: false })
 
-  // A block of a million values: the page shows its first.
+  // A block of a million values: the page shows the first 200.
   const shown = performance.now()
   await page.choose('#file', files.integers)
   await page.until("document.getElementById('facts').innerText.includes('integers.cbor') && document.activeElement.getAttribute('aria-label') === 'list list of 1000000'")
@@ -224,13 +226,13 @@ try {
   await page.value("(() => { const dataTransfer = new DataTransfer(); dataTransfer.items.add(new File([Uint8Array.of(0x82, 1, 0xf5)], 'dropped.cbor')); document.body.dispatchEvent(new DragEvent('drop', { dataTransfer, bubbles: true, cancelable: true })) })()")
   await page.until("document.getElementById('facts').innerText.includes('dropped.cbor') && document.activeElement.getAttribute('aria-label') === 'list list of 2'")
 
-  // A CAR that ends too soon.
+  // A CAR that ends too early.
   await page.choose('#file', files.cut)
   await page.until("document.getElementById('failure').innerText.includes('CAR_UNEXPECTED_END')")
   assert.equal(await fact('facts', 'blocks'), '6')
   assert.match(await said('failure'), /up to an error/)
 
-  // What has the focus has a name, for readers of the screen.
+  // Each element that can have the focus has a name, for screen readers.
   await page.choose('#file', files.car)
   await page.until("document.querySelectorAll('#list li').length === 7")
   const { nodes } = await page.call('Accessibility.getFullAXTree')
@@ -239,7 +241,8 @@ try {
     if (!ignored && focusable && role.value !== 'RootWebArea') assert.ok(name?.value, `a ${role.value} without a name`)
   }
 
-  // By the tabulator alone: what opens a file, the CID, the roots, the graph, the list.
+  // The Tab key reaches the input for files, the CID, the roots, the graph and the list, in this
+  // order.
   await page.value('document.activeElement.blur(), scrollTo(0, 0)')
   const path = []
   for (let step = 0; step < 16; step++) {
@@ -248,7 +251,7 @@ try {
   }
   assert.deepEqual(path.filter((it, at) => it !== path[at - 1]), ['file', 'text', 'open', 'summary', 'graph', 'which', 'blocks'])
 
-  // A large CAR: the page goes on meanwhile.
+  // A large CAR: the page continues to respond while the worker reads it.
   writeLarge()
   await page.value("(() => { window.gap = 0; let last = performance.now(); window.timer = setInterval(() => { const now = performance.now(); window.gap = Math.max(window.gap, now - last); last = now; if (document.getElementById('progress').value > 0) window.progressed = true }, 10) })()")
   const begin = performance.now()
@@ -268,8 +271,8 @@ try {
   server.close()
 }
 
-// Without a server the page says that it needs one. Until its style sheet is loaded all text is
-// visible.
+// Without a server the page shows that it needs a server. Until its style sheet is loaded, all text
+// is visible.
 const unserved = await browse(pathToFileURL(`${inspector}/index.html`).href)
 try {
   await unserved.until("document.readyState === 'complete' && getComputedStyle(document.getElementById('unserved')).visibility === 'visible'")

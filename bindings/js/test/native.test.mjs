@@ -1,4 +1,4 @@
-// Each call of the module as the native library does it: bindings/test/native_cases.py wrote the
+// Compares each call of the module with the native library. bindings/test/native_cases.py wrote the
 // file that CASES names.
 import assert from 'node:assert/strict'
 import { createReadStream } from 'node:fs'
@@ -10,7 +10,7 @@ const { run } = core
 const FILL = 0xa5
 const UNWRITTEN = 0x5a5a5a5a
 const WIDTHS = { link_positions: 16, pb_tape: 16, tape: 16, cid_from_text: 88, cid_of_block: 88 }
-// The calls whose only buffer is the CID of the record.
+// The calls whose only output buffer is the CID of the record.
 const IN_RECORD = ['cid_from_text', 'cid_of_block']
 
 function outcome (instance, name, data, numbers, length) {
@@ -40,7 +40,7 @@ function outcome (instance, name, data, numbers, length) {
   return [status >>> 0, instance.needed(), status === 1 ? UNWRITTEN : instance.offset(), Buffer.from(bytes.buffer, buffer, size).toString('hex')]
 }
 
-test('the module does what the native library does', { skip: process.env.CASES === undefined && 'CASES names no file' }, async () => {
+test('the module returns the same results as the native library', { skip: process.env.CASES === undefined && 'CASES names no file' }, async () => {
   const counts = {}
   const statuses = new Set()
   for await (const line of createInterface({ input: createReadStream(process.env.CASES) })) {

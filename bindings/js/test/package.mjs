@@ -1,4 +1,4 @@
-// The package that is tested: the one in the folder that PACKAGE names.
+// Loads the package under test, from the folder that PACKAGE names or from bindings/js.
 import { resolve } from 'node:path'
 import { pathToFileURL } from 'node:url'
 
@@ -6,7 +6,7 @@ const folder = resolve(process.env.PACKAGE ?? new URL('..', import.meta.url).pat
 const urlOf = (file) => pathToFileURL(`${folder}/src/${file}`)
 const load = (file) => import(urlOf(file))
 
-/** Loads a file of the package once more, with a state of its own. */
+/** Loads a file of the package again, with a separate state. */
 export const fresh = (file) => import(`${urlOf(file)}?fresh`)
 
 export const kombilad = await load('node.js')
@@ -14,7 +14,7 @@ export const core = await load('core.js')
 export const errors = await load('errors.js')
 
 /**
- * What skips a test where the library has no tapes yet, of which values and headers of CAR files
- * are made.
+ * The options that skip a test if the library does not have tapes. Values and the headers of CAR
+ * files need tapes.
  */
 export const needsTape = { skip: core.run((instance) => instance.calls.kombilad_tape === undefined) && 'the library has no tapes' }

@@ -1,6 +1,6 @@
-// A plain strict reader of DAG-CBOR in JavaScript: what `bench.mjs` measures the package beside. It
-// rejects what the core rejects, and keeps to as many levels, but says no more than that; it shares
-// nothing with the package.
+// A strict reader of DAG-CBOR in plain JavaScript, with which `bench.mjs` compares the package. It
+// rejects the same blocks as the core, and has the same limit on levels. Its errors do not have
+// offsets. It does not share code with the package.
 
 const LEVELS = 1024
 const utf8 = new TextDecoder('utf-8', { fatal: true, ignoreBOM: true })
@@ -164,10 +164,10 @@ class Reader {
   }
 }
 
-/** The value of a block. */
+/** Returns the value of a block. Throws if the block is invalid. */
 export function decode (bytes) { return new Reader(bytes, true).all() }
 
-/** The CIDs of a block's links. */
+/** Returns the CIDs of a block's links. Throws if the block is invalid. */
 export function links (bytes) {
   const reader = new Reader(bytes, false)
   reader.all()

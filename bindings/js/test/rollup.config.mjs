@@ -1,5 +1,5 @@
-// A bundle for a browser by Rollup, which bundles for Vite. It is told where a package is, as
-// @rollup/plugin-node-resolve does: Debian's package of that plugin needs Debian's own Node.
+// Makes a bundle for a browser with Rollup, which Vite uses. The plugin below finds packages, like
+// @rollup/plugin-node-resolve. Debian's package of that plugin needs Debian's own Node.
 import { readFileSync } from 'node:fs'
 import { resolve } from 'node:path'
 

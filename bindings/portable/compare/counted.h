@@ -1,5 +1,4 @@
-/* Given to the compiler of the code that allocates: allocations are counted, and one may be
- * refused. */
+/* Included before the code that allocates. Allocations are counted, and one of them may fail. */
 #ifndef COUNTED_H
 #define COUNTED_H
 

@@ -1,11 +1,12 @@
-/* Runs each case of a file, with buffers of several lengths and with each allocation refused, and
- * prints a line for each outcome: the case, the way it was run, the status, how many allocations
- * there were, and a digest of all numbers and bytes that were written.
+/* Runs each case of a file, with buffers of several lengths and with each allocation refused.
+ * Prints a line for each outcome: the case, the way it was run, the status, the number of
+ * allocations, and a digest of all numbers and bytes that were written.
  *
  * usage: drive CASES
  *
- * A case is the number of the call, four numbers of 64 bits, and two strings of bytes, each behind
- * its length and a number of times that it is repeated; all lowest byte first. */
+ * A case is the number of the call, four numbers of 64 bits, and two strings of bytes. Each string
+ * comes after its length and the number of times that it is repeated. All numbers have their lowest
+ * byte first. */
 #include "kombilad.h"
 
 #include <stdio.h>
@@ -71,7 +72,7 @@ void counted_free(void *block) {
     free(block);
 }
 
-/* ---- What an outcome has */
+/* ---- The digest of an outcome */
 
 static uint64_t digest;
 
@@ -112,14 +113,14 @@ static void note_entries(const kombilad_entry *entries, size_t count) {
     }
 }
 
-/* ---- Buffers between bytes that nothing may change */
+/* ---- Buffers between bytes that no call may change */
 
 typedef struct room {
     uint8_t *at;
     size_t size;
 } room;
 
-/* Every byte is 0x4d, so that each number in it is the same in any order of bytes. */
+/* Every byte is 0x4d, so each number in it is the same in any byte order. */
 static room make_room(size_t size) {
     room made;
     uint8_t *block = malloc(size + 2 * GUARD + (size + 2 * GUARD == 0));
@@ -172,9 +173,9 @@ static room read_bytes(void) {
 
 static size_t cut(uint64_t number) { return number > SIZE_MAX ? SIZE_MAX : (size_t)number; }
 
-/* Runs a call that walks a CAR: each section, up to the first status that isn't OK. The first number
- * of the case has whether the bytes are all, the version and the limit: a bit, 7 bits and the
- * rest. */
+/* Reads the sections of a CAR, at most 100, up to the first status that isn't OK. The lowest bit of
+ * the first number of the case is 1 if the bytes are the whole CAR. The next 7 bits are the
+ * version, and the other bits are the limit. */
 static uint32_t walk(const input *of) {
     kombilad_car_place place = {of->numbers[0] >> 1 & 127, of->numbers[1], of->numbers[2]};
     kombilad_span cid, block;
@@ -202,8 +203,8 @@ static uint32_t walk(const input *of) {
     return status;
 }
 
-/* Runs a call with a buffer of `count` bytes or records, notes what it wrote, and returns the
- * status. */
+/* Runs a call with a buffer of `count` bytes or records, adds its results to the digest, and
+ * returns the status. */
 static uint32_t run(const input *of, size_t count, size_t *needed) {
     const uint8_t *first = of->first.at;
     size_t len = of->first.size, levels = cut(of->numbers[0]), values = cut(of->numbers[1]);
@@ -380,7 +381,7 @@ static void run_case(unsigned number, const input *of) {
     }
     if (of->numbers[3]) {
 #ifdef ENCODE_COPIES
-        /* The copy of the entries would be refused first. */
+        /* The first allocation would be the copy of the entries. */
         if (of->call == ENCODE) return;
 #endif
         for (refused = 0; refused < MOST_REFUSALS; refused++) {

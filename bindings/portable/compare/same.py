@@ -4,10 +4,11 @@ every outcome.
 
 usage: same.py FOLDER LIBRARY.a [--cases COUNT [SEED]] [COMPILER..]
 
-FOLDER is what make.py wrote, and LIBRARY.a the static library of the same module. COUNT says how
-often each kind of random case is made. Outcomes are statuses, numbers, offsets, all bytes of
-buffers, the number of allocations, and that no block is left; with each allocation refused too. The
-compilers are those of compilers.py that are installed, or those that are named.
+FOLDER has the files from make.py, and LIBRARY.a is the static library of the same module. COUNT is
+the number of random cases of each kind. An outcome has the status, numbers, offsets, all bytes of
+buffers, and the number of allocations. A call must not leave an allocated block. Each case also
+runs with each allocation refused. The compilers are those of compilers.py that are installed, or
+those that are named.
 """
 
 import pathlib
@@ -25,9 +26,9 @@ from cases import CALLS  # noqa: E402
 from compilers import COMPILERS, command  # noqa: E402
 
 C = HERE.parent.parent / "c"
-# Where constant records are copied, which is one allocation more.
+# On these processors constant records are copied, which takes one more allocation.
 BIG_ENDIAN = ("s390x",)
-# How many KiB of stack the cases are given, of which some nest 1,000,000 lists.
+# The stack for the cases in KiB. Some of them nest 1,000,000 lists.
 STACK = {"gcc -O0": 256, "gcc -O2": 128, "clang -O2": 128}
 
 
@@ -36,7 +37,7 @@ class Failed(Exception):
 
 
 def run(words, **more):
-    """Returns what a command writes."""
+    """Returns the output of a command."""
     done = subprocess.run(
         list(map(str, words)), stdout=subprocess.PIPE, stderr=subprocess.PIPE, text=True, **more
     )
@@ -47,7 +48,7 @@ def run(words, **more):
 
 
 def limited(name):
-    """Returns what sets the limit of the stack in the process of the cases."""
+    """Returns a function that sets the limit of the stack in the process of the cases, or None."""
     if name not in STACK:
         return None
     size = STACK[name] << 10
@@ -64,7 +65,7 @@ def native(folder, library):
 
 
 def portable(folder, made, name):
-    """Builds the cases' program over kombilad.c; returns it, the warnings and the seconds that the
+    """Builds the cases' program over kombilad.c. Returns it, the warnings, and the seconds that the
     compiler took for kombilad.c."""
     program, code = folder / "portable", folder / "kombilad.o"
     words = command(name)
@@ -78,13 +79,13 @@ def portable(folder, made, name):
 
 
 def without_refusals(outcomes):
-    """Leaves out the outcomes of `encode` with a refused allocation."""
+    """Returns the outcomes without those of `encode` with a refused allocation."""
     call = str(CALLS.index("encode"))
     return [it for it in outcomes if it.split()[1] != call or it.split()[2] != "refused"]
 
 
 def differences(expected, found):
-    """Returns how many outcomes differ, and the first of them."""
+    """Returns the number of outcomes that differ, and lines with the first of them."""
     pairs = list(zip(expected, found))
     differ = [(old, new) for old, new in pairs if old != new]
     shown = []
@@ -95,7 +96,7 @@ def differences(expected, found):
 
 
 def compare(name, folder, made, cases, expected):
-    """Compares the outcomes of one compiler's program; returns whether all are the same."""
+    """Compares the outcomes of one compiler's program. Returns whether all are the same."""
     program, warnings, took = portable(folder, made, name)
     begun = time.monotonic()
     words = [*COMPILERS[name][2], program, cases]

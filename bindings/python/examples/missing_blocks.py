@@ -30,8 +30,8 @@ from distributed import Client, LocalCluster, as_completed
 IDENTITY = 0
 # Any free port, on the loopback address.
 HERE = "127.0.0.1:0"
-# The most CIDs of a file that wait to be sorted into parts, so that memory doesn't grow with the
-# file.
+# The maximum number of CIDs of a file that wait to be sorted into parts. So memory doesn't grow
+# with the file.
 CIDS_AT_ONCE = 1 << 20
 
 
@@ -39,7 +39,7 @@ CIDS_AT_ONCE = 1 << 20
 
 
 def links_of_block(codec, block):
-    """Returns the links of a block, or None for a codec that isn't known here."""
+    """Returns the links of a block, or None for an unknown codec."""
     if codec == kombilad.DAG_CBOR:
         return kombilad.links(block)
     if codec == kombilad.DAG_PB:
@@ -58,7 +58,7 @@ def add_links(into, links):
             into.add(bytes(cid))
 
 
-# ---- What a worker does
+# ---- The work of a worker
 
 
 def packed(cids):
@@ -103,8 +103,8 @@ class Sorter:
 
 def read_file(path, sorter):
     """
-    Sorts the CIDs of a file. Returns how many blocks were read, how many of these are of codecs
-    whose links aren't known, and the error that ended it, or None.
+    Sorts the CIDs of a file. Returns the number of blocks that were read, the number of these with
+    an unknown codec, and the error that ended it, or None.
     """
     blocks, links, count, unknown, failure = set(), set(), 0, 0, None
     try:
@@ -126,8 +126,8 @@ def read_file(path, sorter):
 
 def read_files(paths, parts, key):
     """
-    Returns the parts; how many blocks were read, how many of these are of unknown codecs, and the
-    bytes of the parts; and the errors of files.
+    Returns the parts; the number of blocks that were read, the number of these with an unknown
+    codec, and the number of bytes of the parts; and the errors of files.
     """
     sorter = Sorter(parts, key)
     counts, unknowns, failures = zip(*(read_file(path, sorter) for path in paths))
@@ -155,7 +155,7 @@ def missing_in(pieces):
     return packed(sorted(links))
 
 
-# ---- All of it
+# ---- The whole job
 
 
 def missing_blocks(client, paths, tasks, parts):
@@ -179,7 +179,7 @@ def missing_blocks(client, paths, tasks, parts):
 
 
 def taken(dask_worker):
-    """Returns the bytes that a worker got from others, and the most memory that it took, in KiB."""
+    """Returns the number of bytes that a worker received, and its peak memory in KiB."""
     with open("/proc/self/status", encoding="ascii") as status:
         most = next(line for line in status if line.startswith("VmHWM:"))
     return sum(it["total"] for it in dask_worker.transfer_incoming_log), int(most.split()[1])
@@ -241,8 +241,8 @@ def main():
         with Client(arguments.scheduler) as client:
             return print_missing(client, arguments)
     with tempfile.TemporaryDirectory() as folder:
-        # Processes of one thread that listen on the loopback address, and write to the folder if
-        # memory is short.
+        # Processes of one thread that listen on the loopback address. They write to the folder if
+        # they need more memory.
         options = {
             "host": "127.0.0.1",
             "dashboard_address": HERE,

@@ -1,6 +1,6 @@
 """
-Prints the value of the block in a file, and writes the block of a value that holds its CID to
-another.
+Prints the value of the block in a file, and writes the block of a value that contains its CID to
+another file.
 """
 
 import pathlib

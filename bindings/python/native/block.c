@@ -1,4 +1,4 @@
-/* Blocks of DAG-CBOR without their values: checks, links, the canonical form and DAG-JSON. */
+/* Calls on blocks of DAG-CBOR, except decoding: checks, links, the canonical form and DAG-JSON. */
 #include "native.h"
 
 /* A block, and its limits. */
@@ -7,7 +7,7 @@ struct asked {
     size_t levels, values;
 };
 
-/* Reads the arguments (block, levels, values). -1 with an exception. */
+/* Reads the arguments (block, levels, values). */
 static int read_asked(PyObject *arguments, const char *name, struct asked *asked) {
     PyObject *given, *levels, *values;
     if (!PyArg_UnpackTuple(arguments, name, 3, 3, &given, &levels, &values)) return -1;
@@ -30,7 +30,7 @@ static void lock(PyThreadState *saved) {
 typedef uint32_t check_call(const uint8_t *block, size_t len, size_t levels, size_t values,
                             size_t *offset);
 
-/* Returns the status of a check; -1 with an exception if the arguments are wrong. */
+/* Returns the status of a check, or -1 with an exception if the arguments are invalid. */
 static int64_t checked(PyObject *arguments, const char *name, check_call *call, size_t *offset) {
     struct asked asked;
     if (read_asked(arguments, name, &asked) < 0) return -1;
@@ -74,7 +74,8 @@ PyObject *block_count_links(PyObject *module, PyObject *arguments) {
 
 /* ---- Calls that fill a buffer */
 
-/* Fills room for so many records; `needed` is how many there are. */
+/* Fills `room`, which has space for `capacity` records. Writes the number that it needs to
+ * `needed`. */
 typedef uint32_t fill_call(const struct asked *asked, void *room, size_t capacity, size_t *needed,
                            size_t *offset);
 
@@ -108,14 +109,14 @@ static uint32_t fill_of_json(const struct asked *asked, void *room, size_t capac
                                   asked->values, room, capacity, needed, offset);
 }
 
-/* What a call filled. */
+/* The records that a call wrote. */
 struct filled {
-    void *room; /* of PyMem_Malloc */
+    void *room; /* from PyMem_Malloc */
     size_t count;
 };
 
-/* Fills room for `capacity` records of a size, or for as many as there are if that is too little. -1
- * with an exception, and then nothing is to be freed. */
+/* Allocates `capacity` records of a size, or as many as there are if that is too few, and fills
+ * them. If it fails, the caller doesn't free anything. */
 static int fill(const struct state *state, const struct asked *asked, fill_call *call, size_t size,
                 size_t capacity, struct filled *filled) {
     size_t offset = 0;
@@ -139,17 +140,17 @@ static int fill(const struct state *state, const struct asked *asked, fill_call 
     return -1;
 }
 
-/* A link with a SHA2-256 digest takes so many bytes of a block. */
+/* The number of bytes of a link with a SHA2-256 digest in a block. */
 #define USUAL_LINK 41
 #define MOST_AT_FIRST 4096
 
-/* Returns how many links there is room for at first. */
+/* Returns the number of links for which the first allocation has room. */
 static size_t usual_count(const struct asked *asked) {
     size_t count = asked->block.len / USUAL_LINK + 1;
     return count < MOST_AT_FIRST ? count : MOST_AT_FIRST;
 }
 
-/* Makes a list with an object for each record. NULL with an exception. */
+/* Returns a list with an object for each record. */
 static PyObject *list_of(const struct state *state, const struct filled *filled,
                          PyObject *object_at(const struct state *state, const void *room,
                                              size_t at)) {
@@ -204,7 +205,7 @@ PyObject *block_canonicalize(PyObject *module, PyObject *arguments) {
     struct asked asked;
     struct filled filled;
     if (read_asked(arguments, "canonicalize", &asked) < 0) return NULL;
-    /* Sorting its keys leaves a block as long as it was. */
+    /* Sorting its keys doesn't change the length of a block. */
     size_t capacity = asked.block.len > 0 ? asked.block.len : 1;
     int failed = fill(state_of(module), &asked, fill_canonical, 1, capacity, &filled);
     take_back(&asked.block);
@@ -214,7 +215,7 @@ PyObject *block_canonicalize(PyObject *module, PyObject *arguments) {
     return block;
 }
 
-/* Most texts in DAG-JSON have at most twice as many bytes as the block, and so many more. */
+/* Most texts in DAG-JSON have at most twice as many bytes as the block, and this many more. */
 #define SPARE 64
 
 PyObject *block_to_json(PyObject *module, PyObject *arguments) {

@@ -1,11 +1,11 @@
-/* CAR files: what stands before the sections, one section, and all of a file in memory. */
+/* CAR files: the header, one section, and a whole file in memory. */
 #include "native.h"
 
 #define DAG_CBOR 0x71
-/* As many roots as there is room for at once. */
+/* The number of roots for which there is room at first. */
 #define FEW_ROOTS 8
 
-/* The roots of records, as bytes. */
+/* Returns a list of the roots as bytes. */
 static PyObject *roots_of(const kombilad_cid *records, size_t len) {
     PyObject *roots = PyList_New((Py_ssize_t)len);
     for (size_t at = 0; roots != NULL && at < len; at++) {
@@ -16,8 +16,8 @@ static PyObject *roots_of(const kombilad_cid *records, size_t len) {
     return roots;
 }
 
-/* Reads the part of a CAR before its sections. Returns the status. The roots of the records, which
- * the caller frees if they are not `few`, go to `records`. */
+/* Reads the header of a CAR, up to the first section, and returns the status. Sets `records` to the
+ * roots, which the caller frees if they are not `few`. */
 static uint32_t opened(const struct lent *bytes, int is_all, size_t limit,
                        kombilad_car_place *place, kombilad_cid *few, kombilad_cid **records,
                        size_t *needed, uint64_t *more, uint64_t *offset) {
@@ -31,8 +31,9 @@ static uint32_t opened(const struct lent *bytes, int is_all, size_t limit,
                                   *records, *needed, needed, more, offset);
 }
 
-/* open_part(window, is_all, limit): of the beginning of a CAR how many bytes more are needed, or
- * (version, where the sections begin, where they end, roots as bytes). */
+/* open_part(window, is_all, limit): reads the header of a CAR that begins with the window. Returns
+ * (version, beginning of the sections, their end, roots as bytes), or the number of bytes that are
+ * needed in addition. */
 PyObject *open_part(PyObject *module, PyObject *arguments) {
     PyObject *given, *given_limit;
     struct lent window;
@@ -62,9 +63,10 @@ PyObject *open_part(PyObject *module, PyObject *arguments) {
     return found;
 }
 
-/* next_part(window, begin, is_all, limit, version, at, end): of the section that the bytes from
- * `begin` on begin with, which is at the byte `at` of the CAR, how many bytes more it needs, or the
- * CID's bytes and where in the window its data begin and end; None after the last one. */
+/* next_part(window, begin, is_all, limit, version, at, end): reads the section at `begin` in the
+ * window, which is at the byte `at` of the CAR. Returns the CID's bytes, and the beginning and the
+ * end of the data in the window. Returns the number of bytes that are needed in addition, if the
+ * window has too few. Returns None after the last section. */
 PyObject *next_part(PyObject *module, PyObject *arguments) {
     PyObject *given, *given_limit;
     struct lent window;
@@ -100,7 +102,7 @@ PyObject *next_part(PyObject *module, PyObject *arguments) {
     return found;
 }
 
-/* Compares the digest of a block with that of a CID; without the lock where that takes a while and
+/* Compares the digest of a block with that of a CID. It releases the lock if the block is large and
  * nobody can change the bytes. */
 static uint32_t compared(const uint8_t *cid, size_t cid_len, const uint8_t *block, size_t len,
                          bool immutable) {
@@ -112,7 +114,7 @@ static uint32_t compared(const uint8_t *cid, size_t cid_len, const uint8_t *bloc
     return status;
 }
 
-/* verify(cid bytes, block): None where the block has the CID's digest. */
+/* verify(cid bytes, block): returns None if the block has the CID's digest, and fails otherwise. */
 PyObject *verify(PyObject *module, PyObject *arguments) {
     PyObject *cid, *given;
     struct lent block;
@@ -132,7 +134,7 @@ PyObject *verify(PyObject *module, PyObject *arguments) {
     return NULL;
 }
 
-/* What decode_car is asked for. */
+/* The arguments of decode_car. */
 struct wanted {
     struct lent car;
     enum cid_kind kind;
@@ -140,7 +142,7 @@ struct wanted {
     int verified;
 };
 
-/* The value of a section's block: of DAG-CBOR what it decodes to, and of another codec the
+/* Returns the value of a section's block. It decodes DAG-CBOR. For another codec the value is the
  * bytes. */
 static PyObject *value_of_section(struct state *state, const struct wanted *wanted,
                                   kombilad_span cid, kombilad_span data) {
@@ -162,7 +164,7 @@ static PyObject *value_of_section(struct state *state, const struct wanted *want
     return decode_block(state, &block, wanted->kind, wanted->levels, wanted->values, data.offset);
 }
 
-/* Puts the block of each section into a dict. -1 with an exception. */
+/* Puts the value of each section's block into a dict. */
 static int all_sections(struct state *state, const struct wanted *wanted, kombilad_car_place place,
                         PyObject *blocks) {
     for (;;) {
@@ -190,8 +192,8 @@ static int all_sections(struct state *state, const struct wanted *wanted, kombil
     }
 }
 
-/* decode_car(car, cids, levels, values, verified, limit): (version, roots as bytes, blocks by
- * CID). */
+/* decode_car(car, cids, levels, values, verified, limit): returns (version, roots as bytes, values
+ * of blocks by CID). */
 PyObject *decode_car(PyObject *module, PyObject *arguments) {
     struct state *state = state_of(module);
     PyObject *given, *cids, *levels, *values, *verified, *given_limit;

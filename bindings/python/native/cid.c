@@ -1,5 +1,4 @@
-/* CIDs: the base of the class `Cid`, which holds the bytes, and the three shapes in which a link
- * comes. */
+/* CIDs: the base of the class `Cid`, which contains the bytes, and the three classes of a link. */
 #include "native.h"
 
 #include <stddef.h>
@@ -15,7 +14,7 @@ static void cid_dealloc(PyObject *self) {
     Py_DECREF(type);
 }
 
-/* Only a subclass makes instances, by `cid_of`: so that each holds the bytes of a CID. */
+/* Python code creates instances only by `cid_of`, so each contains the bytes of a CID. */
 static PyObject *cid_new(PyTypeObject *type, PyObject *arguments, PyObject *named) {
     (void)arguments;
     (void)named;
@@ -30,7 +29,7 @@ static const uint8_t *bytes_of(const struct cid *cid, size_t *len) {
     return (const uint8_t *)PyBytes_AsString(cid->bytes);
 }
 
-/* Returns the parts of a CID, which are read once. */
+/* Returns the parts of a CID. They are read at the first call. */
 static const kombilad_cid_parts *parts_of(PyObject *self) {
     struct cid *cid = (struct cid *)self;
     if (!cid->has_parts) {
@@ -61,7 +60,7 @@ static int cid_order(PyObject *a, PyObject *b) {
 static PyObject *cid_compare(PyObject *self, PyObject *other, int comparison);
 
 /* Returns whether an object is an instance of CidBytes, or of a subclass that compares as it does.
- * Before Python 3.10 only types on the heap have slots that can be asked for. */
+ * Before Python 3.10 PyType_GetSlot works only for types on the heap. */
 static bool is_cid(PyObject *object) {
     PyTypeObject *type = Py_TYPE(object);
     return (PyType_GetFlags(type) & Py_TPFLAGS_HEAPTYPE) != 0 &&
@@ -148,7 +147,7 @@ PyObject *cid_with(PyTypeObject *type, PyObject *bytes) {
     return (PyObject *)cid;
 }
 
-/* ---- The three shapes */
+/* ---- The three classes */
 
 int cid_kind_of(const struct state *state, PyObject *given, enum cid_kind *kind) {
     if (given == state->cid)
@@ -164,7 +163,7 @@ int cid_kind_of(const struct state *state, PyObject *given, enum cid_kind *kind)
     return 0;
 }
 
-/* As many characters as a CID's text has at most. */
+/* The maximum number of characters of a CID's text. */
 #define LONGEST_TEXT 173
 
 static PyObject *text_in_base(const struct state *state, const uint8_t *bytes, size_t len,
@@ -188,7 +187,7 @@ PyObject *cid_object(const struct state *state, enum cid_kind kind, const uint8_
 
 /* ---- Calls */
 
-/* cid_check(bytes): a copy of bytes that are those of a CID. */
+/* cid_check(bytes): returns a copy of the bytes if they are a CID, and fails otherwise. */
 PyObject *cid_check(PyObject *module, PyObject *given) {
     struct lent lent;
     if (lend(given, &lent) < 0) return NULL;
@@ -207,17 +206,17 @@ static PyObject *bytes_of_record(const kombilad_cid *cid) {
     return PyBytes_FromStringAndSize((const char *)cid->bytes, cid->len);
 }
 
-/* Returns how many characters begin in so many bytes of UTF-8. */
+/* Returns the number of characters that begin in these bytes of UTF-8. */
 static Py_ssize_t characters_in(const char *text, size_t len) {
     Py_ssize_t count = 0;
     for (size_t at = 0; at < len; at++) count += ((unsigned char)text[at] & 0xC0) != 0x80;
     return count;
 }
 
-/* cid_from_text(text): the bytes of the CID that a text encodes. */
+/* cid_from_text(text): returns the bytes of the CID that a text encodes. */
 PyObject *cid_from_text(PyObject *module, PyObject *text) {
     const struct state *state = state_of(module);
-    /* A lone surrogate passes, and isn't UTF-8. */
+    /* A lone surrogate is encoded, and then the library finds that it isn't UTF-8. */
     PyObject *encoded = PyUnicode_AsEncodedString(text, "utf-8", "surrogatepass");
     if (encoded == NULL) return NULL;
     const char *given = PyBytes_AsString(encoded);
@@ -236,7 +235,7 @@ PyObject *cid_from_text(PyObject *module, PyObject *text) {
     return bytes;
 }
 
-/* cid_of_block(codec, block): the bytes of the CID of a block, with its SHA2-256 digest. */
+/* cid_of_block(codec, block): returns the bytes of the CID of a block, with its SHA2-256 digest. */
 PyObject *cid_of_block(PyObject *module, PyObject *arguments) {
     (void)module;
     PyObject *given_codec, *given;
@@ -252,8 +251,8 @@ PyObject *cid_of_block(PyObject *module, PyObject *arguments) {
     return bytes_of_record(&cid);
 }
 
-/* cid_to_text(bytes, base): the text of a CID in the base of a prefix, or in its usual one if that
- * is 0. */
+/* cid_to_text(bytes, base): returns the text of a CID in the base of a prefix, or in its usual base
+ * for 0. */
 PyObject *cid_to_text(PyObject *module, PyObject *arguments) {
     PyObject *given, *given_base;
     struct lent cid;

@@ -1,21 +1,20 @@
-/* The values of a block as Python's objects, made from its tape by a loop with a stack of its
- * own. */
+/* Makes Python objects of the values of a block, from its tape, by a loop with its own stack. */
 #include <string.h>
 
 #include "native.h"
 
-/* A tape has room for an entry of 16 bytes for each byte of the block, where these are no more than
- * this many, and for a quarter of them where they are more; where that is too short, it is made
- * again as long as it has to be. */
+/* The tape of a block of at most this many bytes has room for an entry of 16 bytes for each byte.
+ * The tape of a longer block has room for an entry for every four bytes, but at least for this
+ * many. If that is too short, it is allocated again with the length that it needs. */
 #define WHOLE_TAPE ((size_t)2048)
-/* A tape of this many entries, and so many open lists and maps, stand on the C stack. */
+/* A tape of this many entries, and this many open lists and maps, are on the C stack. */
 #define SHORT_TAPE 128
 #define FEW_LEVELS 24
 
 /* A list or a map that is being filled. */
 struct open {
     PyObject *container; /* owned */
-    PyObject *key;       /* the key of the value to come, owned; NULL in a list */
+    PyObject *key;       /* the key of the next value, owned; NULL in a list */
     size_t filled, count;
 };
 
@@ -73,7 +72,7 @@ static PyObject *constant(PyObject *object) {
     return object;
 }
 
-/* The object of an entry that isn't a key; of a list or a map one that is still empty. */
+/* Returns the object of an entry that isn't a key. That of a list or a map has no values yet. */
 static PyObject *object_of(const struct state *state, const uint8_t *block,
                            const kombilad_entry *entry, enum cid_kind kind) {
     switch (entry->kind) {
@@ -98,8 +97,7 @@ static PyObject *object_of(const struct state *state, const uint8_t *block,
     }
 }
 
-/* Puts an object, which it takes over, where it belongs: into the list or the map that was opened
- * last. */
+/* Puts an object into the list or the map that was opened last. It takes the reference to it. */
 static int put(struct open *into, PyObject *object) {
     if (into->key == NULL)
         return PyList_SetItem(into->container, (Py_ssize_t)into->filled++, object);
@@ -198,7 +196,7 @@ PyObject *decode_block(struct state *state, const struct lent *block, enum cid_k
     return value;
 }
 
-/* What both calls are handed: bytes, a class for CIDs, and two limits. */
+/* The arguments of both calls: bytes, a class for CIDs, and two limits. */
 struct asked {
     struct lent block;
     enum cid_kind kind;
@@ -223,15 +221,15 @@ PyObject *decode(PyObject *module, PyObject *arguments) {
     return value;
 }
 
-/* Whether a block stands at the beginning of the bytes; then it is as long as `end` says. */
+/* Returns whether the bytes begin with a block, and then writes its length to `end`. */
 static bool ends(const uint8_t *bytes, size_t len, size_t levels, size_t values, size_t *end) {
     uint32_t status = kombilad_block_check(bytes, len, levels, values, end);
     if (status == KOMBILAD_OK) *end = len;
     return status == KOMBILAD_OK || status == KOMBILAD_BLOCK_TRAILING_BYTES;
 }
 
-/* The length of the block at the beginning of the bytes; where there is none, that of the bytes. A
- * short one is found with the lock. */
+/* Returns the length of the block with which the bytes begin, or the length of the bytes if they
+ * don't begin with one. It releases the lock only for a long block. */
 static size_t first_length(const struct lent *blocks, size_t levels, size_t values) {
     size_t end = 0;
     if (ends(blocks->bytes, blocks->len < LARGE ? blocks->len : LARGE, levels, values, &end))

@@ -1,14 +1,14 @@
-/* Python's objects as a canonical block: a plain writer with a stack of its own, whose result
- * libkombilad checks. */
+/* Encodes Python objects as a canonical block. It is a plain writer with its own stack, and
+ * libkombilad checks its result. */
 #include <stdlib.h>
 #include <string.h>
 
 #include "native.h"
 
-/* A pair of a dict. Both of its objects are owned: the collector may run in the midst of a block,
- * and code of Python's by it, which may change the dict. */
+/* A pair of a dict. It owns both objects: while a block is written, the garbage collector may run
+ * Python code that changes the dict. */
 struct pair {
-    const char *key; /* the UTF-8 of the text, which belongs to it */
+    const char *key; /* the UTF-8 of the text, which owns it */
     size_t len;
     PyObject *text, *value;
 };
@@ -16,14 +16,14 @@ struct pair {
 /* A list, a tuple or a dict that is being written. */
 struct open {
     PyObject *container; /* owned */
-    size_t at, end;      /* of a dict, of its pairs on the stack of pairs; else of its items */
+    size_t at, end;      /* indices on the stack of pairs for a dict, otherwise in the items */
     size_t first;
     PyObject *(*item)(PyObject *, Py_ssize_t); /* NULL for a dict */
 };
 
 struct writer {
     const struct state *state;
-    bool link_bytes; /* bytes that are those of a CID are written as a link */
+    bool link_bytes; /* whether bytes that are a CID are written as a link */
     size_t levels;
     uint8_t *bytes;
     size_t len, capacity;
@@ -33,7 +33,7 @@ struct writer {
     size_t paired, pair_capacity;
 };
 
-/* Makes room for `more` records of a size after those that there are. -1 with an exception. */
+/* Makes room for `more` records of a size after the first `len`. */
 static int reserve(void **records, size_t *capacity, size_t len, size_t more, size_t size) {
     if (more <= *capacity - len) return 0;
     size_t wanted = *capacity * 2 > len + more ? *capacity * 2 : len + more + 64;
@@ -55,7 +55,7 @@ static int room(struct writer *writer, size_t more) {
     return failed;
 }
 
-/* A head in its shortest form; there is room. */
+/* Writes a head in its shortest form. The caller has made room for it. */
 static void write_head(struct writer *writer, uint8_t major, uint64_t argument) {
     uint8_t *to = writer->bytes + writer->len;
     int width = argument < 24                  ? 0
@@ -97,7 +97,7 @@ static int write_link(struct writer *writer, const void *bytes, size_t len) {
 }
 
 /* Returns the keys and indexes that lead through the first `depth` open containers to the value
- * that is being written, as a tuple. NULL with an exception. */
+ * that is being written, as a tuple. */
 static PyObject *path_of(const struct writer *writer, size_t depth) {
     PyObject *path = PyTuple_New((Py_ssize_t)depth);
     for (size_t at = 0; path != NULL && at < depth; at++) {
@@ -114,7 +114,7 @@ static PyObject *path_of(const struct writer *writer, size_t depth) {
     return path;
 }
 
-/* Sets an EncodeError with this name, of an object at this depth. */
+/* Sets an EncodeError with this name, for an object at this depth. Returns -1. */
 static int rejected_at(const struct writer *writer, size_t depth, const char *name,
                        PyObject *object) {
     PyObject *path = path_of(writer, depth);
@@ -126,7 +126,7 @@ static int rejected_at(const struct writer *writer, size_t depth, const char *na
     return -1;
 }
 
-/* Sets an EncodeError with this name, of the value that is being written. */
+/* Sets an EncodeError with this name, for the value that is being written. Returns -1. */
 static int rejected(const struct writer *writer, const char *name, PyObject *object) {
     return rejected_at(writer, writer->opened, name, object);
 }
@@ -148,7 +148,7 @@ static int write_integer(struct writer *writer, PyObject *object) {
     long long number = PyLong_AsLongLongAndOverflow(object, &overflow);
     if (overflow > 0) return write_unsigned(writer, 0, object, object);
     if (overflow < 0) {
-        /* That of `int` itself, so that no subclass is asked. */
+        /* This is the method of `int`, since that of a subclass may differ. */
         Py_INCREF(object);
         PyObject *inverted = PyObject_CallMethod((PyObject *)&PyLong_Type, "__invert__", "(O)",
                                                  object);
@@ -193,7 +193,7 @@ static int write_bytes(struct writer *writer, PyObject *object) {
     return failed;
 }
 
-/* By length, and by bytes where that is the same. */
+/* Compares two pairs by the length of their keys, then by the bytes. */
 static int compare(const void *one, const void *other) {
     const struct pair *a = one, *b = other;
     if (a->len != b->len) return a->len < b->len ? -1 : 1;
@@ -257,7 +257,7 @@ static int open_dict(struct writer *writer, PyObject *object) {
     return 0;
 }
 
-/* Lets the pairs go that were gathered after the first so many. */
+/* Releases all pairs after the first ones. */
 static void drop_pairs(struct writer *writer, size_t first) {
     while (writer->paired > first) {
         const struct pair pair = writer->pairs[--writer->paired];
@@ -282,8 +282,8 @@ static int write_other(struct writer *writer, PyObject *object) {
     return rejected(writer, "TYPE", object);
 }
 
-/* Writes a value; of a list or a map its head, and opens it. The value may be borrowed from a list:
- * no code of Python's runs before it is written, opened, or held by the exception that names it. */
+/* Writes a value. For a list or a map it writes the head, and opens it. The value may be borrowed
+ * from a list: no Python code runs before it is written or opened, or an exception owns it. */
 static int write_value(struct writer *writer, PyObject *object) {
     PyTypeObject *type = Py_TYPE(object);
     if (type == &PyUnicode_Type) return write_text(writer, object);
@@ -327,7 +327,7 @@ static int write_all(struct writer *writer, PyObject *root) {
     return 0;
 }
 
-/* The bytes as an object, where the library finds that they are one canonical block. */
+/* Returns the bytes as an object if the library finds that they are one canonical block. */
 static PyObject *checked(const struct writer *writer) {
     size_t offset = 0;
     uint32_t status;

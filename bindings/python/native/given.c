@@ -1,4 +1,4 @@
-/* What Python hands in: bytes and limits; and the exceptions that it gets. */
+/* Reads bytes and limits from Python, and sets its exceptions. */
 #include "native.h"
 
 int lend(PyObject *object, struct lent *lent) {
@@ -33,7 +33,7 @@ int limit_of(PyObject *given, size_t *limit) {
     return negative < 0 ? -1 : 0;
 }
 
-/* Raises an exception that was made, or the one of making it. */
+/* Sets this exception. If creating it failed, the exception of that is set already. */
 static void set_made(PyObject *error) {
     if (error == NULL) return;
     PyErr_SetObject((PyObject *)Py_TYPE(error), error);

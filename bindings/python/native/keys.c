@@ -1,4 +1,4 @@
-/* The texts of keys, kept from one block to the next. */
+/* The strings of keys, kept from one block to the next. */
 #include <string.h>
 
 #include "native.h"
@@ -9,8 +9,8 @@ static uint64_t eight(const uint8_t *bytes) {
     return number;
 }
 
-/* Mixes the first eight bytes, the last eight and the length. Of the keys with the same two slots
- * the last two are kept. */
+/* Returns the first of a key's two slots, by its first eight bytes, its last eight and its length.
+ * The slots have the last two of the keys that share them. */
 static size_t slots_of(const uint8_t *bytes, size_t len) {
     uint64_t first = 0, last = 0;
     if (len >= 8) {

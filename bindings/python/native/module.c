@@ -7,8 +7,8 @@ struct state *state_of(PyObject *module) {
     return PyModule_GetState(module);
 }
 
-/* Whether an object is CidBytes or a subclass, so that its instances have the fields of a CID; if
- * not, with an exception. */
+/* Returns whether an object is CidBytes or a subclass, so that its instances have the fields of a
+ * CID. Otherwise it sets an exception. */
 static bool holds_bytes(const struct state *state, PyObject *type) {
     bool holds = PyType_Check(type) &&
                  PyType_IsSubtype((PyTypeObject *)type, (PyTypeObject *)state->cid_bytes);
@@ -16,8 +16,8 @@ static bool holds_bytes(const struct state *state, PyObject *type) {
     return holds;
 }
 
-/* use(cid, failed, encode_error): the classes and the function that the module needs of the
- * package. */
+/* use(cid, failed, encode_error): sets the classes and the function of the package that the module
+ * needs. */
 static PyObject *use(PyObject *module, PyObject *arguments) {
     struct state *state = state_of(module);
     PyObject *cid, *failed, *encode_error;
@@ -35,8 +35,8 @@ static PyObject *use(PyObject *module, PyObject *arguments) {
     Py_RETURN_NONE;
 }
 
-/* cid_of(class, bytes): an instance of a subclass of CidBytes with bytes that are those of a
- * CID. */
+/* cid_of(class, bytes): returns an instance of a subclass of CidBytes with these bytes, which must
+ * be a CID. */
 static PyObject *cid_of(PyObject *module, PyObject *arguments) {
     PyObject *type, *bytes;
     if (!PyArg_UnpackTuple(arguments, "cid_of", 2, 2, &type, &bytes) ||
@@ -50,10 +50,10 @@ static PyObject *cid_of(PyObject *module, PyObject *arguments) {
     return cid_with((PyTypeObject *)type, bytes);
 }
 
-/* The longest sentence of a status has fewer characters. */
+/* The sentence of any status has fewer characters than this. */
 #define LONGEST_SENTENCE 128
 
-/* status_text(status): the sentence of a status. */
+/* status_text(status): returns the sentence of a status. */
 static PyObject *status_text(PyObject *module, PyObject *given) {
     unsigned long status = PyLong_AsUnsignedLong(given);
     if (PyErr_Occurred()) return NULL;
@@ -67,7 +67,7 @@ static PyObject *status_text(PyObject *module, PyObject *given) {
     return PyUnicode_FromStringAndSize((const char *)text, (Py_ssize_t)needed);
 }
 
-/* version(): the number of libkombilad's version. */
+/* version(): returns the number of libkombilad's version. */
 static PyObject *version(PyObject *module, PyObject *nothing) {
     (void)module;
     (void)nothing;
@@ -123,7 +123,7 @@ static int execute(PyObject *module) {
     PyObject *type = PyType_FromSpec(&cid_bytes_spec);
     if (type == NULL) return -1;
     state_of(module)->cid_bytes = type;
-    /* The module takes over a reference where that succeeds. */
+    /* If it succeeds, the module takes the reference. */
     Py_INCREF(type);
     if (PyModule_AddObject(module, "CidBytes", type) == 0) return 0;
     Py_DECREF(type);

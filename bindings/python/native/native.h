@@ -1,7 +1,8 @@
-/* The values of blocks as Python's objects: what the files of this folder share.
+/* The declarations that the files of this folder share.
  *
- * It keeps to CPython's stable ABI as of 3.9, and holds the interpreter's lock but where it says
- * so. */
+ * The module uses only CPython's stable ABI as of 3.9. It holds the interpreter's lock, except in
+ * the calls of the library for which its code releases the lock. A function that fails sets an
+ * exception, and returns NULL or -1. */
 #ifndef KOMBILAD_NATIVE_H
 #define KOMBILAD_NATIVE_H
 
@@ -13,9 +14,9 @@
 
 #include <kombilad.h>
 
-/* ---- What of CPython's binary interface the headers of its stable ABI as of 3.9 leave out */
+/* ---- Parts of CPython's binary interface that its headers for the stable ABI as of 3.9 lack */
 
-/* `Py_buffer`, as the stable ABI has it since 3.11 and every version before had it. */
+/* `Py_buffer`, as the stable ABI has it since 3.11, and every version had it before. */
 struct view {
     void *buf;
     PyObject *obj;
@@ -36,26 +37,26 @@ PyAPI_FUNC(void) PyBuffer_Release(struct view *view);
 /* In the stable ABI since 3.10. The bytes belong to the text. */
 PyAPI_FUNC(const char *) PyUnicode_AsUTF8AndSize(PyObject *text, Py_ssize_t *len);
 
-/* From outside of the module only its init function and the calls of libkombilad are seen. */
+/* Only the module's init function and the calls of libkombilad are visible outside of it. */
 #ifdef __GNUC__
 #pragma GCC visibility push(hidden)
 #endif
 
 /* ---- The module's state */
 
-/* Keys that were made before, by a hash of their bytes: blocks of a kind have the same keys. */
+/* The strings of recent keys, by a hash of their bytes. Similar blocks have the same keys. */
 #define KEY_SLOTS 4096
 #define LONGEST_KEPT_KEY 64
 
 struct key_slot {
-    PyObject *text;    /* NULL, or a text that is owned */
-    const char *bytes; /* its UTF-8, which belongs to it */
+    PyObject *text;    /* NULL, or an owned string */
+    const char *bytes; /* its UTF-8, which it owns */
     size_t len;
 };
 
 struct state {
     PyObject *cid_bytes; /* the class `CidBytes` below */
-    PyObject *cid;       /* the class `Cid`, whose base that is */
+    PyObject *cid;       /* the class `Cid`, a subclass of it */
     PyObject *failed;    /* (status, place, offset) -> exception */
     PyObject *encode_error;
     struct key_slot keys[KEY_SLOTS];
@@ -65,7 +66,7 @@ struct state *state_of(PyObject *module);
 
 /* ---- CIDs */
 
-/* An instance of `CidBytes`, and of `Cid`, which adds no field. */
+/* An instance of `CidBytes`, or of `Cid`, which doesn't add a field. */
 struct cid {
     PyObject_HEAD PyObject *bytes;
     bool has_parts;
@@ -74,27 +75,27 @@ struct cid {
 
 extern PyType_Spec cid_bytes_spec;
 
-/* An instance of the type with these bytes, which are those of a CID; it takes over their
- * reference. NULL with an exception. */
+/* Returns an instance of the type with these bytes, which must be a CID. It takes the reference to
+ * them. If they are NULL, it returns NULL. */
 PyObject *cid_with(PyTypeObject *type, PyObject *bytes);
 
-/* What a link becomes: `Cid`, `str` or `bytes`. */
+/* The class of a link: `Cid`, `str` or `bytes`. */
 enum cid_kind { CID_OBJECT, CID_TEXT, CID_BYTES };
 
-/* Reads which of the three classes it is. -1 with an exception. */
+/* Writes which of the three classes an object is, or fails. */
 int cid_kind_of(const struct state *state, PyObject *given, enum cid_kind *kind);
 
-/* The CID whose bytes these are. NULL with an exception. */
+/* Returns the CID with these bytes, as an instance of a class. */
 PyObject *cid_object(const struct state *state, enum cid_kind kind, const uint8_t *bytes,
                      size_t len);
 
-/* ---- Bytes and limits that are handed in */
+/* ---- Bytes and limits from Python */
 
-/* Bytes of an object, lent until `take_back`. */
+/* The bytes of an object, borrowed until `take_back`. */
 struct lent {
     const uint8_t *bytes;
     size_t len;
-    /* Nobody can change them, so that the interpreter's lock isn't needed to read them. */
+    /* Nobody can change them, so reading them doesn't need the interpreter's lock. */
     bool immutable;
     bool viewed;
     struct view view;
@@ -103,16 +104,16 @@ struct lent {
 int lend(PyObject *object, struct lent *lent);
 void take_back(struct lent *lent);
 
-/* Of this many bytes on the interpreter's lock is released for a call of the library. */
+/* A call of the library releases the interpreter's lock for at least this many bytes. */
 #define LARGE ((size_t)65536)
 
-/* An integer of any size as the nearest limit, None as none. -1 with an exception. */
+/* Writes the limit that is nearest to an integer of any size. For None there is no limit. */
 int limit_of(PyObject *given, size_t *limit);
 
 /* Sets the exception of a status that isn't KOMBILAD_OK, with the offset in a block. */
 void set_failed(const struct state *state, uint32_t status, size_t offset);
 
-/* Sets that of a text, with the place of a character in it. */
+/* Sets the exception of a status of a text, with the index of a character in it. */
 void set_text_failed(const struct state *state, uint32_t status, Py_ssize_t place);
 
 /* ---- Calls of the module */
@@ -123,7 +124,7 @@ PyObject *cid_from_text(PyObject *module, PyObject *text);
 PyObject *cid_of_block(PyObject *module, PyObject *arguments);
 PyObject *cid_to_text(PyObject *module, PyObject *arguments);
 
-/* Calls on blocks that make no value: (block, levels, values). */
+/* Calls on blocks that don't return a value of theirs: (block, levels, values). */
 PyObject *block_check(PyObject *module, PyObject *arguments);
 PyObject *block_is_canonical(PyObject *module, PyObject *arguments);
 PyObject *block_count_links(PyObject *module, PyObject *arguments);
@@ -133,11 +134,11 @@ PyObject *block_canonicalize(PyObject *module, PyObject *arguments);
 PyObject *block_to_json(PyObject *module, PyObject *arguments);
 PyObject *block_from_json(PyObject *module, PyObject *arguments);
 
-/* The text of a key. NULL with an exception. */
+/* Returns a key as a string. */
 PyObject *key_text(struct state *state, const uint8_t *bytes, size_t len);
 
-/* The value of one block. NULL with an exception, whose offsets count from `base` bytes before the
- * block on. */
+/* Returns the value of one block. The offset of an exception counts from `base` bytes before the
+ * block. */
 PyObject *decode_block(struct state *state, const struct lent *block, enum cid_kind kind,
                        size_t levels, size_t values, size_t base);
 
@@ -149,7 +150,7 @@ PyObject *next_part(PyObject *module, PyObject *arguments);
 PyObject *verify(PyObject *module, PyObject *arguments);
 PyObject *decode_car(PyObject *module, PyObject *arguments);
 
-/* The canonical block of a value. NULL with an exception. */
+/* Returns the canonical block of a value. */
 PyObject *encode(PyObject *module, PyObject *arguments);
 
 #ifdef __GNUC__

@@ -1,10 +1,10 @@
-/* The nodes of blocks of DAG-PB as Python's objects, made from their tapes. */
+/* Makes Python objects of the nodes of blocks of DAG-PB, from their tapes. */
 #include "native.h"
 
-/* A tape of this many entries stands on the C stack. */
+/* A tape of this many entries is on the C stack. */
 #define SHORT_TAPE 128
 
-/* Puts a new object, which it takes over, under a key. */
+/* Puts a new object into a dict. It takes the reference to it. */
 static int put(PyObject *dict, const char *key, PyObject *object) {
     if (object == NULL) return -1;
     int failed = PyDict_SetItemString(dict, key, object);
@@ -12,7 +12,7 @@ static int put(PyObject *dict, const char *key, PyObject *object) {
     return failed;
 }
 
-/* A dict at the end of a list, which owns it. */
+/* Appends a new dict to a list, which owns it, and returns it. */
 static PyObject *append_dict(PyObject *list) {
     PyObject *dict = PyDict_New();
     if (dict == NULL) return NULL;

@@ -14,7 +14,7 @@ setMemoryLimit(1e8)
 const json: string = toJSON(bytes, { levels: 3 })
 const again: Uint8Array = fromJSON(json, { values: 10 }) ?? fromJSON(bytes)
 
-// A codec as multiformats takes one.
+// A codec in the form that multiformats accepts.
 interface Codec<Code extends number, T> { name: string, code: Code, encode(value: T): Uint8Array, decode(bytes: Uint8Array): T }
 const codecs: Array<Codec<0x71, unknown>> = [{ name, code, encode, decode }, dagCbor]
 
@@ -43,11 +43,11 @@ export function offset (bytes: Uint8Array): number | undefined {
 export function names (bytes: Uint8Array): string[] { return dagPb.decode(bytes).Links.map(({ Hash, Name }) => Name ?? String(Hash)) }
 
 export function rejected (): void {
-  // @ts-expect-error: no base has this name
+  // @ts-expect-error: this is not the name of a base
   cid.toString('base1')
-  // @ts-expect-error: a text is no block
+  // @ts-expect-error: a string is not a block
   links('bafkqaaa')
-  // @ts-expect-error: no error has this code
+  // @ts-expect-error: this is not the code of an error
   void (new KombiladError().code === 'UTF8')
 }
 

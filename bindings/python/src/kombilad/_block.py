@@ -15,8 +15,8 @@ def check(block: BytesLike, *, levels: int = 1024, values: Optional[int] = None)
     Traceback (most recent call last):
     kombilad.BlockError: a map has the same key twice, at byte 4
 
-    `levels` is how deep lists and maps may nest, and `values` how many values there may be. Raises
-    `LimitError` if the block exceeds a limit before its first error.
+    `levels` is the maximum depth of nested lists and maps, and `values` the maximum number of
+    values. Raises `LimitError` if the block exceeds a limit before its first error.
 
     >>> check(bytes.fromhex("818180"), levels=2)
     Traceback (most recent call last):

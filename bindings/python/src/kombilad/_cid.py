@@ -24,8 +24,8 @@ _C = TypeVar("_C", bound="Cid")
 
 
 class Cid(_native.CidBytes):
-    """A content identifier (CID) with a digest of at most 64 bytes, made of its text, of its bytes
-    or of another `Cid`.
+    """A content identifier (CID) with a digest of at most 64 bytes. It is created from its text,
+    its bytes or another `Cid`.
 
     >>> cid = Cid("bafyreigbtj4x7ip5legnfznufuopl4sg4knzc2cof6duas4b3q2fy6swua")
     >>> cid.version, hex(cid.codec), hex(cid.hash_code), len(cid.digest)
@@ -40,9 +40,9 @@ class Cid(_native.CidBytes):
     It is immutable and hashable, and is ordered by version, codec, hash code, length of the digest,
     and digest. It never equals bytes or a string. `f"{cid:base16}"` is its text in a base.
 
-    A text may be in any base of `to_text`, with or without `/ipfs/` before it. Raises `TextError`
-    for a text that isn't in such a base, and `CidError` if the bytes, or those that the text
-    encodes, are not a CID.
+    The text may be in any base of `to_text`, with or without `/ipfs/` before it. Raises `TextError`
+    if the text isn't in such a base, and `CidError` if the bytes, or those that the text encodes,
+    are not a CID.
 
     >>> Cid("bafkqaa1")
     Traceback (most recent call last):

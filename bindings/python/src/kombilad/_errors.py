@@ -1,4 +1,4 @@
-"""Why a call fails."""
+"""The exceptions of the package."""
 
 from typing import Any, Optional, Tuple, Union
 
@@ -56,15 +56,16 @@ class BlockError(KombiladError):
 
 
 class JsonError(KombiladError):
-    """The text is not DAG-JSON: the first token with an error. `offset` is the byte at fault in its
-    UTF-8. Also, with `JSON_RESERVED_MAP`, a map of a block has no DAG-JSON, and `offset` is its
+    """The text is not DAG-JSON: the first invalid token. `offset` is the byte at fault in its
+    UTF-8. With `JSON_RESERVED_MAP` a map of a block has no DAG-JSON instead, and `offset` is its
     first byte in the block.
     """
 
 
 class LimitError(KombiladError):
-    """A block or a text exceeds a limit. `offset` is the first byte of the item that does. It is None for
-    `TOO_LONG`: a string of 2^32 bytes or more, or a list or map of as many values and keys."""
+    """A block or a text exceeds a limit. `offset` is the first byte of the item that does. It is
+    None for `TOO_LONG`: a string or bytes have 2^32 bytes or more, or a list or a map has 2^32 or
+    more values and keys."""
 
 
 class CarError(KombiladError):
@@ -84,7 +85,7 @@ _NOT_ENCODED = {
 }
 
 
-# The most characters of a path in a message.
+# The maximum number of characters of a path in a message.
 _LONGEST_PATH = 200
 
 

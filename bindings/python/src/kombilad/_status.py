@@ -10,7 +10,7 @@ if TYPE_CHECKING:
 
 __all__ = ["BytesLike", "Status"]
 
-# Bytes in one piece.
+# An object with contiguous bytes.
 if sys.version_info >= (3, 12):
     from collections.abc import Buffer as BytesLike
 else:

@@ -33,9 +33,9 @@ def decode_dag_cbor(
     'bafkqaaa'
 
     Raises the errors of `check`, within the same limits: `levels` of lists and maps, and a number
-    of `values`. The value takes up to some hundred times the memory of the block. A dict has its
+    of `values`. The value takes up to about a hundred times the memory of the block. A dict has its
     keys in the order of the block. Only keys, constants and small integers may be shared between
-    places of the value.
+    parts of the value.
 
     >>> decode_dag_cbor(bytes.fromhex("8201"))
     Traceback (most recent call last):
@@ -68,8 +68,8 @@ def decode_dag_cbor_multi(
 
 def decode_dag_pb(data: BytesLike, *, cids: Type[Union[Cid, str, bytes]] = Cid) -> Dict[str, Any]:
     """Returns the node of a block of DAG-PB, in the form of the IPLD specification: a dict with
-    `Data` (bytes), if the block has data, and `Links`, a list of dicts with `Hash` and, if the link
-    has them, `Name` (str) and `Tsize` (int).
+    `Links` and, if the block has data, `Data` (bytes). `Links` is a list of dicts with `Hash` and,
+    if the link has them, `Name` (str) and `Tsize` (int).
 
     >>> decode_dag_pb(bytes.fromhex("120b 0a0401550000 120161 1801 0a0178"))
     {'Data': b'x', 'Links': [{'Hash': Cid('bafkqaaa'), 'Name': 'a', 'Tsize': 1}]}

@@ -34,7 +34,7 @@ for _public in (MultibaseError, decode_multibase, encode_multibase):
 
 
 def decode_dag_cbor(data: BytesLike) -> Any:
-    """Returns the value of a block, as `kombilad.decode_dag_cbor` with CIDs as bytes.
+    """Returns the value of a block, like `kombilad.decode_dag_cbor` with CIDs as bytes.
 
     >>> decode_dag_cbor(b"\\xa2aa\\x0cabfhello!")
     {'a': 12, 'b': 'hello!'}
@@ -43,7 +43,7 @@ def decode_dag_cbor(data: BytesLike) -> Any:
 
 
 def decode_dag_cbor_multi(data: BytesLike) -> List[Any]:
-    """Returns the values of blocks that follow one another, as `kombilad.decode_dag_cbor_multi`
+    """Returns the values of blocks that follow one another, like `kombilad.decode_dag_cbor_multi`
     with CIDs as bytes.
 
     >>> decode_dag_cbor_multi(b"\\xa2aa\\x0cabfhello!\\x82\\x00\\x01")
@@ -53,7 +53,7 @@ def decode_dag_cbor_multi(data: BytesLike) -> List[Any]:
 
 
 def encode_dag_cbor(data: Any) -> bytes:
-    """Returns the canonical block of a value, as `kombilad.encode_dag_cbor` with CIDs as bytes.
+    """Returns the canonical block of a value, like `kombilad.encode_dag_cbor` with CIDs as bytes.
 
     >>> encode_dag_cbor({"a": 12, "b": "hello!"})
     b'\\xa2aa\\x0cabfhello!'
@@ -62,7 +62,7 @@ def encode_dag_cbor(data: Any) -> bytes:
 
 
 def decode_car(data: BytesLike) -> Tuple[Dict[str, Any], Dict[bytes, Any]]:
-    """Returns the header of a CAR, and the values of its blocks by the bytes of their CIDs, as
+    """Returns the header of a CAR, and the values of its blocks by the bytes of their CIDs, like
     `kombilad.decode_car` with CIDs as bytes.
 
     >>> car = bytes.fromhex("19a265726f6f747381d82a4500015500006776657273696f6e01 0401550000 050171000001")

@@ -11,21 +11,21 @@
 #![forbid(unsafe_code)]
 #![warn(missing_docs)]
 
-/// The same CID of the crate `cid`.
+/// Converts a CID to the `Cid` of the crate `cid`.
 ///
 /// # Errors
 ///
-/// Those of `cid` where it doesn't take the bytes: a version of it that knows the codes of some
-/// hashes alone rejects the others.
+/// Returns the error of `cid` if it rejects the bytes. Versions of it that know only some hash
+/// codes reject the others.
 pub fn to_cid(cid: &kombilad::Cid) -> Result<cid::Cid, cid::Error> {
     cid::Cid::try_from(cid.as_bytes())
 }
 
-/// The same CID of this library.
+/// Converts a `Cid` of the crate `cid`.
 ///
 /// # Errors
 ///
-/// [`kombilad::CidError::DigestTooLong`] where a digest has more than 64 bytes.
+/// [`kombilad::CidError::DigestTooLong`] if the digest has more than 64 bytes.
 pub fn from_cid(cid: &cid::Cid) -> Result<kombilad::Cid, kombilad::Error> {
     kombilad::Cid::try_from(cid.to_bytes().as_slice())
 }

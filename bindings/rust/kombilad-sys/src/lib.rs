@@ -1,12 +1,16 @@
-//! The C interface of libkombilad. `kombilad.h` says what each call does, which statuses it returns
-//! and what it writes then; the crate `kombilad` is the safe one over it.
+//! The C interface of libkombilad. `kombilad.h` documents each call, the statuses that it returns,
+//! and its output with each status. The crate `kombilad` is a safe interface to it.
 //!
 //! # Safety
 //!
-//! Each pointer is to as many bytes or records as the length after it says, and where that is 0 it
-//! may be null; any other pointer is to one value. What a call writes to overlaps nothing else that
-//! is passed to it, and nobody else reads or writes it meanwhile; what it reads nobody writes
-//! meanwhile. No call keeps a pointer.
+//! - A pointer before a length points to that many bytes or records. If the length is 0, it may be
+//!   null.
+//! - Any other pointer points to one value.
+//! - Memory that a call writes to must not overlap another argument. During the call no other
+//!   thread may read or write it.
+//! - During the call no thread may write to memory that the call reads.
+//!
+//! No call keeps a pointer after it returns.
 #![no_std]
 #![warn(missing_docs)]
 #![allow(non_camel_case_types)]
@@ -15,7 +19,7 @@
 #[repr(C)]
 #[derive(Clone, Copy, Debug, PartialEq, Eq)]
 pub struct kombilad_cid {
-    /// How many bytes the CID has.
+    /// The number of bytes of the CID.
     pub len: u8,
     /// Its bytes, and zeros after them.
     pub bytes: [u8; 87],
@@ -31,29 +35,29 @@ pub struct kombilad_cid_parts {
     pub codec: u64,
     /// The code of the hash function, as in that table.
     pub hash: u64,
-    /// How many bytes the digest has.
+    /// The number of bytes of the digest.
     pub digest_len: u64,
 }
 
-/// Where the bytes of a CID stand in a block.
+/// A range of bytes, such as that of a CID in a block.
 #[repr(C)]
 #[derive(Clone, Copy, Debug, PartialEq, Eq)]
 pub struct kombilad_span {
-    /// The byte at which they begin.
+    /// The offset of the first byte.
     pub offset: u64,
-    /// How many they are.
+    /// The number of bytes.
     pub len: u64,
 }
 
-/// A value or a key of a block, by its kind. `kombilad.h` says what the two numbers are of each.
+/// A value or a key of a block. `kombilad.h` lists the meaning of the two numbers for each kind.
 #[repr(C)]
 #[derive(Clone, Copy, Debug, PartialEq, Eq)]
 pub struct kombilad_entry {
-    /// What the entry is of, from null, 0, to a key, 11.
+    /// The kind, from 0 for null to 11 for a key.
     pub kind: u32,
-    /// How many bytes the content has, or how many entries a list or a map spans.
+    /// The number of bytes of the content, or the number of entries that a list or a map spans.
     pub len: u32,
-    /// The number, the offset of the content, or how many items or pairs there are.
+    /// The number, the offset of the content, or the number of items or pairs.
     pub value: u64,
 }
 
@@ -65,22 +69,22 @@ pub struct kombilad_car_place {
     pub version: u64,
     /// The byte at which the section begins.
     pub at: u64,
-    /// The byte at which the last section ends, by the header of version 2; `u64::MAX` for version
-    /// 1.
+    /// The byte at which the last section ends, by the header of version 2. For version 1 it is
+    /// `u64::MAX`.
     pub end: u64,
 }
 
-/// The call has done what it is for.
+/// The call succeeded.
 pub const KOMBILAD_OK: u32 = 0;
 /// An allocation failed.
 pub const KOMBILAD_NO_MEMORY: u32 = 1;
-/// The buffer is too short for what it is to hold.
+/// The buffer is too short for the content.
 pub const KOMBILAD_TOO_SHORT: u32 = 2;
-/// The block is not the canonical one of its tree.
+/// The block is valid, but the keys of its maps are not in canonical order.
 pub const KOMBILAD_NOT_CANONICAL: u32 = 3;
-/// The number of a base is none of those below.
+/// The number of the base is not one of those below.
 pub const KOMBILAD_UNKNOWN_BASE: u32 = 4;
-/// A CID of version 0 has a text in base58btc alone.
+/// A CID of version 0 has a text only in base58btc.
 pub const KOMBILAD_V0_BASE: u32 = 5;
 /// Lists and maps nest deeper than the limit.
 pub const KOMBILAD_TOO_DEEP: u32 = 6;
@@ -97,7 +101,7 @@ pub const KOMBILAD_CID_END: u32 = 16;
 pub const KOMBILAD_CID_NOT_SHORTEST: u32 = 17;
 /// A varint encodes a number of 2^64 or more.
 pub const KOMBILAD_CID_VARINT_TOO_LARGE: u32 = 18;
-/// The bytes begin with the version 0, which no CID does.
+/// The bytes begin with the version 0, as no CID does.
 pub const KOMBILAD_CID_EXPLICIT_VERSION_0: u32 = 19;
 /// The version is neither 0 nor 1.
 pub const KOMBILAD_CID_UNKNOWN_VERSION: u32 = 20;
@@ -106,11 +110,11 @@ pub const KOMBILAD_CID_DIGEST_TOO_LONG: u32 = 21;
 /// More bytes follow the CID.
 pub const KOMBILAD_CID_TRAILING_BYTES: u32 = 22;
 
-/// A text is empty, or begins with no prefix of a base below.
+/// The text is empty, or doesn't begin with the prefix of a base below.
 pub const KOMBILAD_TEXT_UNKNOWN_BASE: u32 = 32;
 /// No CID has a text of this length in its base.
 pub const KOMBILAD_TEXT_INVALID_LENGTH: u32 = 33;
-/// A character is no letter of its base.
+/// A character is not a letter of its base.
 pub const KOMBILAD_TEXT_INVALID_LETTER: u32 = 34;
 /// Bits after the last byte are set.
 pub const KOMBILAD_TEXT_UNUSED_BITS: u32 = 35;
@@ -123,43 +127,43 @@ pub const KOMBILAD_TEXT_UTF8: u32 = 37;
 pub const KOMBILAD_BLOCK_END: u32 = 48;
 /// An argument is not in its shortest form.
 pub const KOMBILAD_BLOCK_NOT_SHORTEST: u32 = 49;
-/// A float of other than 64 bits, NaN or an infinity; where a block is rewritten, any float.
+/// A float of other than 64 bits, NaN or an infinity.
 pub const KOMBILAD_BLOCK_FLOAT: u32 = 50;
-/// A simple value, a tag or an indefinite length that DAG-CBOR has not.
+/// A simple value, a tag or an indefinite length that DAG-CBOR doesn't allow.
 pub const KOMBILAD_BLOCK_UNSUPPORTED: u32 = 51;
 /// A text string is not UTF-8.
 pub const KOMBILAD_BLOCK_UTF8: u32 = 52;
-/// The key of a map is no text string.
+/// The key of a map is not a text string.
 pub const KOMBILAD_BLOCK_KEY_NOT_TEXT: u32 = 53;
-/// A key stands in a map for the second time.
+/// A map has the same key twice.
 pub const KOMBILAD_BLOCK_DUPLICATE_KEY: u32 = 54;
-/// After the tag of a link there is no byte string that begins with a zero byte.
+/// The tag of a link isn't followed by a byte string that begins with a zero byte.
 pub const KOMBILAD_BLOCK_LINK_BYTES: u32 = 55;
 /// More bytes follow the item.
 pub const KOMBILAD_BLOCK_TRAILING_BYTES: u32 = 56;
 
-/// The bytes of a link in a block are no CID: the bytes end before the CID does.
+/// The bytes of a link in a block are not a CID: the bytes end before the CID does.
 pub const KOMBILAD_LINK_END: u32 = 80;
-/// The bytes of a link in a block are no CID: a varint is not in its shortest form.
+/// The bytes of a link in a block are not a CID: a varint is not in its shortest form.
 pub const KOMBILAD_LINK_NOT_SHORTEST: u32 = 81;
-/// The bytes of a link in a block are no CID: a varint encodes a number of 2^64 or more.
+/// The bytes of a link in a block are not a CID: a varint encodes a number of 2^64 or more.
 pub const KOMBILAD_LINK_VARINT_TOO_LARGE: u32 = 82;
-/// The bytes of a link in a block are no CID: the bytes begin with the version 0, which no CID
+/// The bytes of a link in a block are not a CID: the bytes begin with the version 0, as no CID
 /// does.
 pub const KOMBILAD_LINK_EXPLICIT_VERSION_0: u32 = 83;
-/// The bytes of a link in a block are no CID: the version is neither 0 nor 1.
+/// The bytes of a link in a block are not a CID: the version is neither 0 nor 1.
 pub const KOMBILAD_LINK_UNKNOWN_VERSION: u32 = 84;
-/// The bytes of a link in a block are no CID: the digest is longer than 64 bytes.
+/// The bytes of a link in a block are not a CID: the digest is longer than 64 bytes.
 pub const KOMBILAD_LINK_DIGEST_TOO_LONG: u32 = 85;
-/// The bytes of a link in a block are no CID: more bytes follow the CID.
+/// The bytes of a link in a block are not a CID: more bytes follow the CID.
 pub const KOMBILAD_LINK_TRAILING_BYTES: u32 = 86;
-/// No section is left, which is no error.
+/// No section is left, which isn't an error.
 pub const KOMBILAD_CAR_DONE: u32 = 96;
 /// The bytes, or the payload of version 2, end before a header or a section does.
 pub const KOMBILAD_CAR_UNEXPECTED_END: u32 = 97;
 /// The varint before a header or a section is not in its shortest form.
 pub const KOMBILAD_CAR_LENGTH_NOT_SHORTEST: u32 = 98;
-/// It encodes a number of 2^64 or more.
+/// The varint before a header or a section encodes a number of 2^64 or more.
 pub const KOMBILAD_CAR_LENGTH_TOO_LARGE: u32 = 99;
 /// A header or a section has the length zero.
 pub const KOMBILAD_CAR_EMPTY: u32 = 100;
@@ -171,19 +175,19 @@ pub const KOMBILAD_CAR_NOT_A_HEADER: u32 = 102;
 pub const KOMBILAD_CAR_PAYLOAD: u32 = 103;
 /// The bytes end before the payload of version 2 does.
 pub const KOMBILAD_CAR_SHORT_PAYLOAD: u32 = 104;
-/// The CID's hash function is neither SHA2-256, SHA2-512 nor identity.
+/// The hash function of the CID is not SHA2-256, SHA2-512 or identity.
 pub const KOMBILAD_UNKNOWN_HASH: u32 = 112;
 /// The block has another digest.
 pub const KOMBILAD_WRONG_DIGEST: u32 = 113;
-/// There is no entry where a value or a key is to stand.
+/// A value or a key is missing.
 pub const KOMBILAD_TAPE_MISSING: u32 = 128;
 /// More entries follow than the list, the map or the tape has values or pairs.
 pub const KOMBILAD_TAPE_LEFT_OVER: u32 = 129;
-/// The kind is none, or a key where a value is to stand, or none where a key is to stand.
+/// The kind is unknown, a key instead of a value, or a value instead of a key.
 pub const KOMBILAD_TAPE_KIND: u32 = 130;
-/// A list or a map spans no entry, or more than there are in what it stands in.
+/// A list or a map spans zero entries, or more than its container has left.
 pub const KOMBILAD_TAPE_SPAN: u32 = 131;
-/// The length or the value is none that an entry of its kind has.
+/// The length or the value is invalid for the kind of the entry.
 pub const KOMBILAD_TAPE_FIELDS: u32 = 132;
 /// The content is not within the data.
 pub const KOMBILAD_TAPE_CONTENT: u32 = 133;
@@ -191,15 +195,15 @@ pub const KOMBILAD_TAPE_CONTENT: u32 = 133;
 pub const KOMBILAD_TAPE_UTF8: u32 = 134;
 /// A float is NaN or an infinity.
 pub const KOMBILAD_TAPE_FLOAT: u32 = 135;
-/// A key is one of those before it in its map.
+/// A map has the same key twice.
 pub const KOMBILAD_TAPE_DUPLICATE_KEY: u32 = 137;
-/// The bytes end before a field of a node of DAG-PB does, those of the block or those of a link.
+/// The bytes of the node of DAG-PB, or of one of its links, end before the field does.
 pub const KOMBILAD_PB_END: u32 = 144;
 /// A varint encodes a number of 2^64 or more, or has more than ten bytes.
 pub const KOMBILAD_PB_VARINT_TOO_LARGE: u32 = 145;
-/// A field that DAG-PB doesn't have there.
+/// DAG-PB doesn't allow the number and wire type of a field there.
 pub const KOMBILAD_PB_UNKNOWN_FIELD: u32 = 146;
-/// A field comes twice or out of order, or links stand before the data and after it.
+/// A field comes twice or out of order, or links come both before and after the data.
 pub const KOMBILAD_PB_FIELD_ORDER: u32 = 147;
 /// A link does not begin with its hash.
 pub const KOMBILAD_PB_NO_HASH: u32 = 148;
@@ -228,7 +232,7 @@ pub const KOMBILAD_JSON_RESERVED_MAP: u32 = 169;
 /// More bytes of a CAR are needed.
 pub const KOMBILAD_CAR_MORE: u32 = 176;
 
-/// The text of a CID, base32 in lower case of version 1, base58btc of version 0.
+/// Base32 in lower case for a CID of version 1, and base58btc for one of version 0.
 pub const KOMBILAD_BASE_USUAL: u32 = 0;
 /// Base16: hexadecimal digits, lower case.
 pub const KOMBILAD_BASE16: u32 = b'f' as u32;
@@ -244,22 +248,22 @@ pub const KOMBILAD_BASE58BTC: u32 = b'z' as u32;
 pub const KOMBILAD_BASE64URL: u32 = b'u' as u32;
 
 extern "C" {
-    /// Writes what a status reports: a sentence of at most 80 bytes, in ASCII.
+    /// Writes the sentence of a status, at most 80 bytes of ASCII.
     pub fn kombilad_status_text(
         status: u32,
         text: *mut u8,
         text_len: usize,
         needed: *mut usize,
     ) -> u32;
-    /// Checks that the bytes are those of a CID, all of them.
+    /// Checks that the bytes are a CID, with nothing after it.
     pub fn kombilad_cid_check(bytes: *const u8, len: usize) -> u32;
-    /// Reads the parts of the CID that the bytes are.
+    /// Writes the parts of a CID.
     pub fn kombilad_cid_parts_of(
         bytes: *const u8,
         len: usize,
         parts: *mut kombilad_cid_parts,
     ) -> u32;
-    /// Writes the text of the CID that the bytes are, in a base.
+    /// Writes the text of a CID in a base.
     pub fn kombilad_cid_to_text(
         bytes: *const u8,
         len: usize,
@@ -268,14 +272,14 @@ extern "C" {
         text_len: usize,
         needed: *mut usize,
     ) -> u32;
-    /// Reads the CID that a text names.
+    /// Reads the text of a CID.
     pub fn kombilad_cid_from_text(
         text: *const u8,
         len: usize,
         cid: *mut kombilad_cid,
         place: *mut usize,
     ) -> u32;
-    /// Makes the CID of a block: version 1, its SHA2-256 digest.
+    /// Writes the CID of a block: version 1, with this codec and the block's SHA2-256 digest.
     pub fn kombilad_cid_of_block(codec: u64, block: *const u8, len: usize, cid: *mut kombilad_cid);
 
     /// Checks that the bytes are one block.
@@ -294,8 +298,8 @@ extern "C" {
         values: usize,
         offset: *mut usize,
     ) -> u32;
-    /// Rewrites the block in canonical form: the keys of each map in order, and all else as it
-    /// stands.
+    /// Writes the block in canonical form: with the keys of each map sorted, and otherwise
+    /// unchanged.
     pub fn kombilad_block_canonicalize(
         block: *const u8,
         len: usize,
@@ -348,7 +352,7 @@ extern "C" {
         needed: *mut usize,
         offset: *mut usize,
     ) -> u32;
-    /// Lists where the CIDs of the block's links stand in it.
+    /// Lists the positions of the CIDs of the block's links.
     pub fn kombilad_link_positions(
         block: *const u8,
         len: usize,
@@ -370,8 +374,8 @@ extern "C" {
         needed: *mut usize,
         offset: *mut usize,
     ) -> u32;
-    /// Writes the canonical block of the value that entries describe, over the data to which they
-    /// refer.
+    /// Writes the canonical block of the value that the entries describe. The data has their
+    /// content.
     pub fn kombilad_encode(
         entries: *const kombilad_entry,
         entries_len: usize,
@@ -406,7 +410,7 @@ extern "C" {
         more: *mut u64,
         offset: *mut u64,
     ) -> u32;
-    /// Finds the section at a place of a CAR, whose bytes begin with these from there on.
+    /// Reads the section at a place of a CAR. The CAR's bytes from there on begin with these.
     pub fn kombilad_car_next_part(
         bytes: *const u8,
         len: usize,
@@ -421,6 +425,7 @@ extern "C" {
     /// Compares the digest of a block with that of a CID.
     pub fn kombilad_verify(cid: *const u8, cid_len: usize, block: *const u8, len: usize) -> u32;
 
-    /// The version: 65,536 times the major number, 256 times the minor one, and the patch.
+    /// Returns the version: 65,536 times the major number, plus 256 times the minor, plus the
+    /// patch.
     pub fn kombilad_version() -> u32;
 }

@@ -1,5 +1,5 @@
-//! Prints the items of the block in a file, and a struct that holds its CID, written as a block and
-//! read from it.
+//! Prints the items of the block in a file. Then encodes a struct that has the block's CID, decodes
+//! it and prints it.
 
 use std::error::Error;
 use std::{env, fs};

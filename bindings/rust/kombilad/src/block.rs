@@ -9,14 +9,14 @@ use crate::ffi;
 use crate::ipld::Ipld;
 use crate::tape::Tape;
 
-/// As many bytes as a link of a CID with a SHA2-256 digest takes in a block. Most links take that,
-/// or more.
+/// The number of bytes in a block that a link to a CID with a SHA2-256 digest takes. Most links
+/// take as many or more.
 const USUAL_LINK: usize = 41;
 
-/// As many links as there is room for from the start, at most.
+/// The maximum number of links that the first allocation has room for.
 const MOST_AT_FIRST: usize = 4096;
 
-/// How large an untrusted block may be: what is done with one, within limits.
+/// Limits for untrusted blocks, and the calls that read a block within them.
 ///
 /// ```
 /// use kombilad::{Error, Limits};
@@ -28,28 +28,29 @@ const MOST_AT_FIRST: usize = 4096;
 ///
 /// # Errors
 ///
-/// Of each call [`Error::TooDeep`] and [`Error::TooMany`] where a limit is passed, [`Error::Block`]
-/// with the first error from the left, and [`Error::OutOfMemory`]. Where the bytes pass a limit and
-/// have an error, what comes first in them decides.
+/// Each call returns [`Error::TooDeep`] or [`Error::TooMany`] if the block exceeds a limit,
+/// [`Error::Block`] with the leftmost error if it is invalid, and [`Error::OutOfMemory`] if an
+/// allocation fails. If the bytes exceed a limit and have an error, the first of the two is
+/// returned.
 #[derive(Clone, Copy, Debug, PartialEq, Eq)]
 pub struct Limits {
-    /// How deep lists and maps may nest: 0 for neither, 1 for a list or a map of other values, and
-    /// so on.
+    /// The maximum depth of nested lists and maps. With 0 the block is neither, and with 1 it may
+    /// be a list or a map of other values.
     pub levels: usize,
-    /// How many values there may be: the block's own, and each item of a list and each value of a
-    /// map in it.
+    /// The maximum number of values: the block itself, the items of its lists and the values of its
+    /// maps.
     pub values: usize,
 }
 
 impl Default for Limits {
-    /// 1,024 levels, and any number of values.
+    /// Returns limits of 1,024 levels and any number of values.
     fn default() -> Self {
         Limits { levels: 1024, values: usize::MAX }
     }
 }
 
 impl Limits {
-    /// The values of a block, where they stand in it.
+    /// Returns the tape of a block, which reads its values in place.
     ///
     /// # Errors
     ///
@@ -58,7 +59,7 @@ impl Limits {
         Tape::within(self.of(block))
     }
 
-    /// The value of a block as a tree, which nests at most [`Ipld::LEVELS`] deep.
+    /// Decodes a block to a tree, which nests at most [`Ipld::LEVELS`] deep.
     ///
     /// # Errors
     ///
@@ -81,7 +82,7 @@ impl Limits {
         self.of(block).check().map_err(Error::of_block)
     }
 
-    /// How many links a block has.
+    /// Counts the links of a block.
     ///
     /// # Errors
     ///
@@ -90,9 +91,10 @@ impl Limits {
         self.of(block).count_links().map_err(Error::of_block)
     }
 
-    /// The links of a block, in the order of its bytes, each as often as it stands there. It
-    /// allocates once, here, unless there are more links than the block would have room for if each
-    /// had a SHA2-256 digest, or more than 4,096.
+    /// Returns the links of a block in the order of its bytes, with repeats.
+    ///
+    /// The result is allocated only once if the block has at most 4,096 links, and at most one for
+    /// every 41 bytes, the length of a link with a SHA2-256 digest.
     ///
     /// # Errors
     ///
@@ -102,7 +104,7 @@ impl Limits {
         Ok(Links(found.into_iter()))
     }
 
-    /// Where the CIDs of a block's links stand in it, in the order of its bytes.
+    /// Returns the positions of the CIDs of a block's links, in the order of its bytes.
     ///
     /// # Errors
     ///
@@ -111,8 +113,8 @@ impl Limits {
         self.of(block).link_positions(capacity_for(block)).map_err(Error::of_block)
     }
 
-    /// Whether a block is in canonical form: whether the keys of each map come by their length, and
-    /// by their bytes where that is the same.
+    /// Returns whether a block is in canonical form: whether the keys of each map are sorted by
+    /// length, then by bytes.
     ///
     /// # Errors
     ///
@@ -121,7 +123,8 @@ impl Limits {
         self.of(block).is_canonical().map_err(Error::of_block)
     }
 
-    /// The same block in canonical form: the keys of each map in order, and all else as it stands.
+    /// Returns a block in canonical form: with the keys of each map sorted, and otherwise
+    /// unchanged.
     ///
     /// # Errors
     ///
@@ -130,8 +133,8 @@ impl Limits {
         self.of(block).canonicalize().map_err(Error::of_block)
     }
 
-    /// The DAG-JSON of a block: without blanks, and with the keys of each object in the order of
-    /// their bytes.
+    /// Converts a block to DAG-JSON, without blanks, and with the keys of each object in the order
+    /// of their bytes.
     ///
     /// # Errors
     ///
@@ -140,9 +143,9 @@ impl Limits {
         self.of(block).to_json().map_err(Error::of_block)
     }
 
-    /// The canonical block of a text in DAG-JSON, which may have blanks, and the keys of an object in
-    /// any order. The limits count the arrays, objects and values of the text, so a link is two
-    /// values.
+    /// Converts DAG-JSON to its canonical block. The text may have blanks, and the keys of an
+    /// object in any order. The limits count the arrays, objects and values of the text, so a link
+    /// is two values.
     ///
     /// # Errors
     ///
@@ -174,8 +177,8 @@ pub fn check(block: &[u8]) -> Result<(), Error> {
     Limits::default().check(block)
 }
 
-/// How many links a block has: [`Limits::count_links`] within the default limits. It makes none of
-/// them.
+/// Counts the links of a block without collecting them: [`Limits::count_links`] within the default
+/// limits.
 ///
 /// ```
 /// assert_eq!(kombilad::count_links(b"\x82\xd8\x2a\x45\0\x01\x55\0\0\x01"), Ok(1));
@@ -188,8 +191,8 @@ pub fn count_links(block: &[u8]) -> Result<usize, Error> {
     Limits::default().count_links(block)
 }
 
-/// The links of a block, in the order of its bytes, each as often as it stands there:
-/// [`Limits::links`] within the default limits.
+/// Returns the links of a block in the order of its bytes, with repeats: [`Limits::links`] within
+/// the default limits.
 ///
 /// ```
 /// let links = kombilad::links(b"\x81\xd8\x2a\x45\0\x01\x55\0\0")?;
@@ -204,8 +207,8 @@ pub fn links(block: &[u8]) -> Result<Vec<Cid>, Error> {
     Ok(Links::of(block)?.collect())
 }
 
-/// Where the CIDs of a block's links stand in it: [`Limits::link_positions`] within the default
-/// limits.
+/// Returns the positions of the CIDs of a block's links: [`Limits::link_positions`] within the
+/// default limits.
 ///
 /// ```
 /// let block = b"\x81\xd8\x2a\x45\0\x01\x55\0\0";
@@ -222,7 +225,8 @@ pub fn link_positions(block: &[u8]) -> Result<Vec<Range<usize>>, Error> {
     Limits::default().link_positions(block)
 }
 
-/// Whether a block is in canonical form: [`Limits::is_canonical`] within the default limits.
+/// Returns whether a block is in canonical form: [`Limits::is_canonical`] within the default
+/// limits.
 ///
 /// ```
 /// assert_eq!(kombilad::is_canonical(b"\xa2\x61b\x01\x62aa\x02"), Ok(true));
@@ -236,7 +240,7 @@ pub fn is_canonical(block: &[u8]) -> Result<bool, Error> {
     Limits::default().is_canonical(block)
 }
 
-/// The same block in canonical form: [`Limits::canonicalize`] within the default limits.
+/// Returns a block in canonical form: [`Limits::canonicalize`] within the default limits.
 ///
 /// ```
 /// assert_eq!(kombilad::canonicalize(b"\xa2\x62aa\x02\x61b\x01")?, b"\xa2\x61b\x01\x62aa\x02");
@@ -250,7 +254,7 @@ pub fn canonicalize(block: &[u8]) -> Result<Vec<u8>, Error> {
     Limits::default().canonicalize(block)
 }
 
-/// The DAG-JSON of a block: [`Limits::to_json`] within the default limits.
+/// Converts a block to DAG-JSON: [`Limits::to_json`] within the default limits.
 ///
 /// ```
 /// let block = b"\xa2\x61b\xfb\x3f\xf8\0\0\0\0\0\0\x61a\xd8\x2a\x45\0\x01\x55\0\0";
@@ -265,7 +269,7 @@ pub fn to_json(block: &[u8]) -> Result<String, Error> {
     Limits::default().to_json(block)
 }
 
-/// The canonical block of a text in DAG-JSON: [`Limits::from_json`] within the default limits.
+/// Converts DAG-JSON to its canonical block: [`Limits::from_json`] within the default limits.
 ///
 /// ```
 /// use kombilad::{Error, JsonError};
@@ -283,12 +287,12 @@ pub fn from_json(text: impl AsRef<[u8]>) -> Result<Vec<u8>, Error> {
     Limits::default().from_json(text)
 }
 
-/// The links of a block, as an iterator that holds them.
+/// An iterator over the links of a block. It owns them.
 #[derive(Clone, Debug)]
 pub struct Links(vec::IntoIter<Cid>);
 
 impl Links {
-    /// The links of a block: [`Limits::links`] within the default limits.
+    /// Returns the links of a block: [`Limits::links`] within the default limits.
     ///
     /// ```
     /// for cid in kombilad::Links::of(b"\x80")? {

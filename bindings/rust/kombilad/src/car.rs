@@ -9,18 +9,19 @@ use crate::cid::Cid;
 use crate::error::{CarError, Error};
 use crate::ffi::{self, CarPart, Place};
 
-/// As many bytes are asked for at once, at least.
+/// The minimum number of bytes in a request to the reader.
 const CHUNK: usize = 1 << 16;
-/// The byte of a CAR of version 2 at which its header places the payload.
+/// The byte of a CAR of version 2 at which its header has the offset of the payload.
 const PLACE_OF_PAYLOAD: usize = 27;
 
-/// Why a CAR can't be read.
+/// An error of reading a CAR.
 #[derive(Debug)]
 #[non_exhaustive]
 pub enum CarReadError {
     /// The reader failed.
     Io(io::Error),
-    /// The bytes are no CAR; its header is no block or passes a limit; or an allocation failed.
+    /// The bytes are not a CAR, its header is not a block or exceeds a limit, or an allocation
+    /// failed.
     Car(Error),
 }
 
@@ -57,14 +58,14 @@ impl From<Error> for CarReadError {
 /// A section of a CAR.
 #[derive(Clone, Copy, Debug, PartialEq, Eq)]
 pub struct Section<'r> {
-    /// The CID. That the data is the block that it names is for [`Cid::verify`] to say.
+    /// The CID. Call [`Cid::verify`] to check that the data has its digest.
     pub cid: Cid,
     /// The block.
     pub data: &'r [u8],
 }
 
-/// The blocks of a CAR of version 1 or 2, one after another. It holds one section, and what was
-/// read beyond it: the reader needs no buffer of its own.
+/// Reads the blocks of a CAR of version 1 or 2, one after another. It buffers one section and the
+/// bytes read after it, so the reader needs no buffer of its own.
 ///
 /// ```
 /// use kombilad::{CarReader, CarWriter, Cid, RAW};
@@ -82,17 +83,17 @@ pub struct Section<'r> {
 /// # Ok::<(), Box<dyn std::error::Error>>(())
 /// ```
 ///
-/// Of version 2 it reads the payload and no index. As an iterator it copies each block. After an
-/// error it ends.
+/// In a CAR of version 2 it reads the payload, but not the index. As an iterator it copies each
+/// block. After an error it ends.
 #[derive(Debug)]
 pub struct CarReader<R> {
     reader: R,
-    /// What was read and not yet taken: from `begin` on.
+    /// The bytes that were read. Those from `begin` on are not consumed yet.
     window: Vec<u8>,
     begin: usize,
     /// Whether the reader has ended.
     ended: bool,
-    /// Where in the file the next section begins, and the last one ends.
+    /// The place in the file where the next section begins, and where the last one ends.
     place: Place,
     done: bool,
     roots: Vec<Cid>,
@@ -100,17 +101,18 @@ pub struct CarReader<R> {
 }
 
 impl<R: Read> CarReader<R> {
-    /// How many bytes a header may have.
+    /// The maximum number of bytes of a header.
     pub const HEADER_LIMIT: usize = 8 << 20;
-    /// How many bytes a section may have, unless that is said.
+    /// The default maximum number of bytes of a section.
     pub const SECTION_LIMIT: usize = 32 << 20;
 
-    /// Reads what stands before the sections.
+    /// Reads the header, up to the first section.
     ///
     /// # Errors
     ///
-    /// [`CarReadError`]. [`CarError::TooLong`] of a header of more than [`Self::HEADER_LIMIT`]
-    /// bytes, and where a payload begins after more than twice as many.
+    /// [`CarReadError`]. It is [`CarError::TooLong`] if the header has more than
+    /// [`Self::HEADER_LIMIT`] bytes, or if more than about twice as many bytes come before the
+    /// first section of a CAR of version 2.
     pub fn new(reader: R) -> Result<Self, CarReadError> {
         let mut car = CarReader {
             reader,
@@ -144,28 +146,28 @@ impl<R: Read> CarReader<R> {
         }
     }
 
-    /// The same reader with another limit for how many bytes a section may have.
+    /// Sets the maximum number of bytes of a section.
     #[must_use]
     pub fn with_section_limit(mut self, limit: usize) -> Self {
         self.section_limit = limit;
         self
     }
 
-    /// The version, 1 or 2.
+    /// Returns the version, 1 or 2.
     pub fn version(&self) -> u64 {
         self.place.version
     }
 
-    /// The roots.
+    /// Returns the roots.
     pub fn roots(&self) -> &[Cid] {
         &self.roots
     }
 
-    /// The next section; nothing after the last one, and after an error.
+    /// Returns the next section, or `None` after the last one or an error.
     ///
     /// # Errors
     ///
-    /// [`CarReadError`]; [`CarError::TooLong`] of a section that is longer than the limit.
+    /// [`CarReadError`]. It is [`CarError::TooLong`] if the section is longer than the limit.
     pub fn next_section(&mut self) -> Result<Option<Section<'_>>, CarReadError> {
         if self.done {
             return Ok(None);
@@ -182,7 +184,7 @@ impl<R: Read> CarReader<R> {
         Ok(Some(section))
     }
 
-    /// The spans of the next section, from the beginning of the window's rest on.
+    /// Returns the ranges of the next section's CID and data. They count from `begin` on.
     fn read_section(&mut self) -> Result<Option<(Range<usize>, Range<usize>)>, CarReadError> {
         loop {
             let window = &self.window[self.begin..];
@@ -198,7 +200,7 @@ impl<R: Read> CarReader<R> {
         }
     }
 
-    /// Reads until the window has so many bytes from `begin` on, or the reader ends.
+    /// Reads until the window has `wanted` bytes from `begin` on, or the reader ends.
     fn fill(&mut self, wanted: usize) -> Result<(), CarReadError> {
         while !self.ended && self.window.len() - self.begin < wanted {
             if self.begin >= CHUNK {
@@ -221,7 +223,7 @@ impl<R: Read> CarReader<R> {
     }
 }
 
-/// So many bytes and more, as far as there can be as many.
+/// Returns the sum, or `usize::MAX` if it is greater than that.
 fn with(there: usize, more: u64) -> usize {
     there.saturating_add(usize::try_from(more).unwrap_or(usize::MAX))
 }

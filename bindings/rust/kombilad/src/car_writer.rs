@@ -1,4 +1,4 @@
-//! CAR files, written one section after another.
+//! Writes CAR files, one section after another.
 
 use std::io::{self, Write};
 
@@ -18,7 +18,7 @@ use crate::write::Writer;
 /// # Ok::<(), std::io::Error>(())
 /// ```
 ///
-/// Each call writes to the writer at once; hand over a `BufWriter` for many small blocks.
+/// Each call writes to the writer at once. Pass a `BufWriter` for many small blocks.
 #[derive(Debug)]
 pub struct CarWriter<W> {
     writer: W,
@@ -29,7 +29,8 @@ impl<W: Write> CarWriter<W> {
     ///
     /// # Errors
     ///
-    /// Those of the writer, and `OutOfMemory`. What was written then may be a part of the header.
+    /// Those of the writer, and `OutOfMemory` if an allocation fails. A part of the header may have
+    /// been written then.
     pub fn new(mut writer: W, roots: &[Cid]) -> io::Result<Self> {
         let header = header(roots).map_err(|error| match error {
             EncodeError::OutOfMemory => io::Error::from(io::ErrorKind::OutOfMemory),
@@ -41,12 +42,12 @@ impl<W: Write> CarWriter<W> {
         Ok(CarWriter { writer })
     }
 
-    /// Writes a section. That the block is the one that the CID names is not looked at:
+    /// Writes a section. It doesn't check that the block has the digest of the CID, as
     /// [`Cid::verify`] does.
     ///
     /// # Errors
     ///
-    /// Those of the writer. What was written then may be a part of the section.
+    /// Those of the writer. A part of the section may have been written then.
     pub fn write(&mut self, cid: &Cid, block: &[u8]) -> io::Result<()> {
         let cid = cid.as_bytes();
         let (length, len) = varint(cid.len() as u64 + block.len() as u64);
@@ -55,7 +56,7 @@ impl<W: Write> CarWriter<W> {
         self.writer.write_all(block)
     }
 
-    /// The writer. What it buffers isn't flushed.
+    /// Returns the writer, without flushing it.
     pub fn into_inner(self) -> W {
         self.writer
     }
@@ -74,7 +75,7 @@ fn header(roots: &[Cid]) -> Result<Vec<u8>, EncodeError> {
     writer.finish()
 }
 
-/// A varint in its shortest form, and how many bytes it has.
+/// Returns a varint in its shortest form, and its number of bytes.
 fn varint(number: u64) -> ([u8; 10], usize) {
     let (mut bytes, mut left, mut len) = ([0; 10], number, 0);
     while left > 127 {

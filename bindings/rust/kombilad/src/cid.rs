@@ -8,7 +8,7 @@ use std::str::FromStr;
 use crate::error::Error;
 use crate::ffi;
 
-/// The most characters of a CID's text, in any base.
+/// The maximum number of characters of a CID's text, in any base.
 const LONGEST_TEXT: usize = 173;
 
 /// The version of a CID.
@@ -40,8 +40,8 @@ pub enum Base {
 
 /// A content identifier with a digest of at most 64 bytes.
 ///
-/// Each value is a valid CID. It is `Copy`, and holds the CID's bytes in place. `Display` writes
-/// base32 for version 1, and base58btc (`Qm..`) for version 0. [`FromStr`] reads a text in any
+/// Each value is a valid CID. It is `Copy`, and contains the CID's bytes in place. `Display` writes
+/// base32 for version 1, and base58btc (`Qm..`) for version 0. [`FromStr`] parses a string in any
 /// [`Base`], with or without `/ipfs/` before it.
 ///
 /// CIDs are ordered by version, codec, hash code, length of the digest, and digest.
@@ -72,8 +72,8 @@ impl Cid {
     ///
     /// # Errors
     ///
-    /// [`Error::WrongDigest`] if it has another, and [`Error::UnknownHash`] if the hash function is
-    /// not SHA2-256, SHA2-512 or identity.
+    /// [`Error::WrongDigest`] if it has another digest, and [`Error::UnknownHash`] if the hash
+    /// function is not SHA2-256, SHA2-512 or identity.
     pub fn verify(&self, block: &[u8]) -> Result<(), Error> {
         ffi::verify(self.as_bytes(), block).map_err(Error::of_digest)
     }
@@ -131,7 +131,7 @@ impl Cid {
         &bytes[bytes.len() - len..]
     }
 
-    /// Returns the text in a base. For version 1 it begins with the multibase prefix.
+    /// Returns the string in a base. For version 1 it begins with the multibase prefix.
     ///
     /// ```
     /// use kombilad::{Base, Cid};
@@ -144,7 +144,7 @@ impl Cid {
     /// # Errors
     ///
     /// [`Error::V0Base`] if the CID has version 0 and the base isn't base58btc, and
-    /// [`Error::OutOfMemory`].
+    /// [`Error::OutOfMemory`] if an allocation fails.
     pub fn to_string_of_base(&self, base: Base) -> Result<String, Error> {
         let mut buffer = [0; LONGEST_TEXT];
         self.text(base as u32, &mut buffer).map(str::to_owned)
@@ -158,7 +158,7 @@ impl Cid {
 impl TryFrom<&[u8]> for Cid {
     type Error = Error;
 
-    /// Returns the CID of these bytes, with nothing after it.
+    /// Reads the bytes as a CID, with nothing after it.
     fn try_from(bytes: &[u8]) -> Result<Self, Error> {
         ffi::cid_check(bytes).map_err(Error::of_bytes)?;
         Ok(Cid::of_valid(bytes))
@@ -241,9 +241,9 @@ impl Ord for Cid {
     }
 }
 
-/// Returns whether two CIDs begin with the same bytes before their digests, if that can be seen
-/// without parsing them: both have version 0, or the same four varints of one byte each. Most CIDs
-/// that a program compares do, so sorting them doesn't parse them.
+/// Returns true if two CIDs are known, without parsing them, to have the same bytes before their
+/// digests: both have version 0, or the same four varints of one byte each. Most CIDs that a
+/// program compares do, so sorting them doesn't parse them.
 fn have_one_head(a: &[u8], b: &[u8]) -> bool {
     // 0x12 is the code of SHA2-256, with which only version 0 begins.
     a[0] == 0x12 && b[0] == 0x12 || a[..4] == b[..4] && a[..4].iter().all(|&byte| byte < 0x80)

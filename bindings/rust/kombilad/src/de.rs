@@ -1,4 +1,4 @@
-//! Blocks as the types of serde.
+//! Decodes blocks to the types of serde.
 
 use std::fmt;
 
@@ -16,14 +16,14 @@ use crate::ffi::kind;
 use crate::ipld::Ipld;
 use crate::tape::{Items, Pairs, TapeRef};
 
-/// The name by which a CID is told from other bytes: the crates `cid` and `serde_ipld_dagcbor` use
-/// the same.
+/// The name that distinguishes a CID from other bytes. The crates `cid` and `serde_ipld_dagcbor`
+/// use the same.
 pub(crate) const CID: &str = "$__private__serde__identifier__for__cid";
 
-/// How deep a value may nest that goes through serde, which is recursive.
+/// The maximum depth of a value that serde encodes or decodes, since serde is recursive.
 pub const SERDE_LEVELS: usize = 256;
 
-/// The value of a block as a type: [`Limits::from_slice`] within the default limits.
+/// Decodes a block to a type: [`Limits::from_slice`] within the default limits.
 ///
 /// ```
 /// #[derive(serde::Deserialize)]
@@ -40,22 +40,28 @@ pub const SERDE_LEVELS: usize = 256;
 ///
 /// # Errors
 ///
-/// [`DecodeError::Block`] where the bytes are no block or pass a limit, and
-/// [`DecodeError::Message`] where the block's value is none of the type.
+/// [`DecodeError::Block`] if the bytes are not a block or exceed a limit, and
+/// [`DecodeError::Message`] if the type rejects the block's value.
 pub fn from_slice<'a, T: Deserialize<'a>>(block: &'a [u8]) -> Result<T, DecodeError> {
     Limits::default().from_slice(block)
 }
 
 impl Limits {
-    /// The value of a block as a type. Texts and bytes may be borrowed from the block, and neither
-    /// is read as the other. A link is a [`Cid`], or that of the crate `cid`; null is `None` and
-    /// `()`; a map is a struct; an enum is the text of its variant, or a map from that to what the
-    /// variant holds. It nests at most [`SERDE_LEVELS`] deep.
+    /// Decodes a block to a type.
+    ///
+    /// - A type may borrow strings and bytes from the block. Strings don't decode as bytes, nor
+    ///   bytes as strings.
+    /// - A link decodes to a [`Cid`], or to that of the crate `cid`.
+    /// - Null decodes to `None` and to `()`.
+    /// - A map decodes to a struct.
+    /// - An enum is the name of its variant, or a map from the name to the content of the variant.
+    ///
+    /// The block may nest at most [`SERDE_LEVELS`] deep.
     ///
     /// # Errors
     ///
-    /// [`DecodeError::Block`] where the bytes are no block or pass a limit, and
-    /// [`DecodeError::Message`] where the block's value is none of the type.
+    /// [`DecodeError::Block`] if the bytes are not a block or exceed a limit, and
+    /// [`DecodeError::Message`] if the type rejects the block's value.
     pub fn from_slice<'a, T: Deserialize<'a>>(&self, block: &'a [u8]) -> Result<T, DecodeError> {
         let levels = self.levels.min(SERDE_LEVELS);
         let tape = Limits { levels, ..*self }.tape(block).map_err(DecodeError::Block)?;
@@ -89,9 +95,8 @@ impl<'a> TapeRef<'_, 'a> {
     }
 }
 
-/// The value where it stands. What a type reads by it is recursive, and goes as deep as the limits
-/// allow with which the tape was made: set [`SERDE_LEVELS`] for a block from anywhere, as
-/// [`Limits::from_slice`] does.
+/// Decodes the value to a type. This is recursive, to the depth that the limits of the tape allow.
+/// For an untrusted block set at most [`SERDE_LEVELS`] levels, as [`Limits::from_slice`] does.
 impl<'a> Deserializer<'a> for TapeRef<'_, 'a> {
     type Error = DecodeError;
 
@@ -211,7 +216,7 @@ impl<'a> IntoDeserializer<'a, DecodeError> for TapeRef<'_, 'a> {
     }
 }
 
-/// Whether a type took all items or pairs that there are.
+/// Returns an error unless the type has read all items or pairs.
 fn all_read(
     left: usize,
     whole: TapeRef<'_, '_>,
@@ -273,7 +278,7 @@ impl<'a> MapAccess<'a> for PairAccess<'_, 'a> {
     }
 }
 
-/// The key of a map: a text, also where a type of its own stands for it, or an enum.
+/// The key of a map: a string, a newtype of one, or an enum.
 struct Key<'a>(&'a str);
 
 impl<'a> Deserializer<'a> for Key<'a> {
@@ -311,7 +316,7 @@ impl<'a> Deserializer<'a> for Key<'a> {
     }
 }
 
-/// What an enum's variant holds.
+/// The variant of an enum, with its content.
 struct Variant<'t, 'a> {
     variant: &'a str,
     content: TapeRef<'t, 'a>,

@@ -1,4 +1,4 @@
-//! Why a call fails.
+//! The errors of the calls.
 
 use std::{error, fmt};
 
@@ -6,7 +6,7 @@ use kombilad_sys as sys;
 
 use crate::ffi;
 
-/// Why bytes are no CID: the first error from the left.
+/// The leftmost error of bytes that are not a CID.
 #[derive(Clone, Copy, Debug, PartialEq, Eq, Hash)]
 #[non_exhaustive]
 pub enum CidError {
@@ -16,7 +16,7 @@ pub enum CidError {
     NotShortest,
     /// A varint encodes a number of 2^64 or more.
     VarintTooLarge,
-    /// The bytes begin with the version 0, which no CID does.
+    /// The bytes begin with the version 0, as no CID does.
     ExplicitVersion0,
     /// The version is neither 0 nor 1.
     UnknownVersion,
@@ -26,25 +26,25 @@ pub enum CidError {
     TrailingBytes,
 }
 
-/// Why a text is none of a CID.
+/// The error of a text that is not that of a CID.
 #[derive(Clone, Copy, Debug, PartialEq, Eq, Hash)]
 #[non_exhaustive]
 pub enum TextError {
-    /// The text is empty, or begins with no prefix of a [`Base`](crate::Base).
+    /// The text is empty, or doesn't begin with the prefix of a [`Base`](crate::Base).
     UnknownBase,
     /// No CID has a text of this length in its base.
     InvalidLength,
-    /// At this byte of the text stands a character that is no letter of its base.
+    /// The character at this byte of the text is not a letter of its base.
     InvalidLetter(usize),
     /// Bits after the last byte are set.
     UnusedBits,
     /// A CID of version 0 has no text with a prefix.
     WrongVersion,
-    /// The text encodes bytes that are no CID.
+    /// The text encodes bytes that are not a CID.
     Cid(CidError),
 }
 
-/// Why bytes are no block of DAG-CBOR: the first error from the left.
+/// The leftmost error of bytes that are not a block of DAG-CBOR.
 #[derive(Clone, Copy, Debug, PartialEq, Eq, Hash)]
 #[non_exhaustive]
 pub enum BlockError {
@@ -52,29 +52,29 @@ pub enum BlockError {
     End,
     /// An argument is not in its shortest form.
     NotShortest,
-    /// A float of other than 64 bits, NaN or an infinity; where a tree is made any float.
+    /// A float of other than 64 bits, NaN or an infinity.
     Float,
-    /// A simple value, a tag or an indefinite length that DAG-CBOR has not.
+    /// A simple value, a tag or an indefinite length that DAG-CBOR doesn't allow.
     Unsupported,
     /// A text string is not UTF-8.
     Utf8,
-    /// The key of a map is no text string.
+    /// The key of a map is not a text string.
     KeyNotText,
-    /// A key stands in a map for the second time.
+    /// A map has the same key twice.
     DuplicateKey,
-    /// After the tag of a link there is no byte string that begins with a zero byte.
+    /// The tag of a link isn't followed by a byte string that begins with a zero byte.
     LinkBytes,
-    /// The bytes of a link are no CID.
+    /// The bytes of a link are not a CID.
     Cid(CidError),
     /// More bytes follow the item.
     TrailingBytes,
 }
 
-/// Why bytes are no CAR: the first error from the left.
+/// The leftmost error of bytes that are not a CAR.
 #[derive(Clone, Copy, Debug, PartialEq, Eq, Hash)]
 #[non_exhaustive]
 pub enum CarError {
-    /// The bytes, or the payload of version 2 by its header, end within a header or a section.
+    /// The bytes, or the payload of version 2, end before a header or a section does.
     UnexpectedEnd,
     /// The length of a header or a section is not in its shortest form.
     LengthNotShortest,
@@ -84,37 +84,38 @@ pub enum CarError {
     Empty,
     /// A header or a section is longer than the limit.
     TooLong,
-    /// The header is a block, but no map of roots and version 1.
+    /// The header is a block, but not a map of roots and of the version 1.
     NotAHeader,
-    /// The header of version 2 places the payload before its own end, or its end at 2^64 or more.
+    /// The header of version 2 places the payload before its own end, or the payload's end at 2^64
+    /// or more.
     Payload,
     /// The bytes end before the payload of version 2 does.
     ShortPayload,
-    /// A section begins with no CID.
+    /// A section doesn't begin with a CID.
     Cid(CidError),
 }
 
-/// Why bytes are no node of DAG-PB: the first error from the left.
+/// The leftmost error of bytes that are not a node of DAG-PB.
 #[derive(Clone, Copy, Debug, PartialEq, Eq, Hash)]
 #[non_exhaustive]
 pub enum PbError {
-    /// The bytes end before the field does, those of the block or those of a link.
+    /// The bytes of the block or of a link end before the field does.
     End,
     /// A varint encodes a number of 2^64 or more, or has more than ten bytes.
     VarintTooLarge,
-    /// A field that DAG-PB doesn't have there.
+    /// DAG-PB doesn't allow the number and wire type of a field there.
     UnknownField,
-    /// A field comes twice or out of order, or links stand before the data and after it.
+    /// A field comes twice or out of order, or links come both before and after the data.
     FieldOrder,
     /// A link doesn't begin with its hash.
     NoHash,
-    /// The hash of a link is no CID.
+    /// The hash of a link is not a CID.
     Cid(CidError),
     /// The name of a link isn't UTF-8.
     Utf8,
 }
 
-/// Why a text is not DAG-JSON: the first token with an error.
+/// The error of a text that is not DAG-JSON, at its first invalid token.
 #[derive(Clone, Copy, Debug, PartialEq, Eq, Hash)]
 #[non_exhaustive]
 pub enum JsonError {
@@ -139,57 +140,56 @@ pub enum JsonError {
     Reserved,
 }
 
-/// Why a call fails.
+/// An error of a call that reads, converts or verifies bytes or text.
 #[derive(Clone, Copy, Debug, PartialEq, Eq, Hash)]
 #[non_exhaustive]
 pub enum Error {
     /// An allocation failed.
     OutOfMemory,
-    /// A CID of version 0 has a text in base58btc alone.
+    /// A CID of version 0 has a text only in base58btc.
     V0Base,
-    /// Lists and maps nest deeper than the limit: from the list or the map on that begins at this
-    /// byte.
+    /// Lists and maps nest deeper than the limit.
     TooDeep {
-        /// The byte of the block.
+        /// The byte at which the first list or map that is too deep begins.
         offset: usize,
     },
-    /// There are more values than the limit: from the one on that begins at this byte.
+    /// There are more values than the limit.
     TooMany {
-        /// The byte of the block.
+        /// The byte at which the first value over the limit begins.
         offset: usize,
     },
-    /// A string, a list or a map of the block is too long for an entry of a tape: it has 2^32
-    /// bytes, or as many values and keys, or more.
+    /// A string, a byte string or a key of the block has 2^32 bytes or more, or a list or a map
+    /// spans 2^32 entries of a tape or more.
     TooLong,
-    /// Bytes are no CID.
+    /// The bytes are not a CID.
     Cid(CidError),
-    /// A text is none of a CID.
+    /// The text is not that of a CID.
     Text(TextError),
-    /// Bytes are no block.
+    /// The bytes are not a block.
     Block {
-        /// Why.
+        /// The error.
         error: BlockError,
-        /// The byte at which the item, the key, the byte string of a link or the bytes left over
-        /// begin at which reading stopped.
+        /// The first byte of the item, the key, the byte string of a link or the trailing bytes at
+        /// fault.
         offset: usize,
     },
-    /// Bytes are no CAR.
+    /// The bytes are not a CAR.
     Car {
-        /// Why.
+        /// The error.
         error: CarError,
         /// The byte at fault.
         offset: usize,
     },
-    /// Bytes are no node of DAG-PB.
+    /// The bytes are not a node of DAG-PB.
     Pb {
-        /// Why.
+        /// The error.
         error: PbError,
-        /// The byte at which the field begins that is wrong.
+        /// The first byte of the invalid field.
         offset: usize,
     },
-    /// A text is not DAG-JSON.
+    /// The text is not DAG-JSON.
     Json {
-        /// Why.
+        /// The error.
         error: JsonError,
         /// The byte of the text at which the token at fault begins, or its length if it ends too
         /// early.
@@ -200,16 +200,16 @@ pub enum Error {
         /// The byte of the block at which the map begins.
         offset: usize,
     },
-    /// The hash function of a CID is neither SHA2-256, SHA2-512 nor identity, so that no block can
-    /// be told to be the CID's.
+    /// The hash function of the CID is not SHA2-256, SHA2-512 or identity, so a block can't be
+    /// verified.
     UnknownHash,
-    /// A block has another digest than the CID.
+    /// The block has another digest than the CID.
     WrongDigest,
     /// A status that this version doesn't know.
     Other(u32),
 }
 
-/// Why a value has no block.
+/// The error of a value that has no block.
 #[derive(Clone, Debug, PartialEq, Eq)]
 #[non_exhaustive]
 pub enum EncodeError {
@@ -221,28 +221,29 @@ pub enum EncodeError {
     Integer,
     /// NaN or an infinity.
     Float,
-    /// The key of a map is no text.
+    /// The key of a map is not a string.
     KeyNotText,
-    /// A map has a key twice.
+    /// A map has the same key twice.
     DuplicateKey,
-    /// What was to be a link is no CID.
+    /// The bytes of a link are not a CID.
     Cid(CidError),
-    /// A text, bytes, a list or a map have 2^32 bytes, or as many values and keys, or more.
+    /// A string, a key or bytes have 2^32 bytes or more, or a list or a map spans 2^32 entries of a
+    /// tape or more.
     TooLong,
-    /// What a type of serde says of itself.
+    /// The error message of a serde type.
     Message(String),
     /// A status that this version doesn't know.
     Other(u32),
 }
 
-/// Why a block can't be read as a type.
+/// The error of a block that can't be decoded to a type.
 #[cfg(feature = "serde")]
 #[derive(Clone, Debug, PartialEq, Eq)]
 #[non_exhaustive]
 pub enum DecodeError {
-    /// The bytes are no block, or pass a limit.
+    /// The bytes are not a block, or exceed a limit.
     Block(Error),
-    /// The value of the block is none of the type, as the type itself says.
+    /// The type rejects the value of the block, with this message.
     Message(String),
 }
 
@@ -259,7 +260,7 @@ fn cid_error(status: u32) -> Option<CidError> {
     })
 }
 
-/// The same of the bytes of a link.
+/// Returns the error of the bytes of a link.
 fn link_error(status: u32) -> Option<CidError> {
     Some(match status {
         sys::KOMBILAD_LINK_END => CidError::End,
@@ -274,7 +275,7 @@ fn link_error(status: u32) -> Option<CidError> {
 }
 
 impl Error {
-    /// The error of a status that isn't `KOMBILAD_OK`, of a call that reads bytes.
+    /// Returns the error of a call that reads bytes. Here and below the status isn't `KOMBILAD_OK`.
     pub(crate) fn of_bytes(status: u32) -> Self {
         match status {
             sys::KOMBILAD_NO_MEMORY => Error::OutOfMemory,
@@ -283,7 +284,7 @@ impl Error {
         }
     }
 
-    /// The same of a call that reads a text, which may name a place in it.
+    /// Returns the error of a call that reads a text. `place` is used only for an invalid letter.
     pub(crate) fn of_text(status: u32, place: usize) -> Self {
         Error::Text(match status {
             sys::KOMBILAD_TEXT_UNKNOWN_BASE => TextError::UnknownBase,
@@ -298,7 +299,7 @@ impl Error {
         })
     }
 
-    /// The same of a call that reads a CAR.
+    /// Returns the error of a call that reads a CAR.
     pub(crate) fn of_car((status, offset): (u32, usize)) -> Self {
         let error = match status {
             sys::KOMBILAD_CAR_UNEXPECTED_END => CarError::UnexpectedEnd,
@@ -317,7 +318,7 @@ impl Error {
         Error::Car { error, offset }
     }
 
-    /// The same of a call that reads a node of DAG-PB.
+    /// Returns the error of a call that reads a node of DAG-PB.
     pub(crate) fn of_pb((status, offset): (u32, usize)) -> Self {
         let error = match status {
             sys::KOMBILAD_NO_MEMORY => return Error::OutOfMemory,
@@ -336,7 +337,7 @@ impl Error {
         Error::Pb { error, offset }
     }
 
-    /// The same of a call that takes a digest.
+    /// Returns the error of a call that compares digests.
     pub(crate) fn of_digest(status: u32) -> Self {
         match status {
             sys::KOMBILAD_UNKNOWN_HASH => Error::UnknownHash,
@@ -345,7 +346,7 @@ impl Error {
         }
     }
 
-    /// The same of a call that reads a text in DAG-JSON.
+    /// Returns the error of a call that reads a text in DAG-JSON.
     pub(crate) fn of_json((status, offset): (u32, usize)) -> Self {
         let error = match status {
             sys::KOMBILAD_JSON_UTF8 => JsonError::Utf8,
@@ -362,7 +363,7 @@ impl Error {
         Error::Json { error, offset }
     }
 
-    /// The same of a call that reads a block.
+    /// Returns the error of a call that reads a block.
     pub(crate) fn of_block((status, offset): (u32, usize)) -> Self {
         let error = match status {
             sys::KOMBILAD_JSON_RESERVED_MAP => return Error::ReservedMap { offset },
@@ -389,8 +390,8 @@ impl Error {
 }
 
 impl EncodeError {
-    /// The error of a status that isn't `KOMBILAD_OK`, of the call that makes the block of a tape.
-    /// What a tape of this crate can't have at fault, as an entry that is missing, is `Other`.
+    /// Returns the error of the call that encodes a tape. The status isn't `KOMBILAD_OK`. An error
+    /// that no tape of this crate has, such as a missing entry, is `Other`.
     pub(crate) fn of_tape(status: u32) -> Self {
         match status {
             sys::KOMBILAD_NO_MEMORY => EncodeError::OutOfMemory,
@@ -401,7 +402,7 @@ impl EncodeError {
     }
 }
 
-/// Writes the sentence of a status, which the library has.
+/// Writes the library's sentence of a status.
 fn write_status(f: &mut fmt::Formatter<'_>, status: u32) -> fmt::Result {
     f.write_str(ffi::status_text(status, &mut [0; 80]))
 }

@@ -1,9 +1,12 @@
-//! The calls of libkombilad, each made safe: the only file of this crate with unsafe code.
+//! Safe functions for the calls of libkombilad. Only this file of the crate has unsafe code.
 //!
-//! Why the calls are sound: a slice is handed over as its pointer and its length, and a reference
-//! as a pointer; no call keeps either. What a call writes to is borrowed mutably, so it overlaps
-//! nothing else. A vector's spare capacity is written to as records or bytes, and its length is set
-//! to no more than what the call says that it has written.
+//! The calls are sound for these reasons:
+//!
+//! - A slice is passed as its pointer and its length, and a reference as a pointer. No call keeps
+//!   either.
+//! - Memory that a call writes to is borrowed mutably, so it doesn't overlap anything else.
+//! - A call writes records or bytes to the spare capacity of a vector. The vector's length is set
+//!   to no more than the number that the call reports.
 
 use std::cell::Cell;
 use std::ops::Range;
@@ -50,7 +53,7 @@ pub(crate) fn cid_parts(bytes: &[u8]) -> Result<CidParts, u32> {
     Ok(parts)
 }
 
-/// The text that was written to the beginning of `text`.
+/// Returns the text of a CID, which is written to the beginning of `text`.
 pub(crate) fn cid_to_text<'a>(bytes: &[u8], base: u32, text: &'a mut [u8]) -> Result<&'a str, u32> {
     let mut needed = 0;
     let status = unsafe {
@@ -64,12 +67,12 @@ pub(crate) fn cid_to_text<'a>(bytes: &[u8], base: u32, text: &'a mut [u8]) -> Re
         )
     };
     done(status)?;
-    // SAFETY: a CID's text is ASCII: letters of a base, after its prefix; the call has written
-    // these bytes.
+    // SAFETY: the call has written these bytes. They are ASCII: the prefix of a base and its
+    // letters.
     Ok(unsafe { str::from_utf8_unchecked(&text[..needed]) })
 }
 
-/// The CID, or the status and the place that it may name.
+/// Returns the CID, or the status with the offset of an invalid letter.
 pub(crate) fn cid_from_text(text: &str) -> Result<CidBytes, (u32, usize)> {
     let (mut cid, mut place) = (NO_CID, 0);
     let status =
@@ -84,14 +87,13 @@ pub(crate) fn cid_of_block(codec: u64, block: &[u8]) -> CidBytes {
     cid
 }
 
-/// Returns where the bytes of a span are. They are in memory, so the numbers fit.
+/// Returns the range of a span. Its bytes are in memory, so the numbers fit.
 fn range(span: Span) -> Range<usize> {
     let begin = span.offset as usize;
     begin..begin + span.len as usize
 }
 
-/// What a call on a block returns that isn't what it is for: the status, and the byte at which
-/// reading stopped.
+/// The error of a call: the status, and the byte or the entry at fault.
 pub(crate) type Stopped = (u32, usize);
 
 /// A block with its limits.
@@ -151,7 +153,8 @@ impl Block<'_> {
         Ok(count)
     }
 
-    /// A `Cid` is laid out as the record that it holds, so the records are written in place.
+    /// Returns the CIDs of the links. The call writes its records in place, since a `Cid` has the
+    /// layout of a record.
     pub(crate) fn links(self, capacity: usize) -> Result<Vec<Cid>, Stopped> {
         filled(capacity, |links: *mut Cid, capacity, needed, offset| unsafe {
             sys::kombilad_links(
@@ -184,7 +187,7 @@ impl Block<'_> {
     }
 
     fn tape(self) -> Result<Entries, Stopped> {
-        // As many as there are bytes are always enough. Most blocks have some nine bytes for each
+        // There are at most as many entries as bytes. Most blocks have about nine bytes for each
         // entry.
         let len = self.bytes.len();
         let capacity =
@@ -220,7 +223,7 @@ impl Block<'_> {
         })
     }
 
-    /// The block as DAG-JSON.
+    /// Converts the block to DAG-JSON.
     pub(crate) fn to_json(self) -> Result<String, Stopped> {
         let capacity = self.bytes.len().saturating_mul(2).saturating_add(SPARE_TEXT);
         let text = filled(capacity, |text, capacity, needed, offset| unsafe {
@@ -239,7 +242,7 @@ impl Block<'_> {
         Ok(unsafe { String::from_utf8_unchecked(text) })
     }
 
-    /// The block of these bytes, if they are a text in DAG-JSON.
+    /// Converts the bytes, a text in DAG-JSON, to a block.
     pub(crate) fn of_json(self) -> Result<Vec<u8>, Stopped> {
         // Only a float, or a string with a long head, takes more bytes than its text.
         let capacity = self.bytes.len().saturating_add(SPARE_TEXT);
@@ -258,8 +261,8 @@ impl Block<'_> {
     }
 }
 
-/// The canonical block of the value that entries describe, over the data to which they refer; or
-/// the status, and the entry at fault. It has about so many bytes.
+/// Returns the canonical block of the value that the entries describe, or the status and the entry
+/// at fault. The entries refer to `data`. The block has about `size` bytes.
 pub(crate) fn encode(entries: &[Entry], data: &[u8], size: usize) -> Result<Vec<u8>, Stopped> {
     filled(size, |out, capacity, needed, at| unsafe {
         sys::kombilad_encode(
@@ -275,15 +278,15 @@ pub(crate) fn encode(entries: &[Entry], data: &[u8], size: usize) -> Result<Vec<
     })
 }
 
-/// What a call finds in the bytes of a CAR that are at hand.
+/// The result of a call that reads a part of a CAR.
 pub(crate) enum CarPart<T> {
     Found(T),
-    /// It needs at least so many bytes more.
+    /// The call needs at least this many more bytes.
     More(u64),
 }
 
-/// The place of the first section of a CAR that begins with these bytes, and its roots. They are
-/// all of it if `is_all`. A `Cid` is laid out as the record that it holds.
+/// Returns the place of the first section of a CAR that begins with these bytes, and its roots. The
+/// bytes are the whole CAR if `is_all`. A `Cid` has the layout of a record.
 pub(crate) fn car_open_part(
     bytes: &[u8],
     is_all: bool,
@@ -312,9 +315,9 @@ pub(crate) fn car_open_part(
     }
 }
 
-/// Returns where in the bytes the CID and the data of the section are that begins with them, which
-/// is at this place of a CAR, and moves the place to the next one. The CAR ends with the bytes if
-/// `is_all`. If there is no other section, returns `None`.
+/// Reads the section at this place of a CAR, with which the bytes begin. Returns the ranges of its
+/// CID and its data in the bytes, and moves the place to the next section. If there is no other
+/// section, returns `None`. The CAR ends with the bytes if `is_all`.
 pub(crate) fn car_next_part(
     bytes: &[u8],
     is_all: bool,
@@ -348,14 +351,14 @@ pub(crate) fn verify(cid: &[u8], block: &[u8]) -> Result<(), u32> {
     done(unsafe { sys::kombilad_verify(cid.as_ptr(), cid.len(), block.as_ptr(), block.len()) })
 }
 
-/// The text of a block in DAG-JSON takes at most twice as many bytes as the block, as a rule, and so
-/// many more.
+/// The DAG-JSON of most blocks has at most twice as many bytes as the block, and this many more.
 const SPARE_TEXT: usize = 64;
 
-/// Room for so many entries is made at once.
+/// The minimum number of entries for which a tape has room at first, if the block has as many
+/// bytes.
 const SMALL_TAPE: usize = 2048;
-/// A block of at most so many bytes begins with room for fewer, 1 KiB, which allocators have at
-/// hand.
+/// The tape of a block of at most this many bytes has room for fewer entries at first: 1 KiB, which
+/// allocators provide quickly.
 const FEW_BYTES: usize = 128;
 const FEW_ENTRIES: usize = 64;
 
@@ -375,8 +378,8 @@ pub(crate) mod kind {
     pub(crate) const KEY: u32 = 11;
 }
 
-/// A block with its tape. Only the calls make one, and nothing changes it, so that what they say of
-/// the entries holds of these.
+/// A block with its tape. Only the calls create a tape, and nothing changes it, so its entries are
+/// valid for the block.
 #[derive(Clone, Debug)]
 pub(crate) struct Tape<'a> {
     block: &'a [u8],
@@ -389,7 +392,7 @@ impl<'a> Tape<'a> {
         Ok(Tape { block: block.bytes, entries })
     }
 
-    /// Of a node of DAG-PB: its links, and then its data.
+    /// Returns the tape of a node of DAG-PB: its links, and then its data.
     pub(crate) fn of_node(block: &'a [u8]) -> Result<Self, Stopped> {
         let mut entries = Entries::new();
         fill(
@@ -414,13 +417,13 @@ impl<'a> Tape<'a> {
         &self.entries.0
     }
 
-    /// The entry there.
+    /// Returns the entry at an index.
     #[inline]
     pub(crate) fn part(&self, at: usize) -> Part<'_, 'a> {
         Part { entry: &self.entries.0[at], block: self.block }
     }
 
-    /// The entries there, in their order.
+    /// Returns the entries of a range, in their order.
     #[inline]
     pub(crate) fn parts(
         &self,
@@ -430,7 +433,7 @@ impl<'a> Tape<'a> {
         self.entries.0[range].iter().map(move |entry| Part { entry, block })
     }
 
-    /// The entries there, two at a time.
+    /// Returns the entries of a range, two at a time.
     #[inline]
     pub(crate) fn pairs(
         &self,
@@ -443,7 +446,7 @@ impl<'a> Tape<'a> {
     }
 }
 
-/// An entry of a tape, with the block to which it refers. Only a tape makes one, of its own.
+/// An entry of a tape, with the block to which it refers. Only the tape creates it.
 #[derive(Clone, Copy)]
 pub(crate) struct Part<'t, 'a> {
     entry: &'t Entry,
@@ -456,27 +459,27 @@ impl<'a> Part<'_, 'a> {
         *self.entry
     }
 
-    /// The content of a float, a string, bytes, a link or a key.
+    /// Returns the content of a float, a string, bytes, a link or a key.
     #[inline]
     pub(crate) fn content(self) -> &'a [u8] {
         let begin = self.entry.value as usize;
         &self.block[begin..begin + self.entry.len as usize]
     }
 
-    /// The content of a string or a key, and of any other entry nothing.
+    /// Returns the content of a string or a key. For any other entry it returns an empty string.
     #[inline]
     pub(crate) fn text(self) -> &'a str {
         if !matches!(self.entry.kind, kind::STRING | kind::KEY) {
             return "";
         }
-        // SAFETY: the calls checked that the content of a string, and that of a key, is UTF-8, and
-        // say that it stands just here in the block, which is borrowed for as long as the text and
-        // so has not changed.
+        // SAFETY: the call that made the tape checked that the content of a string or a key is
+        // UTF-8, and wrote its place in the block. The block is borrowed for as long as the text,
+        // so it has not changed.
         unsafe { str::from_utf8_unchecked(self.content()) }
     }
 }
 
-/// A vector that [`fill`] fills.
+/// Returns a vector that [`fill`] fills.
 fn filled<T>(
     capacity: usize,
     call: impl Fn(*mut T, usize, &mut usize, &mut usize) -> u32,
@@ -486,9 +489,10 @@ fn filled<T>(
     Ok(content)
 }
 
-/// Fills an empty vector by a call that takes where to write, how much there is room for, and where
-/// to say what is needed and where it stopped. It begins with this capacity, or with that of the
-/// vector where it is greater, and where that is too little makes room for what is needed.
+/// Fills an empty vector by a call. The call takes a pointer to write to, the capacity there, and
+/// references for the capacity that it needs and for the offset of an error. The vector has at
+/// least the given capacity at first. If that is too little, it gets the capacity that the call
+/// needs.
 fn fill<T>(
     content: &mut Vec<T>,
     capacity: usize,
@@ -500,8 +504,8 @@ fn fill<T>(
         let (mut needed, mut offset) = (0, 0);
         match call(content.as_mut_ptr(), content.capacity(), &mut needed, &mut offset) {
             sys::KOMBILAD_OK => {
-                // SAFETY: the call has written this many, from the first on, and there was room for
-                // them.
+                // SAFETY: the call has written this many, from the first on, and the capacity was
+                // large enough for them.
                 unsafe { content.set_len(needed) };
                 return Ok(());
             }

@@ -23,39 +23,39 @@ use crate::write::Writer;
 /// # Ok::<(), Box<dyn std::error::Error>>(())
 /// ```
 ///
-/// What drops, copies, compares or prints a value is recursive, as Rust derives it. So a value that
-/// is read nests at most [`Ipld::LEVELS`] deep.
+/// Rust's derived code to drop, clone, compare or print a value is recursive. So decoding returns
+/// only values that nest at most [`Ipld::LEVELS`] deep.
 #[derive(Clone, Debug, PartialEq)]
 pub enum Ipld {
     /// Null.
     Null,
     /// A bool.
     Bool(bool),
-    /// An integer; a block has those from -2^64 to 2^64 - 1.
+    /// An integer. In a block it is from -2^64 to 2^64 - 1.
     Integer(i128),
-    /// A float; a block has finite ones.
+    /// A float. In a block it is finite.
     Float(f64),
-    /// A text.
+    /// A string.
     String(String),
     /// Bytes.
     Bytes(Vec<u8>),
     /// A list of values.
     List(Vec<Ipld>),
-    /// A map of values by texts.
+    /// A map from strings to values.
     Map(BTreeMap<String, Ipld>),
     /// A CID.
     Link(Cid),
 }
 
-/// A map of more pairs than this is made of all of them at once.
+/// A map of more pairs than this is built from all of them at once.
 const FEW_PAIRS: usize = 16;
 
 impl Ipld {
-    /// How deep a value may nest that is read, at most; where the limits allow more, this is the
-    /// limit.
+    /// The maximum depth of a value that is decoded or encoded. If [`Limits`] allow more levels,
+    /// this is the limit.
     pub const LEVELS: usize = 1024;
 
-    /// The value of a block: [`Limits::ipld`] within the default limits.
+    /// Decodes a block: [`Limits::ipld`] within the default limits.
     ///
     /// # Errors
     ///
@@ -64,20 +64,20 @@ impl Ipld {
         Limits::default().ipld(block)
     }
 
-    /// The canonical block of the value: the keys of each map by their length, and by their bytes
-    /// where that is the same. The library makes it of the value's entries, in the order of its
-    /// values and keys.
+    /// Encodes the value as its canonical block: the keys of each map are sorted by length, then by
+    /// bytes. The library encodes it from a tape of the value.
     ///
     /// # Errors
     ///
-    /// [`EncodeError::Integer`] and [`EncodeError::Float`] where there is no such number in a
-    /// block, [`EncodeError::OutOfMemory`], and [`EncodeError::TooDeep`] where the value nests
-    /// deeper than [`Ipld::LEVELS`].
+    /// - [`EncodeError::Integer`] or [`EncodeError::Float`] if a block can't have the number.
+    /// - [`EncodeError::OutOfMemory`] if an allocation fails.
+    /// - [`EncodeError::TooDeep`] if the value nests deeper than [`Ipld::LEVELS`].
+    /// - [`EncodeError::TooLong`] if a part of the value is too long for an entry of a tape.
     pub fn to_block(&self) -> Result<Vec<u8>, EncodeError> {
         let mut writer = Writer::new();
         let mut open: Vec<Left<'_>> = Vec::new();
-        // The pairs that are left of the maps that are open, those of each behind those of the one
-        // around it, and the next one last.
+        // The pairs that are left of the open maps. Those of a map come after those of the map
+        // around it, and the next one is the last.
         let mut pairs: Vec<(&String, &Ipld)> = Vec::new();
         let mut next = Some(self);
         while let Some(value) = next {
@@ -137,8 +137,8 @@ impl Ipld {
     }
 }
 
-/// A list or a map that is being written: where it began, how many values it has, and those that
-/// are left.
+/// A list or a map that is being written: the index of its entry, the number of its values, and
+/// the values that are left.
 struct Left<'v> {
     begin: usize,
     count: usize,
@@ -147,7 +147,7 @@ struct Left<'v> {
 
 enum Values<'v> {
     Items(std::slice::Iter<'v, Ipld>),
-    /// The pairs that stand behind so many others.
+    /// The pairs after this many others.
     Pairs(usize),
 }
 
@@ -184,8 +184,8 @@ impl Level {
         Level { read, key: String::new(), left: count }
     }
 
-    /// Reads the values from an entry on, up to one that isn't flat or to the last one. Where the
-    /// next entry is: of a map behind the key.
+    /// Reads the values from an entry on, up to one that isn't flat or to the last one. Returns the
+    /// index of the next entry. In a map that is the entry after the key.
     fn read_flat(&mut self, tape: &ffi::Tape<'_>, mut at: usize) -> usize {
         if let Open::List(items) = &mut self.read {
             while self.left > 0 {
@@ -237,14 +237,14 @@ fn is_integer(entry: ffi::Entry) -> bool {
     matches!(entry.kind, kind::UNSIGNED | kind::NEGATIVE)
 }
 
-/// The number of an entry that is an integer's.
+/// Returns the number of an integer's entry.
 #[inline]
 fn integer(entry: ffi::Entry) -> i128 {
-    // Of a negative one each bit the other way round.
+    // The bits of a negative one are inverted.
     i128::from(entry.value) ^ -i128::from(entry.kind == kind::NEGATIVE)
 }
 
-/// The value of an entry that is no list's and no map's, or that of an empty one.
+/// Returns the value of an entry that is not a list or a map, unless it is an empty one.
 #[inline(always)]
 fn scalar(part: ffi::Part<'_, '_>) -> Ipld {
     let entry = part.entry();
@@ -262,12 +262,13 @@ fn scalar(part: ffi::Part<'_, '_>) -> Ipld {
     }
 }
 
-/// Where the entries end of a flat value, one that holds no list and no map but empty ones.
+/// Returns the end of a flat value's entries, or `None` for another value. A flat value contains no
+/// lists or maps except empty ones.
 #[inline(always)]
 fn flat_end(tape: &ffi::Tape<'_>, at: usize) -> Option<usize> {
     let ffi::Entry { kind, len, value } = tape.part(at).entry();
-    // Each entry inside is an item, or a key or a value: a list or a map there that isn't empty
-    // would have more.
+    // Then each entry inside is an item, a key or a value. A list or a map inside that isn't empty
+    // would have more entries.
     let entries = match kind {
         kind::LIST => value,
         kind::MAP => 2 * value,
@@ -276,7 +277,7 @@ fn flat_end(tape: &ffi::Tape<'_>, at: usize) -> Option<usize> {
     (entries + 1 == u64::from(len)).then_some(at + len as usize)
 }
 
-/// The flat value of these entries.
+/// Returns the flat value of these entries.
 #[inline(always)]
 fn flat(tape: &ffi::Tape<'_>, whole: Range<usize>) -> Ipld {
     let part = tape.part(whole.start);
@@ -287,9 +288,9 @@ fn flat(tape: &ffi::Tape<'_>, whole: Range<usize>) -> Ipld {
     }
 }
 
-/// A list of which each entry is an item.
+/// Returns a list of which each entry is an item.
 fn flat_list(tape: &ffi::Tape<'_>, inside: Range<usize>) -> Vec<Ipld> {
-    // Of integers alone each value is made where it stands in the list.
+    // If all are integers, each value is made in place in the list.
     if tape.entries()[inside.clone()].iter().all(|entry| is_integer(*entry)) {
         tape.parts(inside).map(|part| Ipld::Integer(integer(part.entry()))).collect()
     } else {
@@ -297,7 +298,7 @@ fn flat_list(tape: &ffi::Tape<'_>, inside: Range<usize>) -> Vec<Ipld> {
     }
 }
 
-/// A map of which each entry is a key or a value.
+/// Returns a map of which each entry is a key or a value.
 fn flat_map(tape: &ffi::Tape<'_>, inside: Range<usize>) -> BTreeMap<String, Ipld> {
     let pairs = tape.pairs(inside).map(|(key, value)| (key.text().to_owned(), scalar(value)));
     if pairs.len() > FEW_PAIRS {
@@ -311,8 +312,8 @@ fn flat_map(tape: &ffi::Tape<'_>, inside: Range<usize>) -> BTreeMap<String, Ipld
 }
 
 impl From<TapeRef<'_, '_>> for Ipld {
-    /// A copy of the value. Of one that nests deeper than [`Ipld::LEVELS`], what drops or compares
-    /// the copy may need more of the call stack than there is.
+    /// Copies the value. If it nests deeper than [`Ipld::LEVELS`], dropping or comparing the copy
+    /// may overflow the call stack.
     fn from(value: TapeRef<'_, '_>) -> Self {
         let (tape, mut at) = (value.tape, value.at);
         if let Some(end) = flat_end(tape, at) {

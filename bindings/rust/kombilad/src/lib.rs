@@ -1,5 +1,5 @@
-//! Content identifiers (CIDs) and blocks of DAG-CBOR and DAG-PB, read by code that is proved: the
-//! library `libkombilad`, called from Rust.
+//! Content identifiers (CIDs) and blocks of DAG-CBOR and DAG-PB, read by the proved library
+//! `libkombilad`.
 //!
 //! ```
 //! use kombilad::Cid;
@@ -10,18 +10,22 @@
 //! # Ok::<(), kombilad::Error>(())
 //! ```
 //!
-//! [`Cid`] is a CID with a digest of at most 64 bytes. [`links`] finds every link of a block,
-//! [`check`] says whether bytes are a block, and [`canonicalize`] rewrites one with its keys in
-//! order. [`to_json`] writes the DAG-JSON of a block, and [`from_json`] the block of a text.
+//! - [`Cid`] is a CID with a digest of at most 64 bytes.
+//! - [`links`] finds every link of a block, [`check`] validates a block, and [`canonicalize`] sorts
+//!   its keys.
+//! - [`to_json`] converts a block to DAG-JSON, and [`from_json`] converts DAG-JSON to a block.
+//! - A [`Tape`] reads the values of a block in place, and an [`Ipld`] is a tree of them.
+//! - `from_slice` and `to_vec` decode and encode the types of serde. They need the feature `serde`,
+//!   which is on by default.
+//! - A [`PbNode`] has the links and the data of a block of DAG-PB.
+//! - A [`CarReader`] reads the blocks of a CAR file, one at a time. [`Cid::verify`] checks that a
+//!   block has the digest of its CID.
 //!
-//! A [`Tape`] has the values of a block where they stand, an [`Ipld`] has them as a tree, and with
-//! the feature `serde`, which is a default, `from_slice` and `to_vec` read and write types of
-//! serde. A [`PbNode`] has the links and the data of a block of DAG-PB. A [`CarReader`] has the
-//! blocks of a CAR file, one at a time, and [`Cid::verify`] says whether a block is the one that a
-//! CID names. Each thread keeps up to 64 KiB of room, in which it has read or written a block, for
-//! the next one. All take untrusted bytes. What the library itself does is proved, and recurses for
-//! at most 32 levels of a block; the tree, serde's types and the tapes of which blocks are made are
-//! this crate's, and are tested.
+//! All of them accept untrusted bytes. Each thread keeps up to 64 KiB of buffers from one block for
+//! the next.
+//!
+//! The library itself is proved, and recurses for at most 32 levels of a block. This crate's own
+//! code is tested, not proved: the tree, the types of serde, and the tapes that it encodes.
 #![deny(unsafe_code)]
 #![warn(missing_docs)]
 
@@ -71,7 +75,7 @@ pub const RAW: u64 = 0x55;
 /// The code of SHA2-256 in the table of multicodecs.
 pub const SHA2_256: u64 = 0x12;
 
-/// The version of libkombilad, as `(0, 1, 0)`.
+/// Returns the version of libkombilad, such as `(0, 1, 0)`.
 pub fn version() -> (u8, u8, u8) {
     let [_, major, minor, patch] = ffi::version().to_be_bytes();
     (major, minor, patch)

@@ -4,7 +4,8 @@ use crate::cid::Cid;
 use crate::error::Error;
 use crate::ffi::{self, kind};
 
-/// A node of DAG-PB, as files and folders in IPFS are kept. Names and data are lent from the block.
+/// A node of DAG-PB, the format of files and folders in IPFS. Names and data are borrowed from the
+/// block.
 ///
 /// ```
 /// use kombilad::PbNode;
@@ -19,30 +20,29 @@ use crate::ffi::{self, kind};
 pub struct PbNode<'a> {
     /// The links, in the order of the block.
     pub links: Vec<PbLink<'a>>,
-    /// The data, where the block has them. No data aren't the same as data of no bytes. What they
-    /// mean, as UnixFS, is not looked at.
+    /// The data, or `None` if the block has none. Missing data differ from data of no bytes. Their
+    /// content, such as UnixFS, is not interpreted.
     pub data: Option<&'a [u8]>,
 }
 
 /// A link of a node of DAG-PB.
 #[derive(Clone, Copy, Debug, PartialEq, Eq)]
 pub struct PbLink<'a> {
-    /// What the link leads to.
+    /// The CID of the target.
     pub hash: Cid,
-    /// The name of the link, where it has one. An empty name isn't the same as none.
+    /// The name of the link, or `None` if it has none. A missing name differs from an empty one.
     pub name: Option<&'a str>,
-    /// The size of what the link leads to, as the block's author says it, where it has one. Nothing
-    /// checks it.
+    /// The size of the target, as the block states it, or `None` if it doesn't. It is not checked.
     pub tsize: Option<u64>,
 }
 
 impl<'a> PbNode<'a> {
-    /// The node that a block is, all of its bytes.
+    /// Decodes a block, all of its bytes.
     ///
     /// # Errors
     ///
-    /// [`Error::Pb`] where the bytes are none, [`Error::OutOfMemory`], and [`Error::TooLong`] where
-    /// a name or the data have 2^32 bytes or more.
+    /// [`Error::Pb`] if the bytes are not a node, [`Error::OutOfMemory`] if an allocation fails,
+    /// and [`Error::TooLong`] if a name or the data have 2^32 bytes or more.
     pub fn of(block: &'a [u8]) -> Result<Self, Error> {
         let tape = ffi::Tape::of_node(block).map_err(Error::of_pb)?;
         let mut node = PbNode { links: Vec::new(), data: None };

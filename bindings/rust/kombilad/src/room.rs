@@ -1,5 +1,5 @@
-//! Buffers that a thread keeps from one block to the next, so that small blocks are read and
-//! written without new ones.
+//! Buffers that a thread keeps from one block to the next. With them the tapes of small blocks need
+//! no new allocations.
 
 use std::cell::Cell;
 use std::mem;
@@ -7,7 +7,7 @@ use std::thread::LocalKey;
 
 use crate::ffi::Entry;
 
-/// A buffer is kept if it has at most so many bytes.
+/// A buffer is kept if it has at most this many bytes.
 const KEPT: usize = 1 << 15;
 
 thread_local! {
@@ -15,7 +15,8 @@ thread_local! {
     static BYTES: Cell<Vec<u8>> = const { Cell::new(Vec::new()) };
 }
 
-/// The buffer that was kept, which is empty. A thread that ends has none.
+/// Takes the kept buffer, which is empty. When a thread ends, it has none, and this returns a new
+/// one.
 fn taken<T>(kept: &'static LocalKey<Cell<Vec<T>>>) -> Vec<T> {
     kept.try_with(Cell::take).unwrap_or_default()
 }
@@ -28,12 +29,12 @@ fn keep<T>(kept: &'static LocalKey<Cell<Vec<T>>>, buffer: &mut Vec<T>) {
     }
 }
 
-/// Entries in a buffer that is kept for the next when this one is dropped.
+/// Entries, in a buffer that the thread keeps when this is dropped.
 #[derive(Clone, Debug)]
 pub(crate) struct Entries(pub(crate) Vec<Entry>);
 
 impl Entries {
-    /// No entries.
+    /// Creates an empty list of entries, in the kept buffer if there is one.
     pub(crate) fn new() -> Self {
         Entries(taken(&ENTRIES))
     }
@@ -45,11 +46,11 @@ impl Drop for Entries {
     }
 }
 
-/// Bytes in a buffer that is kept for the next when this one is dropped.
+/// Bytes, in a buffer that the thread keeps when this is dropped.
 pub(crate) struct Bytes(pub(crate) Vec<u8>);
 
 impl Bytes {
-    /// No bytes.
+    /// Creates an empty list of bytes, in the kept buffer if there is one.
     pub(crate) fn new() -> Self {
         Bytes(taken(&BYTES))
     }

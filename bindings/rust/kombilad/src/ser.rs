@@ -1,4 +1,4 @@
-//! The blocks of the types of serde.
+//! Encodes the types of serde as blocks.
 
 use std::fmt;
 
@@ -10,10 +10,14 @@ use crate::error::EncodeError;
 use crate::ipld::Ipld;
 use crate::write::Writer;
 
-/// The canonical block of a value. A [`Cid`], and that of the crate `cid`, is a link; `None` and
-/// `()` are null; a struct is a map; an enum is the text of its variant, or a map from that to what
-/// the variant holds; a float of 32 bits is the same one of 64. The keys of each map are put in
-/// order, and the library makes the block of the value's entries.
+/// Encodes a value as its canonical block. The keys of each map are sorted, and the library encodes
+/// the block from a tape of the value.
+///
+/// - A [`Cid`], or that of the crate `cid`, is a link.
+/// - `None` and `()` are null.
+/// - A struct is a map.
+/// - An enum is the name of its variant, or a map from the name to the content of the variant.
+/// - A float of 32 bits is the same float of 64.
 ///
 /// ```
 /// #[derive(serde::Serialize)]
@@ -30,7 +34,8 @@ use crate::write::Writer;
 ///
 /// # Errors
 ///
-/// [`EncodeError`] says why a value has no block. It nests at most [`SERDE_LEVELS`] deep.
+/// [`EncodeError`] if the value has no block. It is [`EncodeError::TooDeep`] if the value nests
+/// deeper than [`SERDE_LEVELS`].
 pub fn to_vec<T: Serialize + ?Sized>(value: &T) -> Result<Vec<u8>, EncodeError> {
     let mut block = Block { writer: Writer::new(), pairs: Vec::new() };
     value.serialize(ItemSerializer { block: &mut block, left: SERDE_LEVELS })?;
@@ -43,28 +48,27 @@ impl ser::Error for EncodeError {
     }
 }
 
-/// The tape as far as it is written, and the pairs of the maps that are open: where the entry of
-/// each key stands.
+/// The tape as far as it is written, and the index of each key's entry in the open maps.
 struct Block {
     writer: Writer,
     pairs: Vec<usize>,
 }
 
 impl Block {
-    /// A map of one pair ends, where there is one.
+    /// Ends the map of one pair around an enum's content, if there is one.
     fn close_variant(&mut self, begin: Option<usize>) -> Result<(), EncodeError> {
         begin.map_or(Ok(()), |begin| self.writer.end(begin, 1))
     }
 }
 
-/// Writes one item, within so many more levels.
+/// Writes one item, which may nest `left` levels deep.
 struct ItemSerializer<'b> {
     block: &'b mut Block,
     left: usize,
 }
 
 impl<'b> ItemSerializer<'b> {
-    /// The same, for as long as this one is borrowed.
+    /// Reborrows this.
     fn again(&mut self) -> ItemSerializer<'_> {
         ItemSerializer { block: self.block, left: self.left }
     }
@@ -86,8 +90,8 @@ impl<'b> ItemSerializer<'b> {
         Ok(Pairs { block: self.block, left, begin, variant: None, first })
     }
 
-    /// A map of one pair, from the name of an enum's variant: where it begins, and what writes the
-    /// value.
+    /// Begins a map of one pair, whose key is the name of an enum's variant. Returns the index of
+    /// its entry, and a serializer for the value.
     fn variant(self, variant: &str) -> Result<(usize, ItemSerializer<'b>), EncodeError> {
         let left = self.deeper()?;
         let begin = self.block.writer.map()?;
@@ -273,7 +277,7 @@ struct Items<'b> {
     block: &'b mut Block,
     left: usize,
     begin: usize,
-    /// Where the map of one pair begins whose value this is.
+    /// The entry of the map of one pair whose value this is, if it is an enum's content.
     variant: Option<usize>,
     count: usize,
 }
@@ -314,7 +318,7 @@ struct Pairs<'b> {
     block: &'b mut Block,
     left: usize,
     begin: usize,
-    /// Where the map of one pair begins whose value this is.
+    /// The entry of the map of one pair whose value this is, if it is an enum's content.
     variant: Option<usize>,
     first: usize,
 }
@@ -378,13 +382,13 @@ pairs!(SerializeStruct, SerializeStructVariant);
 
 #[derive(Clone, Copy)]
 enum Only {
-    /// The key of a map, which is a text.
+    /// The key of a map, which is a string.
     Key,
     /// The bytes of a CID.
     Link,
 }
 
-/// Writes a key, or a link of bytes, and rejects all else.
+/// Writes a key, or the bytes of a link, and rejects anything else.
 struct OnlySerializer<'b> {
     block: &'b mut Block,
     only: Only,
@@ -537,7 +541,7 @@ impl Serializer for OnlySerializer<'_> {
     }
 }
 
-/// Bytes as such, where serde would write a list of numbers.
+/// Bytes that serde encodes as bytes. It would encode a slice as a list of numbers.
 struct Bytes<'a>(&'a [u8]);
 
 impl Serialize for Bytes<'_> {

@@ -1,4 +1,4 @@
-//! The values of a block where they stand.
+//! The values of a block, read in place.
 
 use std::iter;
 
@@ -7,8 +7,8 @@ use crate::cid::Cid;
 use crate::error::Error;
 use crate::ffi::{self, kind};
 
-/// The values of a block, without a copy of what they hold: 16 bytes for each value and each key,
-/// in the order of the block.
+/// The values of a block, without a copy of their content. A tape has 16 bytes for each value and
+/// each key, in the order of the block.
 ///
 /// ```
 /// use kombilad::{Kind, Tape};
@@ -26,7 +26,7 @@ use crate::ffi::{self, kind};
 pub struct Tape<'a>(ffi::Tape<'a>);
 
 impl<'a> Tape<'a> {
-    /// The values of a block: [`Limits::tape`] within the default limits.
+    /// Returns the tape of a block: [`Limits::tape`] within the default limits.
     ///
     /// # Errors
     ///
@@ -39,18 +39,18 @@ impl<'a> Tape<'a> {
         ffi::Tape::of(block).map(Tape).map_err(Error::of_block)
     }
 
-    /// The block's own value.
+    /// Returns the value of the block.
     pub fn root(&self) -> TapeRef<'_, 'a> {
         TapeRef { tape: &self.0, at: 0 }
     }
 
-    /// How many values and keys there are.
+    /// Returns the number of values and keys.
     pub fn entry_count(&self) -> usize {
         self.0.entries().len()
     }
 }
 
-/// What a value is.
+/// The kind of a value.
 #[derive(Clone, Copy, Debug, PartialEq, Eq, Hash)]
 pub enum Kind {
     /// Null.
@@ -61,19 +61,19 @@ pub enum Kind {
     Integer,
     /// A finite float of 64 bits.
     Float,
-    /// A text.
+    /// A string.
     String,
     /// Bytes.
     Bytes,
     /// A list of values.
     List,
-    /// A map of values by texts.
+    /// A map from strings to values.
     Map,
     /// A CID.
     Link,
 }
 
-/// A value of a block, where it stands. What it lends lives as long as the block.
+/// A value of a block, in place. Strings and bytes that it returns are borrowed from the block.
 #[derive(Clone, Copy, Debug)]
 pub struct TapeRef<'t, 'a> {
     pub(crate) tape: &'t ffi::Tape<'a>,
@@ -86,7 +86,7 @@ impl<'t, 'a> TapeRef<'t, 'a> {
         self.tape.part(self.at).entry()
     }
 
-    /// What the value is.
+    /// Returns the kind of the value.
     pub fn kind(self) -> Kind {
         match self.entry().kind {
             kind::FALSE | kind::TRUE => Kind::Bool,
@@ -101,12 +101,12 @@ impl<'t, 'a> TapeRef<'t, 'a> {
         }
     }
 
-    /// Whether it is null.
+    /// Returns whether the value is null.
     pub fn is_null(self) -> bool {
         self.entry().kind == kind::NULL
     }
 
-    /// The bool.
+    /// Returns the bool, or `None` for another kind of value.
     pub fn as_bool(self) -> Option<bool> {
         match self.entry().kind {
             kind::FALSE => Some(false),
@@ -115,7 +115,7 @@ impl<'t, 'a> TapeRef<'t, 'a> {
         }
     }
 
-    /// The integer.
+    /// Returns the integer, or `None` for another kind of value.
     pub fn as_integer(self) -> Option<i128> {
         match self.entry() {
             ffi::Entry { kind: kind::UNSIGNED, value, .. } => Some(value.into()),
@@ -124,29 +124,29 @@ impl<'t, 'a> TapeRef<'t, 'a> {
         }
     }
 
-    /// The float.
+    /// Returns the float, or `None` for another kind of value.
     pub fn as_float(self) -> Option<f64> {
         let bytes = self.content_of(kind::FLOAT)?;
         Some(f64::from_be_bytes(bytes.try_into().ok()?))
     }
 
-    /// The text.
+    /// Returns the string, or `None` for another kind of value.
     pub fn as_str(self) -> Option<&'a str> {
         let part = self.tape.part(self.at);
         (part.entry().kind == kind::STRING).then(|| part.text())
     }
 
-    /// The bytes.
+    /// Returns the bytes, or `None` for another kind of value.
     pub fn as_bytes(self) -> Option<&'a [u8]> {
         self.content_of(kind::BYTES)
     }
 
-    /// The CID.
+    /// Returns the CID of a link, or `None` for another kind of value.
     pub fn as_link(self) -> Option<Cid> {
         self.as_link_bytes().map(Cid::of_valid)
     }
 
-    /// The bytes of the CID.
+    /// Returns the bytes of a link's CID, or `None` for another kind of value.
     pub fn as_link_bytes(self) -> Option<&'a [u8]> {
         self.content_of(kind::LINK)
     }
@@ -160,7 +160,7 @@ impl<'t, 'a> TapeRef<'t, 'a> {
         matches!(self.entry().kind, kind::LIST | kind::MAP)
     }
 
-    /// How many items a list has, or how many pairs a map; 0 of any other value.
+    /// Returns the number of items of a list, or of pairs of a map, or 0 for any other value.
     #[allow(clippy::len_without_is_empty)]
     pub fn len(self) -> usize {
         if self.is_container() {
@@ -170,35 +170,36 @@ impl<'t, 'a> TapeRef<'t, 'a> {
         }
     }
 
-    /// Where the entries end that the value spans.
+    /// Returns the index after the last entry that the value spans.
     pub(crate) fn end(self) -> usize {
         self.at + if self.is_container() { self.entry().len as usize } else { 1 }
     }
 
-    /// The items of a list; none of any other value.
+    /// Returns the items of a list. For any other value the iterator is empty.
     pub fn items(self) -> Items<'t, 'a> {
         let left = if self.entry().kind == kind::LIST { self.len() } else { 0 };
         Items { next: TapeRef { tape: self.tape, at: self.at + 1 }, left }
     }
 
-    /// The pairs of a map, in the order of the block; none of any other value.
+    /// Returns the pairs of a map, in the order of the block. For any other value the iterator is
+    /// empty.
     pub fn pairs(self) -> Pairs<'t, 'a> {
         let left = if self.entry().kind == kind::MAP { self.len() } else { 0 };
         Pairs { next: TapeRef { tape: self.tape, at: self.at + 1 }, left }
     }
 
-    /// The value of a map by its key. It looks at one key after another.
+    /// Returns the value of a key in a map. It compares one key after another, in linear time.
     pub fn get(self, key: &str) -> Option<TapeRef<'t, 'a>> {
         self.pairs().find_map(|(other, value)| (other == key).then_some(value))
     }
 
-    /// An item of a list by its place. It passes over the items before, each in one step.
+    /// Returns the item at an index of a list. It skips the items before it, each in one step.
     pub fn index(self, place: usize) -> Option<TapeRef<'t, 'a>> {
         self.items().nth(place)
     }
 
-    /// The value at a path: of a map the value of the key, of a list the item at the number, for
-    /// each part between slashes. A path that is empty is this value's own.
+    /// Returns the value at a path of keys and indices with slashes between them. In a map a part
+    /// is a key, and in a list it is an index. The empty path leads to this value itself.
     ///
     /// ```
     /// let block = b"\xa1\x64list\x82\x01\xa1\x61a\xf5";
@@ -217,7 +218,7 @@ impl<'t, 'a> TapeRef<'t, 'a> {
     }
 }
 
-/// The number that is written just so, without a sign or a zero before it.
+/// Parses a decimal number without a sign or leading zeros.
 fn number(part: &str) -> Option<usize> {
     let digits =
         part.bytes().all(|byte| byte.is_ascii_digit()) && (part == "0" || !part.starts_with('0'));
@@ -228,7 +229,7 @@ fn number(part: &str) -> Option<usize> {
     }
 }
 
-/// The items of a list.
+/// An iterator over the items of a list.
 #[derive(Clone, Debug)]
 pub struct Items<'t, 'a> {
     next: TapeRef<'t, 'a>,
@@ -250,7 +251,7 @@ impl<'t, 'a> Iterator for Items<'t, 'a> {
     }
 }
 
-/// The pairs of a map.
+/// An iterator over the pairs of a map.
 #[derive(Clone, Debug)]
 pub struct Pairs<'t, 'a> {
     next: TapeRef<'t, 'a>,

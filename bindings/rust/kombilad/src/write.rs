@@ -1,15 +1,15 @@
-//! The tape of a value that is to become a block: its entries in order, and their content. The
-//! library makes the block of it.
+//! Writes the tape of a value: its entries in order, and their content. The library encodes the
+//! tape as a block.
 
 use crate::error::EncodeError;
 use crate::ffi::{self, kind, Entry};
 use crate::room::{Bytes, Entries};
 
-/// What has been written.
+/// The tape as far as it is written.
 pub(crate) struct Writer {
     entries: Entries,
     data: Bytes,
-    /// How many bytes the block has.
+    /// The maximum number of bytes of the block.
     size: usize,
 }
 
@@ -18,7 +18,7 @@ impl Writer {
         Writer { entries: Entries::new(), data: Bytes::new(), size: 0 }
     }
 
-    /// The canonical block of the value, or why there is none.
+    /// Returns the canonical block of the value, or the error if it has none.
     pub(crate) fn finish(self) -> Result<Vec<u8>, EncodeError> {
         ffi::encode(&self.entries.0, &self.data.0, self.size)
             .map_err(|(status, _)| EncodeError::of_tape(status))
@@ -82,7 +82,7 @@ impl Writer {
         self.number(kind, value)
     }
 
-    /// NaN and the infinities are found by the library.
+    /// Writes a float. The library rejects NaN and the infinities later.
     #[inline(never)]
     pub(crate) fn float(&mut self, number: f64) -> Result<(), EncodeError> {
         self.content(kind::FLOAT, &number.to_be_bytes())
@@ -102,21 +102,20 @@ impl Writer {
         self.content(kind::BYTES, bytes)
     }
 
-    /// A link of bytes; the library finds out whether they are those of a CID.
+    /// Writes a link. The library checks later whether the bytes are a CID.
     pub(crate) fn link(&mut self, cid: &[u8]) -> Result<(), EncodeError> {
-        // The tag takes two bytes; the head of a CID of 23 bytes or more a second one, and of 255
-        // or more a third.
+        // The tag takes two bytes, and the zero byte before the CID takes one. That byte may make
+        // the head longer than the one that `content` counts.
         self.size += 5;
         self.content(kind::LINK, cid)
     }
 
-    /// A list begins. What is returned is handed to `end`.
+    /// Begins a list. Pass the result to `end`.
     pub(crate) fn list(&mut self) -> Result<usize, EncodeError> {
         self.begin(kind::LIST)
     }
 
-    /// A map begins, of which each pair is a key and its value. What is returned is handed to
-    /// `end`.
+    /// Begins a map. Each pair is a key and its value. Pass the result to `end`.
     pub(crate) fn map(&mut self) -> Result<usize, EncodeError> {
         self.begin(kind::MAP)
     }
@@ -128,7 +127,7 @@ impl Writer {
         Ok(begin)
     }
 
-    /// The list or the map ends that began there, with so many items or pairs.
+    /// Ends the list or the map that began at an entry, with the number of its items or pairs.
     #[inline]
     pub(crate) fn end(&mut self, begin: usize, count: usize) -> Result<(), EncodeError> {
         let len = u32::try_from(self.entries.0.len() - begin).map_err(|_| EncodeError::TooLong)?;
@@ -139,10 +138,10 @@ impl Writer {
     }
 }
 
-/// What serde's types want beside this.
+/// The calls that only serde's types need.
 #[cfg(feature = "serde")]
 impl Writer {
-    /// How many entries there are.
+    /// Returns the number of entries.
     pub(crate) fn len(&self) -> usize {
         self.entries.0.len()
     }
@@ -159,8 +158,8 @@ impl Writer {
         }
     }
 
-    /// Puts pairs in the order of their keys, of which each pair's entry stands there and the last
-    /// pair is the last that was written.
+    /// Sorts the pairs of a map by their keys. `keys` has the index of each key's entry. The last
+    /// pair ends with the last entry.
     pub(crate) fn sort_pairs(&mut self, keys: &[usize]) -> Result<(), EncodeError> {
         let (entries, data) = (&self.entries.0, &self.data.0);
         let key = |at: usize| {
@@ -183,7 +182,7 @@ impl Writer {
     }
 }
 
-/// How many bytes the head with an argument has.
+/// Returns the number of bytes of a head with this argument.
 #[inline(always)]
 fn head_len(argument: u64) -> usize {
     match argument {

@@ -1,5 +1,5 @@
-//! Each call once on what it is for and once on what it rejects. The texts are those of the CID
-//! specification's examples and of another implementation, the blocks are written out by hand.
+//! Tests each call with valid input and with input that it rejects. The texts are from the CID
+//! specification's examples and from another implementation. The blocks are written by hand.
 
 use std::collections::{BTreeSet, HashSet};
 use std::thread;
@@ -16,7 +16,7 @@ fn cid(text: &str) -> Cid {
     text.parse().unwrap()
 }
 
-/// A block that is a list of links.
+/// Returns a block that is a list of links.
 fn list(cids: &[Cid]) -> Vec<u8> {
     let mut block = vec![0x80 | cids.len() as u8];
     for cid in cids {
@@ -47,7 +47,7 @@ fn a_cid_has_parts() {
     assert_eq!(v0.digest(), cid(VERSION_0_AS_1).digest());
 }
 
-/// The bytes of a number as an unsigned varint of multiformats.
+/// Encodes a number as an unsigned varint of multiformats.
 fn varint(mut number: u64) -> Vec<u8> {
     let mut bytes = Vec::new();
     while number > 127 {
@@ -168,7 +168,7 @@ fn cids_compare_and_hash() {
     assert_eq!(Vec::from(a), a.as_bytes());
 }
 
-/// Why reading a block stops, and at which byte.
+/// Returns the error of reading a block, and its offset.
 fn stop<T: std::fmt::Debug>(result: Result<T, Error>) -> (BlockError, usize) {
     match result {
         Err(Error::Block { error, offset }) => (error, offset),
@@ -213,7 +213,7 @@ fn links_are_found() {
         assert_eq!(&block[position.clone()], cid.as_bytes());
     }
     assert_eq!(positions.len(), 23);
-    // More links than there is room for at first.
+    // More links than the first allocation has room for.
     let short = list(&[cid("bafkqaaa"); 23]);
     assert_eq!(kombilad::links(&short).map(|links| links.len()), Ok(23));
     assert_eq!(kombilad::link_positions(&short).map(|found| found.len()), Ok(23));
@@ -257,7 +257,7 @@ fn blocks_are_json() {
     }
     let unordered = b"\xa2\x62aa\x01\x61b\x02";
     assert_eq!(kombilad::to_json(unordered).as_deref(), Ok(r#"{"aa":1,"b":2}"#));
-    // More bytes than there is room for at first.
+    // More bytes than the first allocation has room for.
     let escaped = [&b"\x7a\0\x01\x86\xa0"[..], &[1; 100_000]].concat();
     let text = format!(r#""{}""#, r"\u0001".repeat(100_000));
     assert_eq!(kombilad::to_json(&escaped).as_ref(), Ok(&text));

@@ -1,4 +1,5 @@
-//! CAR files there and back, cut, of version 2, from readers that give few bytes, and verified.
+//! Tests of CAR files: written and read back, cut short, of version 2, from readers that return few
+//! bytes at a time, and verified.
 
 use std::io::{self, Read};
 
@@ -42,7 +43,7 @@ fn error(reader: impl Read) -> (CarError, usize) {
     }
 }
 
-/// Gives few bytes at a time, and is interrupted between them.
+/// A reader that returns few bytes at a time, and is interrupted between them.
 struct Trickle<'a>(&'a [u8], usize);
 
 impl Read for Trickle<'_> {
@@ -158,8 +159,8 @@ fn errors_of_the_reader_come_through() {
     );
 }
 
-/// A reader that must not be read after its last byte: a pipe that stays open would wait. It gives
-/// at most as many bytes at a time as the number.
+/// A reader that must not be read after its last byte, since a pipe that stays open would block. It
+/// returns at most as many bytes at a time as the number.
 struct StaysOpen<'a>(&'a [u8], usize);
 
 impl Read for StaysOpen<'_> {
@@ -201,17 +202,18 @@ fn from_hex(text: &str) -> Vec<u8> {
         .collect()
 }
 
-/// The strings of a part of a line of JSON, which has no escapes.
+/// Returns the bytes of the hexadecimal strings in a part of a line of JSON, which has no escapes.
 fn strings(part: &str) -> Vec<Vec<u8>> {
     part.split('"').skip(1).step_by(2).map(from_hex).collect()
 }
 
-/// The letters of a name, in lower case.
+/// Returns the letters and digits of a name, in lower case.
 fn letters(name: &str) -> String {
     name.chars().filter(|letter| letter.is_alphanumeric()).collect::<String>().to_lowercase()
 }
 
-/// `bindings/test/car_cases.py` wrote the file that CARS names.
+/// The variable `CARS` names the file, which `bindings/test/car_cases.py` wrote. If it isn't set,
+/// nothing is tested.
 #[test]
 fn random_cars_are_read_as_the_plain_reader_reads_them() {
     let file = match std::env::var_os("CARS") {

@@ -1,4 +1,4 @@
-//! Nodes of DAG-PB. The bytes are written out by hand, by its specification.
+//! Tests of nodes of DAG-PB. The bytes are written by hand from its specification.
 
 use kombilad::{CidError, Error, PbError, PbLink, PbNode};
 

@@ -1,4 +1,5 @@
-//! Types of serde from blocks and back, beside `serde_cbor` where it writes the same.
+//! Tests that types of serde are encoded and decoded. Some blocks are compared with those of
+//! `serde_cbor`.
 #![cfg(feature = "serde")]
 
 use std::borrow::Cow;
@@ -19,7 +20,7 @@ fn cid() -> Cid {
     "bafkqaaa".parse().unwrap()
 }
 
-/// That a value is this block, and the block this value.
+/// Checks that a value is encoded as this block, and the block decoded to this value.
 fn same<'a, T: Serialize + Deserialize<'a> + PartialEq + fmt::Debug>(value: &T, block: &'a [u8]) {
     assert_eq!(kombilad::to_vec(value).as_deref(), Ok(block), "{value:?}");
     assert_eq!(kombilad::from_slice::<T>(block).as_ref(), Ok(value));
@@ -196,7 +197,7 @@ fn enums_without_a_tag_of_their_own_hold_links() {
     same(&Flat { a: 1, rest }, &[b"\xa3\x61a\x01\x61b", LINK, b"\x61c\xf6"].concat());
 }
 
-/// A CID as the crate `cid` reads and writes it: by its name, as bytes.
+/// A CID in the form that the crate `cid` uses: a newtype struct of a certain name, with bytes.
 #[derive(PartialEq, Debug)]
 struct Theirs(Vec<u8>);
 
@@ -242,7 +243,7 @@ fn cids_of_other_crates_are_links() {
     assert_eq!(wrong, Err(EncodeError::Cid(CidError::End)));
 }
 
-/// A list and a map whose lengths aren't known before, or are wrong.
+/// A list whose declared length may be missing or wrong. `Mapping` is a map with such a length.
 struct Sequence(Option<usize>, usize);
 
 impl Serialize for Sequence {

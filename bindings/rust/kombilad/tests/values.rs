@@ -1,5 +1,5 @@
-//! Values of blocks: as a tape, as a tree and through serde, beside `serde_cbor`, which shares
-//! nothing with this crate.
+//! Tests of the values of blocks: as a tape, as a tree and through serde. They are compared with
+//! those of `serde_cbor`, which shares no code with this crate.
 
 use std::collections::BTreeMap;
 use std::thread;
@@ -7,7 +7,7 @@ use std::thread;
 use kombilad::{BlockError, Cid, EncodeError, Error, Ipld, Kind, Limits, Tape, TapeRef};
 use serde_cbor::Value;
 
-/// A generator that is good enough for tests (an LCG of Knuth's).
+/// A random number generator that is good enough for tests (an LCG of Knuth's).
 struct Random(u64);
 
 impl Random {
@@ -35,7 +35,7 @@ impl Random {
             }
             1 => Value::Integer(self.bits().into()),
             2 => Value::Integer(-1 - i128::from(self.bits())),
-            // No float of 32 bits, which serde_cbor would write as one.
+            // Not a float of 32 bits, since serde_cbor would write it in 32 bits.
             3 => Value::Float(0.1 + self.bits() as f64),
             4 => Value::Bytes(self.text().into_bytes()),
             5 => Value::Text(self.text()),
@@ -82,7 +82,7 @@ fn tree(value: &Value) -> Ipld {
     }
 }
 
-/// The tree by the calls of a tape.
+/// Returns the tree of a value, which it reads by the calls of a tape.
 fn walked(value: TapeRef<'_, '_>) -> Ipld {
     match value.kind() {
         Kind::Null => {
@@ -131,7 +131,7 @@ fn values_are_those_of_serde_cbor() {
             assert_eq!(kombilad::from_slice(&block).as_ref(), Ok(&expected));
             assert_eq!(kombilad::to_vec(&expected).as_ref(), Ok(&block));
         }
-        // Each part is a tree by itself.
+        // A part converts to a tree by itself.
         for (key, part) in tape.root().pairs() {
             assert!(matches!(&expected, Ipld::Map(pairs) if pairs[key] == Ipld::from(part)));
         }
