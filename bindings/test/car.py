@@ -1,8 +1,9 @@
 """
-CAR files from Python: beside a plain reader, cut and changed at every byte, from files that give
-few bytes at a time, and verified.
+Tests CAR files from Python: compared with a plain reader, cut and changed at every byte, from files
+that return few bytes at a time, and verified.
 """
 
+import asyncio
 import hashlib
 import io
 import random
@@ -11,7 +12,7 @@ import unittest
 
 import kombilad
 import reader
-from kombilad import CarReader, Cid, Status, libipld
+from kombilad import AsyncCarReader, CarReader, Cid, Status, libipld
 
 
 def varint(number):
@@ -73,7 +74,7 @@ DECODED = {
 
 
 class Trickle(io.RawIOBase):
-    """A file that gives few bytes at a time."""
+    """A file that returns few bytes at a time."""
 
     def __init__(self, data):
         self.data, self.at = data, 0
@@ -89,7 +90,8 @@ class Trickle(io.RawIOBase):
 
 
 class StaysOpen(Trickle):
-    """A file that must not be read after its last byte: a pipe that stays open would wait."""
+    """A file that must not be read after its last byte, since a pipe that stays open would
+    block."""
 
     def readinto(self, buffer):
         assert self.at < len(self.data), "read on"
@@ -106,6 +108,24 @@ def sections(source, **options):
     )
 
 
+async def chunks_of(data, size):
+    """Yields the bytes in chunks, and an empty one first."""
+    yield b""
+    for at in range(0, len(data), size):
+        yield data[at : at + size]
+
+
+def sections_of_chunks(data, size=7, **options):
+    """Returns what `sections` returns, by an asynchronous reader of chunks."""
+
+    async def read():
+        car = await AsyncCarReader.open(chunks_of(data, size), **options)
+        found = [(bytes(cid), block) async for cid, block in car]
+        return car.version, [bytes(root) for root in car.roots], found
+
+    return asyncio.run(read())
+
+
 def outcome(call, *arguments, **named):
     try:
         return call(*arguments, **named)
@@ -114,7 +134,8 @@ def outcome(call, *arguments, **named):
 
 
 def plainly(car):
-    """The sections of a CAR of version 1 whose header is whole, or the name of an error."""
+    """Returns the sections of a CAR of version 1 whose header isn't cut, or the name of an
+    error."""
     at, found = len(header(ROOTS)), []
     while at < len(car):
         try:
@@ -199,6 +220,36 @@ class Cars(unittest.TestCase):
                 for section in SECTIONS:
                     cid, block = next(found)
                     self.assertEqual((bytes(cid), block), section)
+
+    def test_an_asynchronous_source_is_read_alike(self):
+        choose = random.Random(2)
+        for _ in range(200):
+            car = bytearray(choose.choice([CAR, version2(CAR, 10, b"index")]))
+            for _ in range(choose.randrange(3)):
+                car[choose.randrange(len(car))] ^= 1 << choose.randrange(8)
+            car = bytes(car[: choose.choice([len(car), choose.randrange(len(car) + 1)])])
+            for options in ({}, {"verify": True}, {"header_limit": 200, "section_limit": 60}):
+                size = choose.choice([1, 7, 1000])
+                self.assertEqual(
+                    outcome(sections_of_chunks, car, size, **options),
+                    outcome(sections, car, **options),
+                    car.hex(),
+                )
+
+    def test_an_asynchronous_block_arrives_with_its_last_byte(self):
+        async def read(car):
+            stream = asyncio.StreamReader()
+            stream.feed_data(car)
+            found = await AsyncCarReader.open(stream)
+            self.assertEqual([bytes(root) for root in found.roots], ROOTS)
+            for section in SECTIONS:
+                cid, block = await asyncio.wait_for(found.__anext__(), 10)
+                self.assertEqual((bytes(cid), block), section)
+            with self.assertRaises(asyncio.TimeoutError):
+                await asyncio.wait_for(found.__anext__(), 0.01)
+            self.assertEqual([section async for section in found], [])
+
+        asyncio.run(read(CAR))
 
     def test_version_2(self):
         for before, index in ((0, b""), (5, b"index"), (70_000, b"index"), (3_000_000, b"")):

@@ -14,8 +14,9 @@ proved code: the library `libkombilad`.
   `encode_dag_cbor` returns the block of a value.
 - `to_json` returns the DAG-JSON of a block, and `from_json` the block of a text in DAG-JSON.
 - `decode_dag_pb` returns the node of a block of DAG-PB.
-- `CarReader` reads the blocks of a CAR file one at a time, and `decode_car` returns the values of
-  all blocks of a CAR in memory. `verify` compares a block with its CID.
+- `CarReader` reads the blocks of a CAR file one at a time, and `AsyncCarReader` does so with
+  `async for`. `decode_car` returns the values of all blocks of a CAR in memory. `verify` compares a
+  block with its CID.
 
 A block is any object with contiguous bytes, such as `bytes`, `bytearray`, `memoryview` or `mmap`.
 It isn't copied, and must not change while a call reads it. If it is `bytes` of 64 KiB or more, the
@@ -40,7 +41,7 @@ from ._block import (
     links,
     to_json,
 )
-from ._car import CarReader, decode_car, verify
+from ._car import AsyncCarReader, CarReader, decode_car, verify
 from ._cid import DAG_CBOR, DAG_PB, RAW, SHA2_256, Cid
 from ._errors import (
     BaseError,
@@ -68,6 +69,7 @@ __all__ = [
     "DAG_PB",
     "RAW",
     "SHA2_256",
+    "AsyncCarReader",
     "BaseError",
     "BlockError",
     "CarError",

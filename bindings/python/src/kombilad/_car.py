@@ -1,7 +1,20 @@
-"""CAR files: all of one in memory, or one section after another."""
+"""Reads CAR files: a whole file in memory, or one section after another."""
 
 import io
-from typing import Any, BinaryIO, Callable, Dict, Iterator, List, Optional, Tuple, Type, Union
+from typing import (
+    Any,
+    AsyncIterator,
+    Awaitable,
+    BinaryIO,
+    Callable,
+    Dict,
+    Iterator,
+    List,
+    Optional,
+    Tuple,
+    Type,
+    Union,
+)
 
 from . import _native
 from ._cid import Cid
@@ -11,9 +24,9 @@ from ._status import BytesLike, Status
 # The default limits on the bytes of a header and of a section.
 HEADER_LIMIT = 8 << 20
 SECTION_LIMIT = 32 << 20
-# The least number of bytes that are read at once.
+# The minimum number of bytes in a request to the file.
 _CHUNK = 1 << 16
-# The byte of a CAR of version 2 at which its header places the payload.
+# The byte of a CAR of version 2 at which its header has the offset of the payload.
 _PLACE_OF_PAYLOAD = 27
 
 
@@ -40,8 +53,8 @@ def decode_car(
     A block of DAG-CBOR is decoded, within the limits `levels` and `values`. A block of another
     codec is returned as bytes. With `verify`, a block whose digest isn't that of its CID raises
     `VerifyError`, as does one whose hash function is not SHA2-256, SHA2-512 or identity. `cids` is
-    the class of CIDs, as in `decode_dag_cbor`. If two blocks have one CID, the later one is
-    returned. All values are in memory at once. `CarReader` holds one block at a time.
+    the class of CIDs, as in `decode_dag_cbor`. If two blocks have the same CID, the later one is
+    returned. All values are in memory at once. `CarReader` keeps only one block in memory.
 
     >>> car = bytes.fromhex("19a265726f6f747381d82a4500015500006776657273696f6e01 0401550000 050171000001")
     >>> decode_car(car)
@@ -69,6 +82,94 @@ def verify(cid: Cid, block: BytesLike) -> None:
     _native.verify(bytes(cid), block)
 
 
+class _Window:
+    """The bytes of a CAR that have been read, from the next section on.
+
+    Its methods read the CAR by calls of the library. If these need more bytes, `lacks` returns True
+    until `take` was called often enough.
+    """
+
+    def __init__(self, verify: bool, header_limit: int, section_limit: int):
+        self._bytes = bytearray()
+        self._begin = 0  # the index in the window at which the next section begins
+        self._needed = 1  # the number of bytes from there on that the next call needs
+        self._ended = False
+        self._verify = verify
+        self._header_limit, self._section_limit = header_limit, section_limit
+        self.version = 0
+        self.roots: List[Cid] = []
+        self._at = self._end = 0
+        self.section: Optional[Tuple[Cid, bytes]] = None
+        self.is_closed = False
+
+    def __len__(self) -> int:
+        return len(self._bytes)
+
+    def lacks(self) -> bool:
+        """Returns whether more bytes have to be read first."""
+        return len(self._bytes) - self._begin < self._needed and not self._ended
+
+    def size(self) -> int:
+        """Returns the number of bytes to request. Drops the sections before the next one."""
+        if self._begin >= _CHUNK:
+            del self._bytes[: self._begin]
+            self._begin = 0
+        return min(max(_CHUNK, len(self._bytes)), 1 << 20)
+
+    def take(self, chunk: bytes) -> None:
+        """Adds bytes that were read. If there are none, the CAR has ended."""
+        self._ended = not chunk
+        self._bytes += chunk
+
+    def open(self) -> bool:
+        """Reads the header. Returns False if that needs more bytes."""
+        if self.lacks():
+            return False
+        found = _native.open_part(self._bytes, self._ended, self._header_limit)
+        if isinstance(found, int):
+            # This many bytes contain a header within the limit, and padding before it in version 2.
+            most = 2 * self._header_limit + _CHUNK
+            if len(self._bytes) >= most:
+                raise failed(Status.CAR_TOO_LONG, offset=_PLACE_OF_PAYLOAD)
+            self._needed = min(len(self._bytes) + found, most)
+            return False
+        self.version, self._at, self._end, roots = found
+        self.roots = [_native.cid_of(Cid, root) for root in roots]
+        self._begin = self._at
+        return True
+
+    def next(self) -> bool:
+        """Reads the next section, or None after the last one. Returns False if that needs more
+        bytes."""
+        found = _native.next_part(
+            self._bytes,
+            self._begin,
+            self._ended,
+            self._section_limit,
+            self.version,
+            self._at,
+            self._end,
+        )
+        if isinstance(found, int):
+            self._needed = len(self._bytes) - self._begin + found
+            return False
+        self.section = None
+        if found is not None:
+            cid, begin, end = found
+            with memoryview(self._bytes) as window:
+                block = bytes(window[begin:end])
+            self._at += end - self._begin
+            self._begin = end
+            if self._verify:
+                _native.verify(cid, block)
+            self.section = _native.cid_of(Cid, cid), block
+        return True
+
+    def close(self) -> None:
+        """Drops all bytes, after which there is no section."""
+        self._bytes, self._begin, self.section, self.is_closed = bytearray(), 0, None, True
+
+
 class CarReader:
     """Iterates over the blocks of a CAR, as pairs of a `Cid` and bytes. The source is a binary file
     that is open for reading, or bytes.
@@ -80,10 +181,13 @@ class CarReader:
     >>> list(reader)
     [(Cid('bafkqaaa'), b''), (Cid('bafyqaaa'), b'\\x01')]
 
-    It holds one section and up to 64 KiB that follow it. A block is returned once the source has
-    returned its last byte. Of version 2 it reads the payload, and not the index. A header longer than `header_limit` bytes, or a section longer than `section_limit`,
-    raises `CarError` with the name `CAR_TOO_LONG`. With `verify`, a block whose digest isn't that
-    of its CID raises `VerifyError`. After an error the iteration ends.
+    It keeps one section in memory, and the bytes that it has read after it. It returns a block once
+    the source has returned its last byte. If the version is 2 it reads the payload, and not the
+    index.
+
+    A header longer than `header_limit` bytes, or a section longer than `section_limit`, raises
+    `CarError` with the name `CAR_TOO_LONG`. With `verify`, a block whose digest isn't that of its
+    CID raises `VerifyError`. After an error the iteration ends.
     """
 
     version: int
@@ -98,74 +202,115 @@ class CarReader:
         section_limit: int = SECTION_LIMIT,
     ):
         file: Any = source if hasattr(source, "read") else io.BytesIO(source)
-        # `read1` returns the bytes that are there, and doesn't wait for as many as it may return.
+        # `read1` returns the bytes that are available. `read` may wait for more.
         self._read: Callable[[int], bytes] = getattr(file, "read1", file.read)
-        self._window = bytearray()
-        self._begin = 0  # where in the window the next section begins
-        self._ended = False
-        self._done = False
-        self._verify, self._section_limit = verify, section_limit
-        self._open(header_limit)
+        self._window = _Window(verify, header_limit, section_limit)
+        while not self._window.open():
+            self._fill()
+        self.version, self.roots = self._window.version, self._window.roots
 
-    def _more(self, wanted: int) -> None:
-        """
-        Reads until the window has this many bytes from `_begin` on, or the file ends.
-        """
-        while len(self._window) - self._begin < wanted and not self._ended:
-            if self._begin >= _CHUNK:
-                del self._window[: self._begin]
-                self._begin = 0
-            chunk = self._read(min(max(_CHUNK, len(self._window)), 1 << 20))
-            self._ended = not chunk
-            self._window += chunk
-
-    def _open(self, limit: int) -> None:
-        # This many bytes contain a header within the limit, and the padding before one in version 2.
-        most = 2 * limit + _CHUNK
-        self._more(1)
-        while True:
-            found = _native.open_part(self._window, self._ended, limit)
-            if not isinstance(found, int):
-                break
-            if len(self._window) >= most:
-                raise failed(Status.CAR_TOO_LONG, offset=_PLACE_OF_PAYLOAD)
-            self._more(min(len(self._window) + found, most))
-        self.version, self._at, self._end, roots = found
-        self.roots = [_native.cid_of(Cid, root) for root in roots]
-        self._begin = self._at
+    def _fill(self) -> None:
+        """Reads the bytes that the window lacks."""
+        while self._window.lacks():
+            self._window.take(self._read(self._window.size()))
 
     def __iter__(self) -> Iterator[Tuple[Cid, bytes]]:
         return self
 
     def __next__(self) -> Tuple[Cid, bytes]:
-        if self._done:
+        window = self._window
+        if window.is_closed:
             raise StopIteration
         try:
-            found = self._section()
+            while not window.next():
+                self._fill()
         except BaseException:
-            self._window, self._begin, self._ended = bytearray(), 0, True
-            self._done = True
+            window.close()
             raise
-        if found is None:
+        if window.section is None:
             raise StopIteration
-        return found
+        return window.section
 
-    def _section(self) -> Optional[Tuple[Cid, bytes]]:
-        place = self.version, self._at, self._end
-        while True:
-            found = _native.next_part(
-                self._window, self._begin, self._ended, self._section_limit, *place
-            )
-            if found is None:
-                return None
-            if not isinstance(found, int):
-                break
-            self._more(len(self._window) - self._begin + found)
-        cid, begin, end = found
-        with memoryview(self._window) as window:
-            block = bytes(window[begin:end])
-        self._at += end - self._begin
-        self._begin = end
-        if self._verify:
-            _native.verify(cid, block)
-        return _native.cid_of(Cid, cid), block
+
+class AsyncCarReader:
+    """Iterates over the blocks of a CAR by `async for`, as pairs of a `Cid` and bytes. `open`
+    creates one.
+
+    >>> import asyncio
+    >>> async def show(chunks):
+    ...     reader = await AsyncCarReader.open(chunks)
+    ...     print(reader.version, reader.roots)
+    ...     async for cid, block in reader:
+    ...         print(cid, block)
+    >>> async def chunks():
+    ...     yield bytes.fromhex("19a265726f6f747381d82a4500015500006776657273696f6e01")
+    ...     yield bytes.fromhex("0401550000050171000001")
+    >>> asyncio.run(show(chunks()))
+    1 [Cid('bafkqaaa')]
+    bafkqaaa b''
+    bafyqaaa b'\\x01'
+
+    The limits, the errors and the memory are those of `CarReader`. It returns a block once the
+    source has returned its last byte. After an error, or if a task is cancelled while it waits for
+    a block, the iteration ends.
+    """
+
+    version: int
+    roots: List[Cid]
+
+    def __init__(self, read: Callable[[int], Awaitable[bytes]], window: _Window):
+        self._read, self._window = read, window
+        self.version, self.roots = window.version, window.roots
+
+    @classmethod
+    async def open(
+        cls,
+        source: Any,
+        *,
+        verify: bool = False,
+        header_limit: int = HEADER_LIMIT,
+        section_limit: int = SECTION_LIMIT,
+    ) -> "AsyncCarReader":
+        """Reads the header of a CAR, and returns a reader of its sections. The source has a method
+        `read(n)` that returns an awaitable of bytes, like `asyncio.StreamReader`, or it is an
+        asynchronous iterable of bytes, like the chunks of an HTTP response."""
+        read = _reading(source)
+        window = _Window(verify, header_limit, section_limit)
+        while not window.open():
+            while window.lacks():
+                window.take(await read(window.size()))
+        return cls(read, window)
+
+    def __aiter__(self) -> AsyncIterator[Tuple[Cid, bytes]]:
+        return self
+
+    async def __anext__(self) -> Tuple[Cid, bytes]:
+        window = self._window
+        if window.is_closed:
+            raise StopAsyncIteration
+        try:
+            while not window.next():
+                while window.lacks():
+                    window.take(await self._read(window.size()))
+        except BaseException:
+            window.close()
+            raise
+        if window.section is None:
+            raise StopAsyncIteration
+        return window.section
+
+
+def _reading(source: Any) -> Callable[[int], Awaitable[bytes]]:
+    """Returns a function that reads the next bytes of an asynchronous source, none at its end."""
+    if hasattr(source, "read"):
+        read: Callable[[int], Awaitable[bytes]] = source.read
+        return read
+    chunks = source.__aiter__()
+
+    async def read_chunk(_size: int) -> bytes:
+        async for chunk in chunks:
+            if chunk:
+                return bytes(chunk)
+        return b""
+
+    return read_chunk
