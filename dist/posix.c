@@ -1,17 +1,17 @@
-/* The part of a program that speaks to the system, by POSIX: `main`, and the functions that ipld.c and
+/* The part of a program that calls the system, by POSIX: `main`, and the functions that ipld.c and
  * ipld_links.c call.
  *
  *     cc -O2 ipld.c posix.c -o ipld
  *
- * Those files are made of a module for Linux on x86-64. So numbers of flags, modes and errors are
- * Linux's here, records lie in memory as on x86-64, and sizes have 64 bits. Each function does what
- * POSIX's of that name does. Where that fails, it returns -1 (`host_realpath` NULL), and `host_errno`
- * returns the error.
+ * Those files are made from a module for Linux on x86-64. So flags, modes and errors have the
+ * numbers of Linux here, records have the layout of x86-64, and sizes have 64 bits. Each function
+ * does the same as the function of POSIX with its name. If that fails, it returns -1, and
+ * `host_errno` returns the error. `host_realpath` returns NULL instead.
  *
- * It was run on Linux with glibc and with musl. It needs POSIX.1-2008, and `flock` and `getentropy`
- * besides. */
+ * It was run on Linux with glibc and with musl. It needs POSIX.1-2008, and also `flock` and
+ * `getentropy`. */
 
-/* With the first, strerror_r is not the one of POSIX. */
+/* With _GNU_SOURCE strerror_r is not that of POSIX. */
 #undef _GNU_SOURCE
 #ifndef _DEFAULT_SOURCE
 #define _DEFAULT_SOURCE 1
@@ -75,7 +75,8 @@ static int error_here(int number) {
     return number >= UNKNOWN_ERROR ? number - UNKNOWN_ERROR : number;
 }
 
-/* An error of another meaning on Linux gets a number that Linux doesn't have. */
+/* Returns the number of an error on Linux. An unknown error gets a number that Linux doesn't have,
+ * if its own has another meaning there. */
 static int error_on_linux(int number) {
     int at;
     for (at = 0; at < KNOWN_ERRORS; at++)
@@ -91,19 +92,20 @@ uint32_t host_strerror_r(uint32_t number, uint8_t *to, uint64_t size) {
     return (uint32_t)strerror_r(error_here((int)number), (char *)to, (size_t)size);
 }
 
-/* Writes a number of so many bytes, the lowest one first. */
+/* Writes a number of this many bytes, the lowest one first. */
 static void put(uint8_t *to, int bytes, uint64_t number) {
     int at;
     for (at = 0; at < bytes; at++) to[at] = (uint8_t)(number >> 8 * at);
 }
 
-/* How many bytes are read or written at once. */
+/* Returns the number of bytes to read or write at once. */
 static size_t at_most(uint64_t size) { return size > SSIZE_MAX ? SSIZE_MAX : (size_t)size; }
 
 /* ---- The process */
 
-/* Writes the word of a number, without a zero. Returns its length, -1 if there is no such word, or -2
- * if it is longer than `size` bytes, of which then all are written. */
+/* Writes the argument of the program with this number, without a zero byte at the end. Returns its
+ * length, or -1 if there is no such argument. If it is longer than `size` bytes, it writes as many
+ * and returns -2. */
 uint64_t host_arg(uint64_t number, uint8_t *to, uint64_t size) {
     size_t length;
     if (number >= (uint64_t)word_count) return FAILED;
@@ -114,7 +116,7 @@ uint64_t host_arg(uint64_t number, uint8_t *to, uint64_t size) {
 
 uint32_t host_getpid(void) { return (uint32_t)getpid(); }
 
-/* Ignores SIGPIPE, which is all that is asked of it. */
+/* Sets SIGPIPE to be ignored. It fails for any other arguments, which no program uses. */
 uint64_t host_signal(uint32_t number, uint64_t handler) {
     if (number == 13 && handler == 1) return signal(SIGPIPE, SIG_IGN) == SIG_ERR ? FAILED : 0;
     errno = EINVAL;
@@ -138,7 +140,7 @@ uint32_t host_clock_gettime(uint32_t number, uint8_t *to) {
     return 0;
 }
 
-/* ---- Files that are open */
+/* ---- Open files */
 
 uint32_t host_open(uint8_t *path, uint32_t flags, uint32_t mode) {
     static const struct {
@@ -161,7 +163,7 @@ uint32_t host_open(uint8_t *path, uint32_t flags, uint32_t mode) {
     return (uint32_t)open((const char *)path, here, (mode_t)mode);
 }
 
-/* The folder whose entries are read, its number, and the entry that comes next, if it was read. */
+/* The folder whose entries are being read, its number, and the next entry, if it was read. */
 static DIR *folder_read;
 static uint32_t number_read;
 static struct dirent *entry_read;
@@ -209,7 +211,7 @@ uint32_t host_flock(uint32_t file, uint32_t lock) { return (uint32_t)flock((int)
 
 /* ---- Folders */
 
-/* -100 is the working directory. A link at the end of the path is not followed. */
+/* If `from` is -100, it is the working directory. A link at the end of the path is not followed. */
 uint32_t host_open_dir_at(uint32_t from, uint8_t *path) {
     return (uint32_t)openat(from == (uint32_t)-100 ? AT_FDCWD : (int)from, (const char *)path,
                             O_RDONLY | O_DIRECTORY | O_NOFOLLOW | O_CLOEXEC);
@@ -229,8 +231,8 @@ static uint32_t begin_folder(uint32_t file) {
     return 0;
 }
 
-/* Writes the next entries as Linux's `struct linux_dirent64`, without their types and offsets. Returns
- * how many bytes they have, 0 at the end, or -1. */
+/* Writes the next entries as Linux's `struct linux_dirent64`, without their types and offsets.
+ * Returns the number of their bytes, 0 at the end, or -1. */
 uint64_t host_getdents64(uint32_t file, uint8_t *to, uint64_t size) {
     uint64_t used = 0;
     if (!(folder_read && number_read == file) && !begin_folder(file)) return FAILED;
@@ -269,7 +271,7 @@ uint32_t host_rename(uint8_t *from, uint8_t *to) {
     return (uint32_t)rename((const char *)from, (const char *)to);
 }
 
-/* Writes the path to 4,096 bytes, with a zero. */
+/* Writes the path, of at most 4,096 bytes with a zero byte at the end. */
 uint8_t *host_realpath(uint8_t *path, uint8_t *to) {
     char *found = realpath((const char *)path, NULL);
     size_t size;
@@ -282,7 +284,7 @@ uint8_t *host_realpath(uint8_t *path, uint8_t *to) {
     return NULL;
 }
 
-/* The numbers that Linux has for the kinds of files. */
+/* Returns the number of a kind of files on Linux. */
 static uint32_t kind_of(mode_t mode) {
     if (S_ISREG(mode)) return 0100000;
     if (S_ISDIR(mode)) return 0040000;
@@ -298,8 +300,9 @@ static void put_time(uint8_t *to, const struct timespec *time) {
     put(to + 8, 4, (uint64_t)time->tv_nsec);
 }
 
-/* Writes the 256 bytes of Linux's `struct statx`, by fstat for an empty path, else by fstatat. It has
- * no time of creation. A device's number is split into two halves, and not into major and minor. */
+/* Writes the 256 bytes of Linux's `struct statx`, by fstat for an empty path, otherwise by fstatat.
+ * The time of creation is missing. A device's number is split into two halves, and not into major
+ * and minor. */
 uint32_t host_statx(uint32_t folder, uint8_t *path, uint32_t flags, uint32_t mask, uint8_t *to) {
     struct stat found;
     int failed, here = flags & 0x100 ? AT_SYMLINK_NOFOLLOW : 0;
