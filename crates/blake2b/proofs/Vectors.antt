@@ -1,0 +1,46 @@
+-- Digests by computing, so that a wrong constant, line or step of the definition isn't proved.
+use Rattle.std.proofs.Common.{◌≡◌, ◌≤◌, ℕ, List, [], ◌∷◌, length, codes, refl, arith}
+use Rattle.std.proofs.lemmas.List.{length-take-le}
+use Rattle.blake2b.specs.Blake2b.{add_at, blake2b, bytes_of, compress, final_state, initial_state, mix, rotate_at, round, rounds, state_after, word_of, work_vector, words}
+use Rattle.blake2b.proofs.Words.{length-bytes_of}
+
+-- appendix A of the RFC
+pub blake2b-abc_64 : blake2b 64 (codes "abc") ≡
+    0xBA ∷ 0x80 ∷ 0xA5 ∷ 0x3F ∷ 0x98 ∷ 0x1C ∷ 0x4D ∷ 0x0D ∷ 0x6A ∷ 0x27 ∷ 0x97 ∷ 0xB6 ∷ 0x9F ∷
+    0x12 ∷ 0xF6 ∷ 0xE9 ∷ 0x4C ∷ 0x21 ∷ 0x2F ∷ 0x14 ∷ 0x68 ∷ 0x5A ∷ 0xC4 ∷ 0xB7 ∷ 0x4B ∷ 0x12 ∷
+    0xBB ∷ 0x6F ∷ 0xDB ∷ 0xFF ∷ 0xA2 ∷ 0xD1 ∷ 0x7D ∷ 0x87 ∷ 0xC5 ∷ 0x39 ∷ 0x2A ∷ 0xAB ∷ 0x79 ∷
+    0x2D ∷ 0xC2 ∷ 0x52 ∷ 0xD5 ∷ 0xDE ∷ 0x45 ∷ 0x33 ∷ 0xCC ∷ 0x95 ∷ 0x18 ∷ 0xD3 ∷ 0x8A ∷ 0xA8 ∷
+    0xDB ∷ 0xF1 ∷ 0x92 ∷ 0x5A ∷ 0xB9 ∷ 0x23 ∷ 0x86 ∷ 0xED ∷ 0xD4 ∷ 0x00 ∷ 0x99 ∷ 0x23 ∷ []
+unfolding add_at rotate_at mix word_of round rounds work_vector compress words state_after bytes_of blake2b
+blake2b-abc_64 = refl
+
+-- the digests below are those of Python's hashlib.blake2b with digest_size=32
+pub blake2b-empty : blake2b 32 [] ≡
+    0x0E ∷ 0x57 ∷ 0x51 ∷ 0xC0 ∷ 0x26 ∷ 0xE5 ∷ 0x43 ∷ 0xB2 ∷ 0xE8 ∷ 0xAB ∷ 0x2E ∷ 0xB0 ∷ 0x60 ∷
+    0x99 ∷ 0xDA ∷ 0xA1 ∷ 0xD1 ∷ 0xE5 ∷ 0xDF ∷ 0x47 ∷ 0x77 ∷ 0x8F ∷ 0x77 ∷ 0x87 ∷ 0xFA ∷ 0xAB ∷
+    0x45 ∷ 0xCD ∷ 0xF1 ∷ 0x2F ∷ 0xE3 ∷ 0xA8 ∷ []
+unfolding add_at rotate_at mix word_of round rounds work_vector compress words state_after bytes_of blake2b
+blake2b-empty = refl
+
+-- one block, which is the last although it is full
+pub blake2b-one_block : blake2b 32 (codes "abcdefghijklmnopqrstuvwxyzabcdefghijklmnopqrstuvwxyzabcdefghijklmnopqrstuvwxyzabcdefghijklmnopqrstuvwxyzabcdefghijklmnopqrstuvwx") ≡
+    0x36 ∷ 0x2F ∷ 0x4B ∷ 0xAA ∷ 0x8A ∷ 0x41 ∷ 0x48 ∷ 0x4B ∷ 0x36 ∷ 0x2C ∷ 0x7D ∷ 0xEE ∷ 0x96 ∷
+    0x05 ∷ 0xB2 ∷ 0x2C ∷ 0x9E ∷ 0xF1 ∷ 0x8B ∷ 0x49 ∷ 0x30 ∷ 0xAB ∷ 0xB8 ∷ 0x53 ∷ 0x48 ∷ 0xFA ∷
+    0x54 ∷ 0xA4 ∷ 0x3C ∷ 0xFA ∷ 0x19 ∷ 0xA9 ∷ []
+unfolding add_at rotate_at mix word_of round rounds work_vector compress words state_after bytes_of blake2b
+blake2b-one_block = refl
+
+-- a block and a byte
+pub blake2b-two_blocks : blake2b 32 (codes "abcdefghijklmnopqrstuvwxyzabcdefghijklmnopqrstuvwxyzabcdefghijklmnopqrstuvwxyzabcdefghijklmnopqrstuvwxyzabcdefghijklmnopqrstuvwxy") ≡
+    0x43 ∷ 0xE7 ∷ 0xC8 ∷ 0x63 ∷ 0xA2 ∷ 0xFA ∷ 0xA2 ∷ 0x56 ∷ 0xB0 ∷ 0x07 ∷ 0xDE ∷ 0x3E ∷ 0x4A ∷
+    0x92 ∷ 0xD9 ∷ 0x25 ∷ 0x1B ∷ 0x08 ∷ 0x70 ∷ 0x24 ∷ 0x73 ∷ 0x30 ∷ 0x14 ∷ 0x16 ∷ 0x3B ∷ 0x13 ∷
+    0xA3 ∷ 0x4B ∷ 0x9B ∷ 0xCB ∷ 0xAD ∷ 0xB7 ∷ []
+unfolding add_at rotate_at mix word_of round rounds work_vector compress words state_after bytes_of blake2b
+blake2b-two_blocks = refl
+
+-- a digest has nn bytes
+pub length-blake2b : (nn : ℕ) (message : List ℕ) → nn ≤ 64 → length (blake2b nn message) ≡ nn
+unfolding blake2b
+length-blake2b nn message fits =
+    let whole = length-bytes_of (final_state (initial_state nn) message) 8 in
+    length-take-le nn (bytes_of (final_state (initial_state nn) message) 8) (omega (arith, whole))

@@ -1,0 +1,4 @@
+pub mod Blake2b
+pub mod Chain
+pub mod State
+pub mod Hasher
