@@ -9,4 +9,5 @@ pub mod Naming
 pub mod Looking
 pub mod Saying
 pub mod Finding
+pub mod Hashing
 pub mod Tallying

@@ -1,8 +1,9 @@
 -- The state of a search for missing blocks: the blocks that came, and the links without a block.
 use Rattle.std.specs.Prelude.{◌≡◌, ◌||◌, not, Bool, if◌then◌else◌, filter, List, [], ◌∷◌, ◌++◌}
-use Rattle.ipld_cid.specs.Cid.{Link}
+use Rattle.std.specs.List.{list_any}
+use Rattle.ipld_cid.specs.Cid.{Link, hash_of}
 use Rattle.ipld_cid.specs.LinkOf.{link_of}
-use Rattle.ipld_cid.specs.Order.{link_eq}
+use Rattle.ipld_cid.specs.Order.{hash_eq, link_eq}
 use Rattle.ipld_cid.specs.declared.cid.CidGeneric.{CidGeneric}
 use Rattle.car_files.specs.Has.{has}
 
@@ -20,6 +21,14 @@ came_in (e ∷ es) = if e.1 then link_of e.0 ∷ came_in es else came_in es
 abbrev pub missing_in : List (CidGeneric 64 × Bool) → List Link
 missing_in [] = []
 missing_in (e ∷ es) = if e.1 then missing_in es else link_of e.0 ∷ missing_in es
+
+-- whether a link of the list has the same hash function and the same digest
+abbrev pub has_hash : Link → List Link → Bool
+has_hash l ls = list_any (λ m. hash_eq (hash_of l) (hash_of m)) ls
+
+-- the links of the list whose hash is that of no link that came
+abbrev pub unlike_those : List Link → List Link → List Link
+unlike_those came links = filter (λ l. not (has_hash l came)) links
 
 -- True if the block of the CID came: the CID is among those that came, and the missing links are
 -- the same without it, in the same order.

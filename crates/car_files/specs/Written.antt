@@ -1,5 +1,5 @@
 -- The texts that are written about the blocks of a CAR.
-use Rattle.std.specs.Prelude.{◌≡◌, ◌+◌, ℕ, Bool, true, false, List, [], ◌∷◌, ◌++◌, length, map, codes, decimal, Option, Some, None}
+use Rattle.std.specs.Prelude.{◌≡◌, ◌+◌, ℕ, Bool, true, false, List, [], ◌∷◌, ◌++◌, length, map, codes, decimal, Option, Some, None, ◌==◌, nat_lt, if◌then◌else◌}
 use Rattle.std.specs.Fmt.{digits}
 use Rattle.std.specs.List.{flat_map, join_by}
 use Rattle.std.specs.Option.{unwrap_or}
@@ -167,10 +167,20 @@ begun_text form car = front_text form (version_number car.version) (map link_of 
 
 -- ---- the blocks that don't match their CIDs
 
+-- the number of bytes of a digest of SHA2-256 or SHA2-512, and 0 for other hash functions
+abbrev pub digest_len : ℕ → ℕ
+digest_len code = if code == 0x12 then 32 else if code == 0x13 then 64 else 0
+
+-- whether the CID has only the first bytes of a digest
+abbrev pub is_truncated : Link → Bool
+is_truncated cid = nat_lt (length cid.digest) (digest_len cid.code)
+
 -- the end of a line: the reason why a block is not verified
-abbrev pub complaint : VerifyError → List ℕ
-complaint (UnknownHash code) = codes ": the hash function " ++ (hexadecimal code ++ codes " is not computed here\n")
-complaint WrongDigest = codes ": the block has another digest\n"
+abbrev pub complaint : Link → VerifyError → List ℕ
+complaint cid (UnknownHash code) = codes ": the hash function " ++ (hexadecimal code ++ codes " is not computed here\n")
+complaint cid WrongDigest =
+    if is_truncated cid then codes ": the digest is truncated to " ++ (decimal (length cid.digest) ++ codes " bytes, which is not supported\n")
+    else codes ": the block has another digest\n"
 
 -- the last members of a JSON object, with the same reason
 abbrev pub complaint_members : VerifyError → List ℕ
@@ -179,7 +189,7 @@ complaint_members WrongDigest = codes ",\"error\":\"WrongDigest\"}\n"
 
 -- the line about a block whose section begins at the byte `begin`
 abbrev pub verdict_line : ℕ → Link → VerifyError → List ℕ
-verdict_line begin cid error = usual_text cid ++ (codes " at byte " ++ decimal begin) ++ complaint error
+verdict_line begin cid error = usual_text cid ++ (codes " at byte " ++ decimal begin) ++ complaint cid error
 
 -- the same as a JSON object
 abbrev pub verdict_object : ℕ → Link → VerifyError → List ℕ

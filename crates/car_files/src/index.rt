@@ -1,7 +1,7 @@
 //! The blocks that were added, and the links without a block.
 
-use indexmap::IndexMap;
-use ipld_cid::Cid;
+use indexmap::{IndexMap, IndexSet};
+use ipld_cid::{Cid, Multihash};
 use std::alloc::{AllocError, Global};
 use std::hash::RandomState;
 use std::marker::Model;
@@ -31,9 +31,11 @@ impl Model for MissingBlocks {
 impl MissingBlocks {
     ghost use Rattle.std.specs.Prelude.{◌≡◌, [], ◌∷◌, map, OnOk, OnErr, IfOk};
     ghost use Rattle.std.specs.List.{IsDistinct};
+    ghost use Rattle.std.specs.List.{list_any};
+    ghost use Rattle.ipld_cid.specs.Cid.{Link, hash_of};
     ghost use Rattle.ipld_cid.specs.LinkOf.{link_of};
-    ghost use Rattle.ipld_cid.specs.Order.{link_eq};
-    ghost use Rattle.car_files.specs.Index.{Comes, AddsEach};
+    ghost use Rattle.ipld_cid.specs.Order.{hash_eq, link_eq};
+    ghost use Rattle.car_files.specs.Index.{Comes, AddsEach, has_hash, unlike_those};
 
     /// Creates a search without blocks and links. The keys of `hasher` should be random bytes of
     /// the system, as [`RandomState::new`] makes them. Does not allocate.
@@ -88,6 +90,54 @@ impl MissingBlocks {
                 cids.push(*cid)?;
             }
         }
+        Ok(cids)
+    }
+
+    // Returns the hashes of the blocks that were added.
+    #[tactic(auto, using(crate::proofs::Hashing::hashes_none, crate::proofs::Hashing::hashes_more, crate::proofs::Hashing::hashes_same, crate::proofs::Hashing::hashes_all))]
+    fn hashes(
+        &self,
+        alloc: Global,
+        hasher: RandomState,
+    ) -> Result<IndexSet<Multihash<64>, RandomState>, AllocError>
+        ensures { IfOk result (λ hashes. (l : Link)
+            → list_any (hash_eq (hash_of l)) hashes.keys ≡ has_hash l self.now.came) }
+    {
+        let mut hashes = IndexSet::with_hasher(alloc, hasher);
+        for (cid, came) in self.came.iter() {
+            if *came {
+                match hashes.insert(*cid.hash()) {
+                    Ok(_) => {}
+                    Err(_) => return Err(AllocError),
+                }
+            }
+        }
+        Ok(hashes)
+    }
+
+    /// Returns the links whose block was not added under any CID with the same hash, without
+    /// repeats, in the order of [`missing`](Self::missing). So a block counts for links of each
+    /// codec and version.
+    ///
+    /// It allocates for the result and, if there are missing links, for the hash of every block.
+    /// The keys of `hasher` should be random bytes of the system. Returns `AllocError` if an
+    /// allocation fails.
+    #[tactic(auto, using(crate::proofs::Hashing::unlike_all, crate::proofs::Hashing::unlike_once))]
+    pub fn missing_by_hash(
+        &self,
+        alloc: Global,
+        hasher: RandomState,
+    ) -> Result<Vec<Cid>, AllocError>
+        ensures once { IfOk result (λ cids. IsDistinct link_eq (map link_of cids.items)) }
+        ensures exactly { IfOk result (λ cids.
+            map link_of cids.items ≡ unlike_those self.now.came self.now.missing) }
+    {
+        let mut cids = self.missing(alloc)?;
+        if cids.is_empty() {
+            return Ok(cids);
+        }
+        let hashes = self.hashes(alloc, hasher)?;
+        cids.retain(|cid| !hashes.contains(cid.hash()));
         Ok(cids)
     }
 }

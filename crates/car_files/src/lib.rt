@@ -38,4 +38,4 @@ pub use find::find_block;
 pub use index::MissingBlocks;
 pub use list::{Form, Listed, write_list};
 pub use missing::{Missing, Seen, add_car, find_missing};
-pub use verify::{VerdictForm, Verified, write_verified};
+pub use verify::{VerdictForm, Verified, is_truncated, write_verified};

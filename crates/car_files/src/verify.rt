@@ -1,20 +1,23 @@
 //! The check that the blocks of a CAR are those that their CIDs name.
 
-ghost use Rattle.std.specs.Prelude.{IfOk, IfErr, OnOk};
+ghost use Rattle.std.specs.Prelude.{◌≡◌, IfOk, IfErr, OnOk};
 ghost use Rattle.std.specs.Io.KnownBytes.{Appends};
 ghost use Rattle.ipld_cid.specs.LinkOf.{link_of};
 ghost use Rattle.car_files.specs.Reading.{IsWritingError};
 ghost use Rattle.car_files.specs.Streams.{progress, output};
 ghost use Rattle.car_files.specs.Verifying.{Verifies, VerifyingFault};
-ghost use Rattle.car_files.specs.Written.{complaint, complaint_members, verdict_line, verdict_object, verdict_text};
+ghost use Rattle.car_files.specs.Written.{complaint, complaint_members, is_truncated, verdict_line, verdict_object, verdict_text};
 
 use crate::error::CarFileError;
 use crate::reading::read_next;
 use ipld_block::{VerifyError, verify, write_cid};
 use ipld_car::{CarReader, Section};
-use ipld_cid::Cid;
+use ipld_cid::{Cid, SHA2_256};
 use std::alloc::Global;
 use std::io::{BufRead, Write};
+
+// The code of SHA2-512 in the multicodec table.
+const SHA2_512: u64 = 0x13;
 
 /// The counts of the blocks of a CAR by their digests.
 #[derive(Clone, Copy, Debug, PartialEq, Eq)]
@@ -59,10 +62,27 @@ fn write_reason_members<W: Write>(error: VerifyError, writer: &mut W) -> Result<
     }
 }
 
-// Writes the error of a block.
-fn write_reason<W: Write>(error: VerifyError, writer: &mut W) -> Result<(), CarFileError>
+/// Returns whether the CID has only the first bytes of a digest of SHA2-256 or SHA2-512. Such a
+/// digest is not that of the block. Does not allocate.
+pub fn is_truncated(cid: &Cid) -> bool
+    ensures { result ≡ is_truncated (link_of cid.now) }
+{
+    let hash = cid.hash();
+    let len = if hash.code() == SHA2_256 {
+        32
+    } else if hash.code() == SHA2_512 {
+        64
+    } else {
+        0
+    };
+    hash.size() < len
+}
+
+// Writes the error of the block of a CID.
+fn write_reason<W: Write>(cid: &Cid, error: VerifyError, writer: &mut W) -> Result<(), CarFileError>
     ensures written { OnOk result
-        (Appends (W.contents writer.old) (W.contents writer.new) (complaint error)) }
+        (Appends (W.contents writer.old) (W.contents writer.new)
+        (complaint (link_of cid.now) error)) }
     ensures fault { IfErr result IsWritingError }
 {
     match error {
@@ -70,6 +90,14 @@ fn write_reason<W: Write>(error: VerifyError, writer: &mut W) -> Result<(), CarF
             writeln!(
                 writer,
                 ": the hash function 0x{code:x} is not computed here"
+            )?;
+            Ok(())
+        }
+        VerifyError::WrongDigest if is_truncated(cid) => {
+            let len = cid.hash().size();
+            writeln!(
+                writer,
+                ": the digest is truncated to {len} bytes, which is not supported"
             )?;
             Ok(())
         }
@@ -95,7 +123,7 @@ fn write_verdict_line<W: Write>(
 {
     write_cid(alloc, writer, cid)?;
     write!(writer, " at byte {offset}")?;
-    write_reason(error, writer)?;
+    write_reason(cid, error, writer)?;
     Ok(())
 }
 
