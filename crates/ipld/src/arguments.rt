@@ -4,7 +4,12 @@ use clap::ArgMatches;
 use clap::parser::ValueSource;
 use ipld_block::BlockCodec;
 use ipld_car::DEFAULT_LIMIT;
-use ipld_cli::{Outcome, report_out_of_memory, report_wrong_arguments};
+use ipld_cli::{
+    Outcome, read_file, reads_twice, report, report_out_of_memory, report_unreadable,
+    report_wrong_arguments,
+};
+use std::alloc::{AllocError, Global};
+use std::str;
 
 /// Returns the codec that `--codec` names. DAG-CBOR is the default.
 pub fn codec_of(matches: &ArgMatches<'_>) -> BlockCodec {
@@ -60,6 +65,69 @@ fn report_wrong_size(rt: &HostRuntime, option: &str, text: &str) -> Outcome {
     ) {
         Ok(why) => report_wrong_arguments(rt, &why),
         Err(_) => report_out_of_memory(rt, text),
+    }
+}
+
+/// Reads a file as text. Reports the error if it can't be read or is not valid UTF-8.
+pub fn read_text(rt: &HostRuntime, file: &str) -> Result<String, Outcome> {
+    let bytes = match read_file(rt, file) {
+        Ok(bytes) => bytes,
+        Err(error) => return Err(report_unreadable(rt, file, &error)),
+    };
+    match String::from_utf8(bytes) {
+        Ok(text) => Ok(text),
+        Err(_) => Err(report(rt, file, &"the input is not valid UTF-8", Outcome::Failed)),
+    }
+}
+
+// Reads standard input as text, if `-` is one of these words. Otherwise returns an empty text.
+fn standard_input_among(rt: &HostRuntime, words: &[&str]) -> Result<String, Outcome> {
+    if words.contains(&"-") {
+        read_text(rt, "-")
+    } else {
+        Ok(String::new(rt.alloc()))
+    }
+}
+
+// Returns the words, with the lines of `input` in the place of `-`. Empty lines are left out.
+fn with_lines(alloc: Global, words: &[&str], input: &str) -> Result<Vec<String>, AllocError> {
+    let mut all = Vec::new(alloc);
+    for word in words {
+        if *word != "-" {
+            all.push(String::from_str(alloc, word)?)?;
+            continue;
+        }
+        for line in input.lines() {
+            if !line.is_empty() {
+                all.push(String::from_str(alloc, line)?)?;
+            }
+        }
+    }
+    Ok(all)
+}
+
+/// Returns the texts of CIDs that the arguments name, and those on standard input for `-`. `file` is
+/// the CAR. Reports the error if standard input would be read twice or can't be read.
+pub fn cid_texts(
+    rt: &HostRuntime,
+    matches: &ArgMatches<'_>,
+    file: &str,
+) -> Result<Vec<String>, Outcome> {
+    let Some(words) = matches.get_strs("cids") else {
+        return Ok(Vec::new(rt.alloc()));
+    };
+    if file == "-" && words.contains(&"-") {
+        // Standard input is the CAR already.
+        reads_twice(rt, &["-", "-"]);
+        return Err(Outcome::Failed);
+    }
+    let input = match standard_input_among(rt, words) {
+        Ok(input) => input,
+        Err(outcome) => return Err(outcome),
+    };
+    match with_lines(rt.alloc(), words, &input) {
+        Ok(texts) => Ok(texts),
+        Err(_) => Err(report_out_of_memory(rt, "the CIDs")),
     }
 }
 

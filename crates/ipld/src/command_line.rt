@@ -3,9 +3,9 @@
 mod commands;
 
 use crate::command_line::commands::{
-    ABOUT, BLOCK_COMMANDS, CAR_COMMANDS, ENCODE, FORM, LIST, WORDS,
+    ABOUT, BLOCK_COMMANDS, CAR, CAR_CHECKS, CAR_COPIES, CAR_LISTINGS, CREATE, ENCODE, WORDS,
 };
-use clap::{Arg, ArgAction, ArgGroup, Command};
+use clap::{Arg, ArgAction, Command};
 use std::alloc::{AllocError, Global};
 
 // A command, without its subcommands.
@@ -28,8 +28,6 @@ struct Argument {
     // The arguments that are required with it, and those that are not allowed with it.
     needs: &'static [&'static str],
     excludes: &'static [&'static str],
-    // The groups that it is in. Only one argument of a group can be given at a time.
-    groups: &'static [&'static str],
 }
 
 // The kind of an argument. The name of a value is the one in the help.
@@ -53,6 +51,8 @@ enum Kind {
     Word(&'static str),
     // One or more words.
     Words(&'static [&'static str]),
+    // One or more words, which may be left out if the argument of this name is given.
+    WordsUnless(&'static [&'static str], &'static str),
 }
 
 // Creates an option by its name.
@@ -70,8 +70,8 @@ fn option_with_value<'a>(alloc: Global, argument: &Argument, value: &'a str) -> 
 }
 
 // Creates an argument, without its help.
-fn argument_of_kind<'a>(alloc: Global, argument: &Argument) -> Arg<'a> {
-    match argument.kind {
+fn argument_of_kind<'a>(alloc: Global, argument: &Argument) -> Result<Arg<'a>, AllocError> {
+    Ok(match argument.kind {
         Kind::Flag => option_without_value(alloc, argument).action(ArgAction::SetTrue),
         Kind::Value(value) => option_with_value(alloc, argument, value),
         Kind::Required(value) => option_with_value(alloc, argument, value).required(true),
@@ -94,15 +94,18 @@ fn argument_of_kind<'a>(alloc: Global, argument: &Argument) -> Arg<'a> {
             .value_names(values)
             .required(true)
             .num_args(1..),
-    }
+        Kind::WordsUnless(values, other) => Arg::new(alloc, argument.name)
+            .value_names(values)
+            .num_args(1..)
+            .required_unless_present(other)?,
+    })
 }
 
 fn argument_of<'a>(alloc: Global, argument: &Argument) -> Result<Arg<'a>, AllocError> {
-    argument_of_kind(alloc, argument)
+    argument_of_kind(alloc, argument)?
         .help(argument.help)
         .requires_all(argument.needs)?
-        .conflicts_with_all(argument.excludes)?
-        .groups(argument.groups)
+        .conflicts_with_all(argument.excludes)
 }
 
 fn with_arguments<'a>(
@@ -157,16 +160,30 @@ fn program_command<'a>(alloc: Global) -> Result<Command<'a>, AllocError> {
         .bin_name("ipld")
 }
 
-// Creates the command that lists a CAR, without the subcommands that read or write its blocks.
-fn car_list_command<'a>(alloc: Global) -> Result<Command<'a>, AllocError> {
-    command_of(alloc, &LIST)?
-        .args_conflicts_with_subcommands(true)
-        .subcommand_negates_reqs(true)
-        .group(ArgGroup::new(alloc, FORM))
+// Creates the command on CARs, without its subcommands.
+fn bare_car_command<'a>(alloc: Global) -> Result<Command<'a>, AllocError> {
+    let command = command_of(alloc, &CAR)?;
+    Ok(
+        command
+            .subcommand_required(true)
+            .arg_required_else_help(true),
+    )
 }
 
+// Creates the command on CARs, with the subcommands that list a CAR.
+fn listing_car_command<'a>(alloc: Global) -> Result<Command<'a>, AllocError> {
+    with_commands(alloc, bare_car_command(alloc)?, CAR_LISTINGS)
+}
+
+// Creates the command on CARs, with the subcommands that list or check a CAR.
+fn reading_car_command<'a>(alloc: Global) -> Result<Command<'a>, AllocError> {
+    with_commands(alloc, listing_car_command(alloc)?, CAR_CHECKS)
+}
+
+// Creates the command on CARs, with its subcommands.
 fn car_command<'a>(alloc: Global) -> Result<Command<'a>, AllocError> {
-    with_commands(alloc, car_list_command(alloc)?, CAR_COMMANDS)
+    let command = with_commands(alloc, reading_car_command(alloc)?, CAR_COPIES)?;
+    command.subcommand(command_of(alloc, &CREATE)?)
 }
 
 // Creates the program, with the commands on blocks.

@@ -13,7 +13,7 @@ ghost use Rattle.ipld_cli.specs.Status.{status_of};
 use crate::block_commands::{run_check, run_cid, run_encode, run_links, run_show};
 use crate::car_commands::run_car;
 use clap::ArgMatches;
-use ipld_cli::Outcome;
+use ipld_cli::{Outcome, complain};
 use std::io::ErrorKind;
 use std::process::ExitCode;
 use std::{env, io};
@@ -35,8 +35,9 @@ fn run(rt: &HostRuntime) -> Outcome {
         // If a message can't be written, the exit status still shows the failure.
         Err(error) if error.kind() == ErrorKind::OutOfMemory => report_no_memory(rt),
         Err(_) => {
-            let _ = eprintln!(rt;
-                "ipld: an argument is not valid UTF-8 (rename the file, or pass it as standard input: -)"
+            complain(
+                rt,
+                &"an argument is not valid UTF-8 (rename the file, or pass it as standard input: -)",
             );
             Outcome::Failed
         }
@@ -44,7 +45,7 @@ fn run(rt: &HostRuntime) -> Outcome {
 }
 
 fn report_no_memory(rt: &HostRuntime) -> Outcome {
-    let _ = eprintln!(rt; "ipld: out of memory");
+    complain(rt, &"out of memory");
     Outcome::Failed
 }
 

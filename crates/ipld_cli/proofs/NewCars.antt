@@ -1,24 +1,21 @@
 -- A CAR is written section by section.
-use Rattle.std.proofs.Common.{◌≡◌, ℕ, ◌+◌, ◌<◌, Bool, List, [], ◌∷◌, ◌++◌, length, map, take, get_or, Option, Some, None, refl, sym, ap, ap₂, subst, ◌∙◌, arith, append_assoc, append-nil, length-append}
-use Rattle.std.proofs.KnownBytes.{Appends-trans}
-use Rattle.std.proofs.lemmas.List.{map-append, take_more}
+use Rattle.std.proofs.Common.{◌≡◌, ℕ, ◌+◌, Bool, true, false, if◌then◌else◌, List, [], ◌∷◌, ◌++◌, length, Option, Some, None, refl, sym, ap, ap₂, subst, ◌∙◌, arith, append_assoc, append-nil, length-append}
+use Rattle.std.proofs.KnownBytes.{Appends-nil, Appends-trans}
 use Rattle.std.specs.Io.KnownBytes.{Appends, Keeps}
 use Rattle.std.specs.List.Sorted.{IsPermutation}
 use Rattle.ipld_cid.specs.Cid.{Link, hash_of}
-use Rattle.ipld_cid.specs.LinkOf.{link_of}
 use Rattle.ipld_car.specs.CarHeader.{header_bytes}
 use Rattle.ipld_car.specs.Index.{index_bytes}
 use Rattle.ipld_car.specs.IndexGrouping.{entries_in, indexed, AreGrouped, IsSplit}
 use Rattle.ipld_car.specs.IndexOrder.{AreSorted}
 use Rattle.ipld_car.specs.Section.{Block, IsSection, AreSections}
-use Rattle.ipld_car.specs.Writing.{WritesSection}
+use Rattle.ipld_car.specs.Writing.{WritesHeader, WritesSection}
 use Rattle.ipld_car.specs.declared.index.CarIndex.{CarIndex}
 use Rattle.ipld_car.specs.declared.index.entry.IndexEntry.{IndexEntry}
 use Rattle.car_files.specs.Written.{section_len, sections_len}
 use Rattle.car_files.proofs.Lengths.{sections_are}
 use Rattle.car_files.proofs.Sections.{sections_more}
-use Rattle.ipld_cli.specs.NewCar.{block_of, located, car_header, IsHeaderLen, WritesCar, WritesIndexedCar}
-use Rattle.ipld_cli.specs.declared.new_car.NewBlock.{NewBlock}
+use Rattle.ipld_cli.specs.NewCar.{located, car_header, IsHeaderLen, IsTaken, AreTaken, WritesCar, WritesIndexedCar, Sink, rows_after, Puts, WritesPayload, WritesTaken, WritesTakenIndexed}
 
 still : (a b c : Option (List ℕ)) (bytes : List ℕ) → Keeps b c → Appends a b bytes → Appends a c bytes
 still None b c bytes k p = tt
@@ -29,69 +26,134 @@ still (Some xs) (Some ys) (Some zs) bytes k p = k ∙ p
 one_section : (bytes : List ℕ) (block : Block) → IsSection bytes block → AreSections bytes (block ∷ [])
 one_section bytes block s = (bytes, [], sym (append-nil bytes), s, refl)
 
-goes_on : (old mid new : Option (List ℕ)) (roots : List Link) (blocks : List Block) (block : Block) → WritesCar old mid roots blocks → WritesSection mid new block
-    → WritesCar old new roots (blocks ++ block ∷ [])
-goes_on old mid new roots blocks block w s = record {
-  header = w.header;
-  sections = w.sections ++ s.section;
-  is_header = w.is_header;
-  is_canonical = w.is_canonical;
-  are_sections = sections_more w.sections s.section blocks (block ∷ []) w.are_sections (one_section s.section block s.is_section);
-  appends = subst (Appends old new) (append_assoc w.header w.sections s.section) (Appends-trans old mid new (w.header ++ w.sections) s.section w.appends s.appends);
-}
-
--- with the section of the block at an index
-pub section_at : (old mid new : Option (List ℕ)) (roots : List Link) (blocks : List NewBlock) (i : ℕ) (x : NewBlock) → i < length blocks → x ≡ get_or blocks i x
-    → WritesCar old mid roots (map block_of (take i blocks)) → WritesSection mid new (block_of x) → WritesCar old new roots (map block_of (take (i + 1) blocks))
-section_at old mid new roots blocks i x within at w s =
-    let e : map block_of (take (i + 1) blocks) ≡ map block_of (take i blocks) ++ block_of x ∷ [] =
-    ap (map block_of) (take_more blocks i x within ∙ ap (λ (y : NewBlock). take i blocks ++ y ∷ []) (sym at)) ∙ map-append block_of (take i blocks) (x ∷ []) in
-    subst (WritesCar old new roots) (sym e) (goes_on old mid new roots (map block_of (take i blocks)) (block_of x) w s)
-
 -- ---- where the sections begin
 
-sections_len_more : (bs : List Block) (b : Block) → sections_len (bs ++ b ∷ []) ≡ sections_len bs + section_len b
-sections_len_more [] b = omega arith
-sections_len_more (c ∷ bs) b = ap (λ (n : ℕ). section_len c + n) (sections_len_more bs b) ∙ omega arith
+located_all : (begin : ℕ) (bs cs : List Block) → located begin (bs ++ cs) ≡ located begin bs ++ located (begin + sections_len bs) cs
+located_all begin [] cs = ap (λ (n : ℕ). located n cs) (omega arith)
+located_all begin (b ∷ bs) cs =
+    ap (λ (es : List IndexEntry). record { hash = hash_of b.cid; offset = begin } ∷ es)
+    (located_all (begin + section_len b) bs cs ∙ ap (λ (n : ℕ). located (begin + section_len b) bs ++ located n cs) (omega arith))
 
-entry_of : Block → ℕ → IndexEntry
-entry_of b n = record { hash = hash_of b.cid; offset = n }
+sections_len_all : (bs cs : List Block) → sections_len (bs ++ cs) ≡ sections_len bs + sections_len cs
+sections_len_all [] cs = omega arith
+sections_len_all (b ∷ bs) cs = ap (λ (n : ℕ). section_len b + n) (sections_len_all bs cs) ∙ omega arith
 
-located_more : (begin : ℕ) (bs : List Block) (b : Block) → located begin (bs ++ b ∷ []) ≡ located begin bs ++ entry_of b (begin + sections_len bs) ∷ []
-unfolding entry_of
-located_more begin [] b = ap (λ (n : ℕ). entry_of b n ∷ []) (omega arith)
-located_more begin (c ∷ bs) b =
-    ap (λ (es : List IndexEntry). entry_of c begin ∷ es)
-    (located_more (begin + section_len c) bs b ∙ ap (λ (n : ℕ). located (begin + section_len c) bs ++ entry_of b n ∷ []) (omega arith))
+-- ---- blocks that are taken
 
--- the rows of the blocks so far, and where the next section begins
-abbrev pub Located : ℕ → List Block → List IndexEntry → ℕ → Type 0
-Located begin blocks rows end = (rows ≡ located begin blocks) × (end ≡ begin + sections_len blocks)
+taken_all : (u : Bool) (bs cs : List Block) → AreTaken u bs → AreTaken u cs → AreTaken u (bs ++ cs)
+taken_all u [] cs t v = v
+taken_all u (b ∷ bs) cs t v = (t.0, taken_all u bs cs t.1 v)
 
--- with that of the block at an index
-pub row_at : (begin end : ℕ) (rows : List IndexEntry) (blocks : List NewBlock) (i : ℕ) (x : NewBlock) → i < length blocks → x ≡ get_or blocks i x
-    → Located begin (map block_of (take i blocks)) rows end
-    → Located begin (map block_of (take (i + 1) blocks)) (rows ++ record { hash = hash_of (link_of x.cid); offset = end } ∷ []) (end + section_len (block_of x))
-unfolding entry_of
-row_at begin end rows blocks i x within at l =
-    let bs = map block_of (take i blocks) in
-    let e : map block_of (take (i + 1) blocks) ≡ bs ++ block_of x ∷ [] =
-    ap (map block_of) (take_more blocks i x within ∙ ap (λ (y : NewBlock). take i blocks ++ y ∷ []) (sym at)) ∙ map-append block_of (take i blocks) (x ∷ []) in (
-      ap₂ (λ (es : List IndexEntry) (n : ℕ). es ++ entry_of (block_of x) n ∷ []) l.0 l.1 ∙ sym (located_more begin bs (block_of x)) ∙ ap (located begin) (sym e),
-      ap (λ (n : ℕ). n + section_len (block_of x)) l.1 ∙ omega arith ∙ ap (λ (n : ℕ). begin + n) (sym (sections_len_more bs (block_of x))) ∙ ap (λ (cs : List Block). begin + sections_len cs) (sym e),
-    )
+taken_anyway : (u : Bool) (bs : List Block) → AreTaken false bs → AreTaken u bs
+taken_anyway u [] t = tt
+taken_anyway u (b ∷ bs) t = (λ (e : u ≡ false). t.0 refl, taken_anyway u bs t.1)
+
+-- ---- sections that are put
+
+rows_all : (h : Bool) (rows : List IndexEntry) (end : ℕ) (bs cs : List Block)
+    → rows_after h (rows_after h rows end bs) (end + sections_len bs) cs ≡ rows_after h rows end (bs ++ cs)
+rows_all true rows end bs cs = append_assoc rows (located end bs) (located (end + sections_len bs) cs) ∙ ap (λ (es : List IndexEntry). rows ++ es) (sym (located_all end bs cs))
+rows_all false rows end bs cs = refl
+
+rows_none : (h : Bool) (rows : List IndexEntry) (end : ℕ) → rows ≡ rows_after h rows end []
+rows_none true rows end = sym (append-nil rows)
+rows_none false rows end = refl
+
+pub puts_none : (h u : Bool) (state : Sink) → Puts h u state state
+puts_none h u state = record {
+  blocks = [];
+  sections = [];
+  are_sections = refl;
+  are_taken = tt;
+  appends = Appends-nil state.contents;
+  end = omega arith;
+  rows = rows_none h state.rows state.end;
+}
+
+pub puts_more : (h u : Bool) (old mid new : Sink) → Puts h u old mid → Puts h u mid new → Puts h u old new
+puts_more h u old mid new p q = record {
+  blocks = p.blocks ++ q.blocks;
+  sections = p.sections ++ q.sections;
+  are_sections = sections_more p.sections q.sections p.blocks q.blocks p.are_sections q.are_sections;
+  are_taken = taken_all u p.blocks q.blocks p.are_taken q.are_taken;
+  appends = Appends-trans old.contents mid.contents new.contents p.sections q.sections p.appends q.appends;
+  end = q.end ∙ ap (λ (n : ℕ). n + sections_len q.blocks) p.end ∙ omega arith ∙ ap (λ (n : ℕ). old.end + n) (sym (sections_len_all p.blocks q.blocks));
+  rows = q.rows ∙ ap₂ (λ (es : List IndexEntry) (n : ℕ). rows_after h es n q.blocks) p.rows p.end ∙ rows_all h old.rows old.end p.blocks q.blocks;
+}
+
+pub puts_anyway : (h u : Bool) (old new : Sink) → Puts h false old new → Puts h u old new
+puts_anyway h u old new p = record {
+  blocks = p.blocks;
+  sections = p.sections;
+  are_sections = p.are_sections;
+  are_taken = taken_anyway u p.blocks p.are_taken;
+  appends = p.appends;
+  end = p.end;
+  rows = p.rows;
+}
+
+pub puts_block : (h u : Bool) (old new : Sink) (block : Block) → IsTaken u block → WritesSection old.contents new.contents block → new.end ≡ old.end + section_len block
+    → new.rows ≡ (if h then old.rows ++ record { hash = hash_of block.cid; offset = old.end } ∷ [] else old.rows) → Puts h u old new
+puts_block h u old new block t w e r = record {
+  blocks = block ∷ [];
+  sections = w.section;
+  are_sections = one_section w.section block w.is_section;
+  are_taken = (t, tt);
+  appends = w.appends;
+  end = e ∙ omega arith;
+  rows = r;
+}
+
+-- ---- the payload
+
+pub payload_written : (h u : Bool) (begin size : ℕ) (old mid : Option (List ℕ)) (roots : List Link) (new : Sink) → WritesHeader old mid roots
+    → Puts h u (record { contents = mid; rows = []; end = begin }) new → new.end ≡ begin + size → WritesPayload h u begin size old roots new
+payload_written h u begin size old mid roots new w p e = record {
+  blocks = p.blocks;
+  writes = record {
+    header = w.header;
+    sections = p.sections;
+    is_header = w.is_header;
+    is_canonical = w.is_canonical;
+    are_sections = p.are_sections;
+    appends = Appends-trans old mid new.contents w.header p.sections w.appends p.appends;
+  };
+  are_taken = p.are_taken;
+  sized = let same : begin + sections_len p.blocks ≡ begin + size = sym p.end ∙ e in omega arith;
+  end = p.end;
+  rows = p.rows;
+}
+
+kept_car : (old mid new : Option (List ℕ)) (roots : List Link) (blocks : List Block) → WritesCar old mid roots blocks → Keeps mid new → WritesCar old new roots blocks
+kept_car old mid new roots blocks w k = record {
+  header = w.header;
+  sections = w.sections;
+  is_header = w.is_header;
+  is_canonical = w.is_canonical;
+  are_sections = w.are_sections;
+  appends = still old mid new (w.header ++ w.sections) k w.appends;
+}
+
+pub car_written : (h u : Bool) (begin size : ℕ) (old new : Option (List ℕ)) (roots : List Link) (sink : Sink) → WritesPayload h u begin size old roots sink → Keeps sink.contents new
+    → WritesTaken u size old new roots
+car_written h u begin size old new roots sink p k = record {
+  blocks = p.blocks;
+  writes = kept_car old sink.contents new roots p.blocks p.writes k;
+  are_taken = p.are_taken;
+  sized = p.sized;
+}
 
 -- ---- the whole
 
-pub indexed_car : (old begun mid new end : Option (List ℕ)) (roots : List Link) (blocks : List Block) (begin size : ℕ) (rows : List IndexEntry) (index : CarIndex) (is_full : Bool)
-    → IsHeaderLen roots begin → Located begin blocks rows size → IsPermutation (indexed rows) (entries_in index) → AreSorted (entries_in index) → AreGrouped index → IsSplit index
+indexed_car : (old begun mid new end : Option (List ℕ)) (roots : List Link) (blocks : List Block) (begin size : ℕ) (rows : List IndexEntry) (index : CarIndex) (is_full : Bool)
+    → IsHeaderLen roots begin → rows ≡ located begin blocks → size ≡ begin + sections_len blocks → IsPermutation (indexed rows) (entries_in index) → AreSorted (entries_in index) → AreGrouped index → IsSplit index
     → Appends old begun (header_bytes (car_header is_full size)) → WritesCar begun mid roots blocks → Appends mid new (index_bytes index) → Keeps new end
     → WritesIndexedCar old end roots blocks
-indexed_car old begun mid new end roots blocks begin size rows index is_full h l same sorted grouped split first w last kept =
+indexed_car old begun mid new end roots blocks begin size rows index is_full h r l same sorted grouped split first w last kept =
     let one : h.header ≡ w.header = cc (sym h.is_canonical ∙ w.is_canonical) in
     let begins : begin ≡ length w.header = h.counted ∙ ap length one in
     let ends : size ≡ length (w.header ++ w.sections) =
-    l.1 ∙ ap₂ (λ (m n : ℕ). m + n) begins (sym (sections_are w.sections blocks w.are_sections)) ∙ sym (length-append w.header w.sections) in
+    l ∙ ap₂ (λ (m n : ℕ). m + n) begins (sym (sections_are w.sections blocks w.are_sections)) ∙ sym (length-append w.header w.sections) in
     record {
       header = w.header;
       sections = w.sections;
@@ -99,7 +161,7 @@ indexed_car old begun mid new end roots blocks begin size rows index is_full h l
       is_canonical = w.is_canonical;
       are_sections = w.are_sections;
       index = index;
-      indexes = subst (λ (es : List IndexEntry). IsPermutation (indexed es) (entries_in index)) (l.0 ∙ ap (λ (n : ℕ). located n blocks) begins) same;
+      indexes = subst (λ (es : List IndexEntry). IsPermutation (indexed es) (entries_in index)) (r ∙ ap (λ (n : ℕ). located n blocks) begins) same;
       sorted = sorted;
       grouped = grouped;
       split = split;
@@ -108,3 +170,15 @@ indexed_car old begun mid new end roots blocks begin size rows index is_full h l
           (subst (λ (n : ℕ). Appends old begun (header_bytes (car_header is_full n))) ends first)
           (Appends-trans begun mid new (w.header ++ w.sections) (index_bytes index) w.appends last));
     }
+
+pub indexed_written : (u : Bool) (old begun sunk new end : Option (List ℕ)) (roots : List Link) (begin sections size : ℕ) (sink : Sink) (index : CarIndex) (is_full : Bool)
+    → IsHeaderLen roots begin → Appends old begun (header_bytes (car_header is_full size)) → WritesPayload true u begin sections begun roots sink → size ≡ begin + sections → Keeps sink.contents sunk
+    → IsPermutation (indexed sink.rows) (entries_in index) → AreSorted (entries_in index) → AreGrouped index → IsSplit index
+    → Appends sunk new (index_bytes index) → Keeps new end → WritesTakenIndexed u sections old end roots
+indexed_written u old begun sunk new end roots begin sections size sink index is_full h first p e k same sorted grouped split last kept = record {
+  blocks = p.blocks;
+  writes = indexed_car old begun sunk new end roots p.blocks begin size sink.rows index is_full h p.rows (e ∙ ap (λ (n : ℕ). begin + n) (sym p.sized)) same sorted grouped split first
+      (kept_car begun sink.contents sunk roots p.blocks p.writes k) last kept;
+  are_taken = p.are_taken;
+  sized = p.sized;
+}

@@ -1,9 +1,10 @@
 -- The bytes that are written for a new CAR.
-use Rattle.std.specs.Prelude.{◌≡◌, ℕ, ◌+◌, Bool, List, [], ◌∷◌, ◌++◌, length, Option, Some}
+use Rattle.std.specs.Prelude.{◌≡◌, ℕ, ◌+◌, Bool, false, if◌then◌else◌, List, [], ◌∷◌, ◌++◌, length, Option, Some}
 use Rattle.std.specs.List.Sorted.{IsPermutation}
 use Rattle.std.specs.Io.KnownBytes.{Appends}
 use Rattle.ipld_cid.specs.Cid.{Link, hash_of}
 use Rattle.ipld_cid.specs.LinkOf.{link_of}
+use Rattle.ipld_block.specs.Digest.{digest_by}
 use Rattle.ipld_car.specs.CarHeader.{header_bytes}
 use Rattle.ipld_car.specs.Header.{IsHeader, canonical_header}
 use Rattle.ipld_car.specs.Index.{index_bytes}
@@ -14,11 +15,21 @@ use Rattle.ipld_car.specs.declared.index.CarIndex.{CarIndex}
 use Rattle.ipld_car.specs.declared.index.entry.IndexEntry.{IndexEntry}
 use Rattle.ipld_car.specs.declared.index.header.CarHeader.{CarHeader}
 use Rattle.car_files.specs.Written.{section_len, sections_len}
-use Rattle.ipld_cli.specs.declared.new_car.NewBlock.{NewBlock}
+use Rattle.ipld_cli.specs.declared.car_sink.CarSink.{CarSink}
+use Rattle.ipld_cli.specs.declared.checked_block.CheckedBlock.{CheckedBlock}
 
 -- the model of a block that is to be written: its CID and its bytes
-abbrev pub block_of : NewBlock → Block
-block_of b = record { cid = link_of b.cid; bytes = b.bytes.now }
+abbrev pub block_of : CheckedBlock → Block
+block_of b = record { cid = link_of b.cid.now; bytes = b.bytes.now }
+
+-- True if the block has the digest of its CID, or blocks are taken unchecked.
+abbrev pub IsTaken : Bool → Block → Type 0
+IsTaken is_unchecked block = is_unchecked ≡ false → digest_by block.cid.code block.bytes ≡ Some block.cid.digest
+
+-- True if `IsTaken` holds for each block.
+abbrev pub AreTaken : Bool → List Block → Type 0
+AreTaken is_unchecked [] = Unit {0}
+AreTaken is_unchecked (block ∷ blocks) = IsTaken is_unchecked block × AreTaken is_unchecked blocks
 
 -- True if a CAR of version 1 was written after the old bytes of the writer, and nothing else
 -- (CARv1). It is the header with these roots, whose block is canonical, and the sections of these
@@ -67,3 +78,56 @@ pub record WritesIndexedCar (old new : Option (List ℕ)) (roots : List Link) (b
   pub split : IsSplit index
   pub is_full : Bool
   pub appends : Appends old new (header_bytes (car_header is_full (length (header ++ sections))) ++ ((header ++ sections) ++ index_bytes index))
+
+-- The state of a CAR that is being written: what its writer has, the entries of its sections in an
+-- index, and the offset at which the next section begins.
+pub record Sink : Type 0 where
+  pub contents : Option (List ℕ)
+  pub rows : List IndexEntry
+  pub end : ℕ
+
+-- the state of a sink, whose writer has `contents`
+abbrev pub state_of : {W : Type 0} → (W → Option (List ℕ)) → CarSink W → Sink
+state_of contents sink = record { contents = contents sink.car.writer; rows = sink.rows.items; end = sink.end }
+
+-- the entries after the sections of these blocks, if entries are kept
+abbrev pub rows_after : Bool → List IndexEntry → ℕ → List Block → List IndexEntry
+rows_after has_index rows end blocks = if has_index then rows ++ located end blocks else rows
+
+-- True if the sections of some blocks were written, and nothing else. Each block has the digest of
+-- its CID, or blocks are taken unchecked.
+pub record Puts (has_index is_unchecked : Bool) (old new : Sink) : Type 0 where
+  pub blocks : List Block
+  pub sections : List ℕ
+  pub are_sections : AreSections sections blocks
+  pub are_taken : AreTaken is_unchecked blocks
+  pub appends : Appends old.contents new.contents sections
+  pub end : new.end ≡ old.end + sections_len blocks
+  pub rows : new.rows ≡ rows_after has_index old.rows old.end blocks
+
+-- True if a CAR of version 1 with these roots and with sections of `size` bytes was written up to
+-- the end of the last section (`WritesCar`), and the sink counts from `begin` on. Each block has the
+-- digest of its CID, or blocks are taken unchecked.
+pub record WritesPayload (has_index is_unchecked : Bool) (begin size : ℕ) (old : Option (List ℕ)) (roots : List Link) (new : Sink) : Type 0 where
+  pub blocks : List Block
+  pub writes : WritesCar old new.contents roots blocks
+  pub are_taken : AreTaken is_unchecked blocks
+  pub sized : sections_len blocks ≡ size
+  pub end : new.end ≡ begin + sections_len blocks
+  pub rows : new.rows ≡ rows_after has_index [] begin blocks
+
+-- True if a CAR of version 1 with sections of `size` bytes was written (`WritesCar`). Each block has
+-- the digest of its CID, or blocks are taken unchecked.
+pub record WritesTaken (is_unchecked : Bool) (size : ℕ) (old new : Option (List ℕ)) (roots : List Link) : Type 0 where
+  pub blocks : List Block
+  pub writes : WritesCar old new roots blocks
+  pub are_taken : AreTaken is_unchecked blocks
+  pub sized : sections_len blocks ≡ size
+
+-- True if a CAR of version 2 with sections of `size` bytes was written (`WritesIndexedCar`). Each
+-- block has the digest of its CID, or blocks are taken unchecked.
+pub record WritesTakenIndexed (is_unchecked : Bool) (size : ℕ) (old new : Option (List ℕ)) (roots : List Link) : Type 0 where
+  pub blocks : List Block
+  pub writes : WritesIndexedCar old new roots blocks
+  pub are_taken : AreTaken is_unchecked blocks
+  pub sized : sections_len blocks ≡ size

@@ -1,9 +1,10 @@
 //! The blocks of a CAR by their CIDs, wherever they are in the file.
 
 use crate::bytes::{Bytes, BytesAt};
-use crate::complaints::report_car_error;
+use crate::complaints::{complain, report_car_error};
 use crate::files::{is_file, read_file};
 use crate::input::BUFFER;
+use crate::limits::MOST_SECTIONS;
 use crate::messages::{NamedCid, Outcome};
 use car_files::CarFileError;
 use indexmap::IndexMap;
@@ -24,8 +25,8 @@ const NO_ROOTS: &[u8] = b"\x11\xa2eroots\x80gversion\x01";
 // The number of bytes of that header.
 const NO_ROOTS_LEN: u64 = 18;
 
-// A reader of sections, which begins at any of them.
-type Sections<'a> = CarReader<BufReader<Chain<&'static [u8], BytesAt<'a>>>>;
+/// A reader of sections, which begins at any of them.
+pub type Sections<'a> = CarReader<BufReader<Chain<&'static [u8], BytesAt<'a>>>>;
 
 /// The blocks of a CAR. They are found by the index of the file, if it has one. Otherwise the file
 /// is read on from the last block that was found.
@@ -73,7 +74,7 @@ impl PassedSections {
         let mut sections = sections;
         let from = self.end;
         let mut section = Section::new(alloc);
-        for _ in 0..u64::MAX {
+        for _ in 0..MOST_SECTIONS {
             match sections.read_section(&mut section) {
                 Ok(true) => {}
                 Ok(false) => return Ok(None),
@@ -139,9 +140,9 @@ fn open_as_block<'a>(rt: &HostRuntime, file: &str) -> io::Result<Opened<'a>> {
     }
 }
 
-// Opens a file's bytes. Anything other than a regular file is read into memory, because it can be
-// read only once.
-fn bytes_of(rt: &HostRuntime, file: &str) -> io::Result<Bytes> {
+/// Opens a file's bytes. Anything other than a regular file is read into memory, because it can be
+/// read only once.
+pub fn bytes_of(rt: &HostRuntime, file: &str) -> io::Result<Bytes> {
     if file == "-" || !is_file(rt, file) {
         return Ok(Bytes::Memory(read_file(rt, file)?));
     }
@@ -272,9 +273,9 @@ fn blocks_of<'a>(
     Ok(blocks)
 }
 
-// Creates a reader of the sections that begin at this byte of the file, up to `end` or to the end
-// of the file.
-fn sections_at<'a>(
+/// Creates a reader of the sections that begin at this byte of the file, up to `end` or to the end
+/// of the file.
+pub fn sections_at<'a>(
     rt: &HostRuntime,
     bytes: &'a Bytes,
     from: u64,
@@ -290,8 +291,8 @@ fn sections_at<'a>(
     }
 }
 
-// Returns the place in the file of this offset of such a reader.
-fn place_in_file(from: u64, offset: u64) -> u64 {
+/// Returns the place in the file of this offset of such a reader.
+pub fn place_in_file(from: u64, offset: u64) -> u64 {
     from.saturating_add(offset.saturating_sub(NO_ROOTS_LEN))
 }
 
@@ -324,8 +325,9 @@ impl<'a> Blocks<'a> {
             Ok(entries) => self.index = Some(entries),
             Err(error) => {
                 let (file, at) = (self.file, header.index);
-                let _ = eprintln!(self.rt;
-                    "ipld: {file}: ignoring the index at byte {at}: {error}"
+                complain(
+                    self.rt,
+                    &format_args!("{file}: ignoring the index at byte {at}: {error}"),
                 );
             }
         }
@@ -345,8 +347,9 @@ impl<'a> Blocks<'a> {
             Ok(found) => {
                 if found.is_some() && self.index.is_some() {
                     let (file, cid) = (self.file, NamedCid::new(self.rt.alloc(), cid));
-                    let _ = eprintln!(self.rt;
-                        "ipld: {file}: {cid}: the index has no entry for this block"
+                    complain(
+                        self.rt,
+                        &format_args!("{file}: {cid}: the index has no entry for this block"),
                     );
                 }
                 Ok(found)
@@ -371,8 +374,11 @@ impl<'a> Blocks<'a> {
             }
             Indexed::Wrong(offset) => {
                 let (file, cid) = (self.file, NamedCid::new(self.rt.alloc(), cid));
-                let _ = eprintln!(self.rt;
-                    "ipld: {file}: ignoring the index: its entry for {cid} points to byte {offset}, where that block does not begin"
+                complain(
+                    self.rt,
+                    &format_args!(
+                        "{file}: ignoring the index: its entry for {cid} points to byte {offset}, where that block does not begin"
+                    ),
                 );
                 None
             }

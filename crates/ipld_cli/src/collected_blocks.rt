@@ -1,27 +1,40 @@
-//! The blocks of files and of CARs, gathered for a CAR.
+//! The blocks of files and of CARs, gathered for a CAR. They are read twice: to check them and to
+//! find their links, and to write them.
 
+ghost use Rattle.std.specs.Prelude.{◌≡◌, OnOk};
+ghost use Rattle.ipld_cli.specs.NewCar.{state_of, Puts};
+
+use crate::blocks::{bytes_of, place_in_file, sections_at};
+use crate::bytes::Bytes;
+use crate::car_sink::CarSink;
 use crate::checked_block::CheckedBlock;
 use crate::complaints::{
-    report_car_error, report_invalid_block, report_out_of_memory, report_unreadable,
+    report, report_car_error, report_invalid_block, report_out_of_memory, report_unreadable,
 };
-use crate::files::read_file;
-use crate::input::open_car;
+use crate::files::{is_file, read_file};
+use crate::input::{open_car, open_car_bytes, shows_progress};
+use crate::limits::MOST_SECTIONS;
 use crate::messages::{DigestExplanation, NamedCid, Outcome};
-use crate::new_car::NewBlock;
+use crate::new_car::{BlockSource, NewBlock};
+use crate::output::OutputError;
+use crate::spool::spooled;
 use car_files::CarFileError;
-use indexmap::{IndexMap, IndexSet};
+use indexmap::IndexMap;
 use ipld_block::{BlockCodec, CheckError, InvalidBlock, VerifyError, cid_of, links_of};
-use ipld_car::Section;
+use ipld_car::{CarErrorKind, CarReader, Section};
 use ipld_cid::{Cid, IDENTITY};
 use std::alloc::{AllocError, Global};
 use std::fmt;
 use std::hash::RandomState;
+use std::io::{BufRead, Write};
 
 /// An input of a new CAR.
 #[derive(Clone, Copy)]
 pub enum Source<'a> {
-    /// A file that is a block of this codec.
+    /// A file that is a block of the codec that its argument names.
     Block(BlockCodec, &'a str),
+    /// A file that is a block of this codec, which its argument doesn't name.
+    Unnamed(BlockCodec, &'a str),
     /// A file that is a CAR.
     Car(&'a str),
 }
@@ -34,35 +47,101 @@ impl<'a> Source<'a> {
             Some(("car", file)) => Source::Car(file),
             Some((front, file)) => match BlockCodec::from_name(front) {
                 Some(codec) => Source::Block(codec, file),
-                None => Source::Block(codec, name),
+                None => Source::Unnamed(codec, name),
             },
-            None => Source::Block(codec, name),
+            None => Source::Unnamed(codec, name),
         }
     }
 
     /// Returns the name of the file.
     pub fn file(&self) -> &'a str {
         match *self {
-            Source::Block(_, file) => file,
+            Source::Block(_, file) | Source::Unnamed(_, file) => file,
             Source::Car(file) => file,
         }
     }
+
+    /// Returns the codec of the file's block, or `None` if it is a CAR.
+    pub fn codec(&self) -> Option<BlockCodec> {
+        match *self {
+            Source::Block(codec, _) | Source::Unnamed(codec, _) => Some(codec),
+            Source::Car(_) => None,
+        }
+    }
+
+    /// Returns whether the argument names neither a codec nor a CAR.
+    pub fn is_unnamed(&self) -> bool {
+        matches!(self, Source::Unnamed(_, _))
+    }
 }
 
-/// The blocks of a new CAR, each once, in the order of their arrival, with their links.
+/// The options for blocks that are collected.
+#[derive(Clone, Copy, Debug, PartialEq, Eq)]
+pub struct CollectOptions {
+    /// The most bytes that a section has after its length, in CARs that are read and for the blocks
+    /// of files.
+    pub limit: u64,
+    /// Whether the blocks of CARs are taken as they are.
+    pub is_unchecked: bool,
+    /// Whether the CIDs of files of DAG-PB are of version 0.
+    pub is_v0: bool,
+}
+
+// An input that was read.
 #[derive(Drop)]
-pub struct CollectedBlocks {
-    blocks: IndexMap<Cid, Vec<u8>, RandomState>,
+struct Input<'a> {
+    source: Source<'a>,
+    // The bytes of an input that can be read only once.
+    bytes: Option<Bytes>,
+    // The end of the payload of a CAR, if its header has it.
+    payload_end: Option<u64>,
+    // The numbers of its blocks.
+    begin: usize,
+    end: usize,
+}
+
+// The place of a block.
+#[derive(Clone, Copy)]
+struct Place {
+    // The place of its CID among those that are known.
+    known: usize,
+    // The offset of its section in a CAR.
+    offset: u64,
+    // The number of its bytes.
+    len: u64,
+    // The end of its links among all links, if links are kept.
+    links_end: usize,
+}
+
+// What is known of a CID.
+#[derive(Clone, Copy)]
+struct Known {
+    // The number of its block, if there is one.
+    block: Option<usize>,
+    // Whether another block links to it.
+    is_linked: bool,
+    // Whether it is reached from the blocks that are kept.
+    is_reached: bool,
+}
+
+/// The blocks of a new CAR, each once, in the order of their arrival.
+///
+/// It has the CID and the place of each block, and the CID of each link without a block. It has the
+/// bytes only of blocks from standard input and pipes.
+#[derive(Drop)]
+pub struct CollectedBlocks<'a> {
+    rt: &'a HostRuntime,
+    options: CollectOptions,
+    inputs: Vec<Input<'a>>,
+    known: IndexMap<Cid, Known, RandomState>,
+    blocks: Vec<Place>,
+    // The links of the blocks, by their places in `known`, if only some blocks are to be kept.
+    links: Option<Vec<usize>>,
+    // Whether only the blocks that are reached are kept.
+    is_reduced: bool,
     // The roots of CARs and the blocks of files, in the order of their arrival, and for each
     // whether it is a root of a CAR.
     starts: IndexMap<Cid, bool, RandomState>,
-    // The links from a block to another.
-    linked: IndexSet<Cid, RandomState>,
-    // The CIDs of the blocks that are taken, if not all are.
-    kept: Option<IndexSet<Cid, RandomState>>,
-    hasher: RandomState,
-    limit: u64,
-    is_unchecked: bool,
 }
 
 // The reason why a block is not taken.
@@ -73,173 +152,255 @@ enum RejectedBlock {
     Digest(VerifyError),
 }
 
-impl CollectedBlocks {
-    /// Creates an empty collection, which finds blocks by this hasher. A section has at most
-    /// `limit` bytes after its length, in CARs that are read and for the blocks of files. If
-    /// `is_unchecked` is true, the blocks of CARs are taken as they are.
+impl From<AllocError> for RejectedBlock {
+    fn from(_error: AllocError) -> Self {
+        RejectedBlock::Memory
+    }
+}
+
+impl<'a> CollectedBlocks<'a> {
+    /// Creates an empty collection, which finds blocks by this hasher. If `keeps_links` is true,
+    /// the blocks can be reduced to those that are reached from some.
     pub fn new(
-        alloc: Global,
+        rt: &'a HostRuntime,
         hasher: RandomState,
-        limit: u64,
-        is_unchecked: bool,
-    ) -> CollectedBlocks {
+        options: CollectOptions,
+        keeps_links: bool,
+    ) -> CollectedBlocks<'a> {
         CollectedBlocks {
-            blocks: IndexMap::with_hasher(alloc, hasher),
-            starts: IndexMap::with_hasher(alloc, hasher),
-            linked: IndexSet::with_hasher(alloc, hasher),
-            kept: None,
-            hasher,
-            limit,
-            is_unchecked,
+            rt,
+            options,
+            inputs: Vec::new(rt.alloc()),
+            known: IndexMap::with_hasher(rt.alloc(), hasher),
+            blocks: Vec::new(rt.alloc()),
+            links: if keeps_links {
+                Some(Vec::new(rt.alloc()))
+            } else {
+                None
+            },
+            is_reduced: false,
+            starts: IndexMap::with_hasher(rt.alloc(), hasher),
         }
     }
 
     /// Adds the block or the blocks of an input. Reports the error if it can't.
-    pub fn add(&mut self, rt: &HostRuntime, source: Source<'_>) -> Result<(), Outcome> {
-        match source {
-            Source::Block(codec, file) => self.add_file(rt, codec, file),
-            Source::Car(file) => self.add_car(rt, file),
+    pub fn add(&mut self, source: Source<'a>) -> Result<(), Outcome> {
+        let begin = self.blocks.len();
+        let (bytes, payload_end) = match source {
+            Source::Block(codec, file) | Source::Unnamed(codec, file) => {
+                (self.add_file(codec, file)?, None)
+            }
+            Source::Car(file) => self.add_car_file(file)?,
+        };
+        let input = Input {
+            source,
+            bytes,
+            payload_end,
+            begin,
+            end: self.blocks.len(),
+        };
+        match self.inputs.push(input) {
+            Ok(()) => Ok(()),
+            Err(_) => Err(report_out_of_memory(self.rt, source.file())),
         }
     }
 
     /// Returns the roots of the CARs, and the blocks of files that no other block links to, in the
     /// order of the inputs. If there are no such roots, returns all blocks that no other block
     /// links to.
-    pub fn roots(&self, alloc: Global) -> Result<Vec<Cid>, AllocError> {
-        let mut roots = Vec::new(alloc);
+    pub fn roots(&self) -> Result<Vec<Cid>, AllocError> {
+        let mut roots = Vec::new(self.rt.alloc());
         for (cid, is_root) in self.starts.iter() {
-            if *is_root || !self.linked.contains(cid) {
+            if *is_root || !self.is_linked(cid) {
                 roots.push(*cid)?;
             }
         }
         if roots.is_empty() {
-            self.unlinked(alloc)
+            self.unlinked()
         } else {
             Ok(roots)
         }
     }
 
+    fn is_linked(&self, cid: &Cid) -> bool {
+        match self.known.get(cid) {
+            Some(known) => known.is_linked,
+            None => false,
+        }
+    }
+
     // Returns the CIDs of the blocks that no other block links to.
-    fn unlinked(&self, alloc: Global) -> Result<Vec<Cid>, AllocError> {
-        let mut roots = Vec::new(alloc);
-        for cid in self.blocks.keys() {
-            if !self.linked.contains(cid) {
-                roots.push(*cid)?;
+    fn unlinked(&self) -> Result<Vec<Cid>, AllocError> {
+        let mut roots = Vec::new(self.rt.alloc());
+        for place in self.blocks.iter() {
+            if let Some((cid, known)) = self.known.get_index(place.known) {
+                if !known.is_linked {
+                    roots.push(*cid)?;
+                }
             }
         }
         Ok(roots)
     }
 
-    /// Returns whether there is a block of this CID.
+    /// Returns whether there is a block of this CID that is kept.
     pub fn has(&self, cid: &Cid) -> bool {
-        self.blocks.contains_key(cid)
-    }
-
-    /// Returns the blocks with their CIDs, including those that are left out.
-    pub fn blocks(&self) -> &IndexMap<Cid, Vec<u8>, RandomState> {
-        &self.blocks
-    }
-
-    /// Leaves out the blocks that can't be reached from these.
-    pub fn keep_reached(&mut self, alloc: Global, from: &[Cid]) -> Result<(), AllocError> {
-        self.kept = Some(self.reached_from(alloc, from)?);
-        Ok(())
-    }
-
-    /// Returns whether the block of this CID is not left out.
-    pub fn keeps(&self, cid: &Cid) -> bool {
-        match &self.kept {
-            Some(kept) => kept.contains(cid),
-            None => true,
+        match self.known.get(cid) {
+            Some(known) => known.block.is_some() && (known.is_reached || !self.is_reduced),
+            None => false,
         }
     }
 
-    // Returns the CIDs that can be reached from these, also through blocks in CIDs.
-    fn reached_from(
-        &self,
-        alloc: Global,
-        from: &[Cid],
-    ) -> Result<IndexSet<Cid, RandomState>, AllocError> {
-        let mut reached = IndexSet::with_hasher(alloc, self.hasher);
-        let mut pending = Vec::from_slice(alloc, from)?;
-        for _ in 0..u64::MAX {
-            let Some(cid) = pending.pop() else {
-                return Ok(reached);
+    /// Returns the number of blocks, including those that are not kept.
+    pub fn len(&self) -> usize {
+        self.blocks.len()
+    }
+
+    /// Returns the block of this number, if there is one and it is kept.
+    pub fn block(&self, number: usize) -> Option<NewBlock> {
+        let place = self.blocks.get(number)?;
+        let (cid, known) = self.known.get_index(place.known)?;
+        if self.is_reduced && !known.is_reached {
+            return None;
+        }
+        Some(NewBlock {
+            cid: *cid,
+            len: place.len,
+        })
+    }
+
+    /// Keeps only the blocks that can be reached from these.
+    pub fn reduce(&mut self, from: &[Cid]) -> Result<(), AllocError> {
+        let mut pending = Vec::new(self.rt.alloc());
+        for cid in from {
+            if let Some(place) = self.known.get_index_of(cid) {
+                pending.push(place)?;
+            }
+        }
+        for _ in 0..MOST_SECTIONS {
+            let Some(place) = pending.pop() else {
+                self.is_reduced = true;
+                return Ok(());
             };
-            if reached.contains(&cid) {
+            let Some(number) = self.reach(place) else {
                 continue;
-            }
-            if reached.insert(cid).is_err() {
-                return Err(AllocError);
-            }
-            let links = self.links_from(alloc, &cid)?;
-            pending.extend_from_slice(&links)?;
+            };
+            pending.extend_from_slice(self.links_of(number))?;
         }
         Err(AllocError)
     }
 
-    // Returns the links of the block of a CID, or no links if the block is missing or invalid for
-    // its codec.
-    fn links_from(&self, alloc: Global, cid: &Cid) -> Result<Vec<Cid>, AllocError> {
-        let linked = match self.blocks.get(cid) {
-            Some(bytes) => links_of_block(alloc, cid.codec(), bytes),
-            None if cid.hash().code() == IDENTITY => {
-                links_of_block(alloc, cid.codec(), cid.hash().digest())
-            }
-            None => return Ok(Vec::new(alloc)),
+    // Marks a CID as reached, and returns the number of its block if it has one and was not reached
+    // before.
+    fn reach(&mut self, place: usize) -> Option<usize> {
+        let known = self.known.get_index_mut(place)?;
+        if known.is_reached {
+            return None;
+        }
+        known.is_reached = true;
+        known.block
+    }
+
+    // Returns the links of the block of this number.
+    fn links_of(&self, number: usize) -> &[usize] {
+        let Some(links) = &self.links else {
+            return &[];
         };
-        match linked {
-            Ok(links) => Ok(links),
-            Err(CheckError::Memory) => Err(AllocError),
-            Err(CheckError::Invalid(_)) => Ok(Vec::new(alloc)),
+        let end_of = |number: usize| match self.blocks.get(number) {
+            Some(place) => place.links_end,
+            None => 0,
+        };
+        let begin = match number.checked_sub(1) {
+            Some(previous) => end_of(previous),
+            None => 0,
+        };
+        links.get(begin..end_of(number)).unwrap_or(&[])
+    }
+
+    // Returns the CID of a file's block.
+    fn cid_of(&self, codec: BlockCodec, bytes: &[u8]) -> Cid {
+        let cid = cid_of(codec.code(), bytes);
+        if self.options.is_v0 && codec == BlockCodec::DagPb {
+            Cid::new_v0(*cid.hash()).unwrap_or(cid)
+        } else {
+            cid
         }
     }
 
-    fn add_file(&mut self, rt: &HostRuntime, codec: BlockCodec, file: &str) -> Result<(), Outcome> {
+    // Adds the block of a file. Returns its bytes if the file can be read only once.
+    fn add_file(&mut self, codec: BlockCodec, file: &str) -> Result<Option<Bytes>, Outcome> {
+        let rt = self.rt;
         let bytes = match read_file(rt, file) {
             Ok(bytes) => bytes,
             Err(error) => return Err(report_unreadable(rt, file, &error)),
         };
-        let cid = cid_of(codec.code(), &bytes);
-        let block = NewBlock { cid, bytes: &bytes };
-        if block.content_len() > self.limit {
+        let cid = self.cid_of(codec, &bytes);
+        let block = NewBlock {
+            cid,
+            len: bytes.len() as u64,
+        };
+        if block.content_len() > self.options.limit {
             return Err(report_too_long(rt, file, block.content_len()));
         }
-        match self.add_links(rt.alloc(), &cid, &bytes, false) {
+        match self.add_block(&cid, &bytes, 0, false) {
             Ok(()) => {}
             Err(RejectedBlock::Block(at_fault, why)) if at_fault == cid => {
                 return Err(report_invalid_block(rt, file, codec, &bytes, why));
             }
             Err(refused) => return Err(report_rejected(rt, file, &cid, None, refused)),
         }
-        let is_known = self.starts.contains_key(&cid);
-        let is_put = self.put(cid, bytes).is_ok();
-        if is_put && (is_known || self.starts.insert(cid, false).is_ok()) {
-            Ok(())
+        if !self.starts.contains_key(&cid) && self.starts.insert(cid, false).is_err() {
+            return Err(report_out_of_memory(rt, file));
+        }
+        if file == "-" || !is_file(rt, file) {
+            Ok(Some(Bytes::Memory(bytes)))
         } else {
-            Err(report_out_of_memory(rt, file))
+            Ok(None)
         }
     }
 
-    fn add_car(&mut self, rt: &HostRuntime, file: &str) -> Result<(), Outcome> {
-        let mut opened = match open_car(rt, file, self.limit, false) {
-            Ok(opened) => opened,
+    // Adds the blocks of a CAR. Returns its bytes if the file can be read only once, and the end of
+    // its payload if its header has it.
+    fn add_car_file(&mut self, file: &'a str) -> Result<(Option<Bytes>, Option<u64>), Outcome> {
+        let rt = self.rt;
+        if file != "-" && is_file(rt, file) {
+            let opened = match open_car(rt, file, self.options.limit, shows_progress(rt)) {
+                Ok(opened) => opened,
+                Err(outcome) => return Err(outcome),
+            };
+            return Ok((None, self.add_car(file, opened.car)?));
+        }
+        let bytes = match spooled(rt, file) {
+            Ok(spool) => Bytes::File(spool),
+            Err(error) => return Err(report_unreadable(rt, file, &error)),
+        };
+        let end = match open_car_bytes(rt, file, &bytes, self.options.limit) {
+            Ok(car) => self.add_car(file, car)?,
             Err(outcome) => return Err(outcome),
         };
-        for root in opened.car.roots() {
+        Ok((Some(bytes), end))
+    }
+
+    // Adds the blocks of an open CAR, and returns the end of its payload if its header has it.
+    fn add_car<R: BufRead + Drop>(
+        &mut self,
+        file: &str,
+        car: CarReader<R>,
+    ) -> Result<Option<u64>, Outcome> {
+        let (rt, mut car) = (self.rt, car);
+        for root in car.roots() {
             if self.starts.insert(*root, true).is_err() {
                 return Err(report_out_of_memory(rt, file));
             }
         }
         let mut section = Section::new(rt.alloc());
-        for _ in 0..u64::MAX {
-            let offset = opened.car.offset();
-            match opened.car.read_section(&mut section) {
+        for _ in 0..MOST_SECTIONS {
+            let offset = car.offset();
+            match car.read_section(&mut section) {
                 Ok(true) => {}
-                Ok(false) => return Ok(()),
+                Ok(false) => return Ok(car.end()),
                 Err(error) => return Err(report_car_error(rt, file, &CarFileError::from(error))),
             }
-            match self.add_section(rt.alloc(), &section) {
+            match self.add_section(&section, offset) {
                 Ok(()) => {}
                 Err(refused) => {
                     return Err(report_rejected(rt, file, section.cid(), Some(offset), refused));
@@ -249,62 +410,260 @@ impl CollectedBlocks {
         Err(Outcome::Failed)
     }
 
-    // Adds a block of a CAR, if it is new.
-    fn add_section(&mut self, alloc: Global, section: &Section) -> Result<(), RejectedBlock> {
-        let cid = section.cid();
+    // Adds a block of a CAR, whose section begins at this byte, if it is new.
+    fn add_section(&mut self, section: &Section, offset: u64) -> Result<(), RejectedBlock> {
+        let (cid, is_unchecked) = (section.cid(), self.options.is_unchecked);
         if self.has(cid) {
             return Ok(());
         }
-        let block = match CheckedBlock::new(cid, section.data(), self.is_unchecked) {
-            Ok(block) => block,
-            Err(error) => return Err(RejectedBlock::Digest(error)),
-        };
-        self.add_links(alloc, cid, block.bytes(), self.is_unchecked)?;
-        let Ok(bytes) = Vec::from_slice(alloc, block.bytes()) else {
-            return Err(RejectedBlock::Memory);
-        };
-        match self.put(*cid, bytes) {
-            Ok(()) => Ok(()),
-            Err(_) => Err(RejectedBlock::Memory),
+        match CheckedBlock::new(cid, section.data(), is_unchecked) {
+            Ok(block) => self.add_block(cid, block.bytes(), offset, is_unchecked),
+            Err(error) => Err(RejectedBlock::Digest(error)),
         }
     }
 
-    // Appends a block, if it is new.
-    fn put(&mut self, cid: Cid, bytes: Vec<u8>) -> Result<(), AllocError> {
-        if self.has(&cid) {
+    // Appends a block, if it is new, with its links, and those of the blocks in its links. A block
+    // that is invalid for its codec is an error. Unchecked, it has no links.
+    fn add_block(
+        &mut self,
+        cid: &Cid,
+        block: &[u8],
+        offset: u64,
+        is_unchecked: bool,
+    ) -> Result<(), RejectedBlock> {
+        let alloc = self.rt.alloc();
+        let mut pending = checked_links(alloc, cid, block, is_unchecked)?;
+        let place = self.place_of(cid)?;
+        if self.has(cid) {
             return Ok(());
         }
-        match self.blocks.insert(cid, bytes) {
-            Ok(_) => Ok(()),
+        for _ in 0..MOST_SECTIONS {
+            let Some(link) = pending.pop() else {
+                return self.put(place, offset, block.len() as u64);
+            };
+            if link.hash().code() == IDENTITY {
+                let carried = checked_links(alloc, &link, link.hash().digest(), is_unchecked)?;
+                pending.extend_from_slice(&carried)?;
+            }
+            if link != *cid {
+                self.add_link(&link)?;
+            }
+        }
+        Err(RejectedBlock::Memory)
+    }
+
+    // Returns the place of a CID among those that are known, to which it is added if it is new.
+    fn place_of(&mut self, cid: &Cid) -> Result<usize, AllocError> {
+        if let Some(place) = self.known.get_index_of(cid) {
+            return Ok(place);
+        }
+        let place = self.known.len();
+        let known = Known {
+            block: None,
+            is_linked: false,
+            is_reached: false,
+        };
+        match self.known.insert(*cid, known) {
+            Ok(_) => Ok(place),
             Err(_) => Err(AllocError),
         }
     }
 
-    // Adds the links of a block, and those of the blocks in its links. A block that is invalid for
-    // its codec is an error. Unchecked, it has no links.
-    fn add_links(
-        &mut self,
-        alloc: Global,
-        cid: &Cid,
-        block: &[u8],
-        is_unchecked: bool,
-    ) -> Result<(), RejectedBlock> {
-        let mut pending = checked_links(alloc, cid, block, is_unchecked)?;
-        for _ in 0..u64::MAX {
-            let Some(link) = pending.pop() else {
-                return Ok(());
-            };
-            if link.hash().code() == IDENTITY {
-                let carried = checked_links(alloc, &link, link.hash().digest(), is_unchecked)?;
-                if pending.extend_from_slice(&carried).is_err() {
-                    return Err(RejectedBlock::Memory);
-                }
-            }
-            if link != *cid && self.linked.insert(link).is_err() {
-                return Err(RejectedBlock::Memory);
+    // Adds a link of the block that comes next.
+    fn add_link(&mut self, link: &Cid) -> Result<(), AllocError> {
+        let place = self.place_of(link)?;
+        if let Some(known) = self.known.get_index_mut(place) {
+            known.is_linked = true;
+        }
+        match &mut self.links {
+            Some(links) => match links.push(place) {
+                Ok(()) => Ok(()),
+                Err(_) => Err(AllocError),
+            },
+            None => Ok(()),
+        }
+    }
+
+    // Appends the block of the CID at this place.
+    fn put(&mut self, known: usize, offset: u64, len: u64) -> Result<(), RejectedBlock> {
+        let number = self.blocks.len();
+        let links_end = match &self.links {
+            Some(links) => links.len(),
+            None => 0,
+        };
+        let place = Place {
+            known,
+            offset,
+            len,
+            links_end,
+        };
+        if self.blocks.push(place).is_err() {
+            return Err(RejectedBlock::Memory);
+        }
+        if let Some(known) = self.known.get_index_mut(known) {
+            known.block = Some(number);
+        }
+        Ok(())
+    }
+}
+
+/// Some of the blocks that were collected, in their order.
+#[derive(Clone, Copy)]
+pub struct BlockRange<'a, 'b> {
+    /// The blocks.
+    pub collected: &'b CollectedBlocks<'a>,
+    /// The number of the first.
+    pub begin: usize,
+    /// The number of the block after the last.
+    pub end: usize,
+}
+
+impl<'a, 'b> BlockSource for BlockRange<'a, 'b> {
+    ghost unchecked = { λ range. range.collected.now.options.is_unchecked };
+
+    #[tactic(auto, using(crate::proofs::NewCars::puts_none, crate::proofs::NewCars::puts_more))]
+    fn write_blocks<W: Write>(&self, sink: &mut CarSink<W>) -> Result<(), OutputError> {
+        for input in self.collected.inputs.iter() {
+            let (begin, end) = (input.begin.max(self.begin), input.end.min(self.end));
+            if begin < end {
+                self.write_input(input, begin, end, sink)?;
             }
         }
-        Err(RejectedBlock::Memory)
+        Ok(())
+    }
+}
+
+impl<'a, 'b> BlockRange<'a, 'b> {
+    // Writes the blocks of an input from one number to another.
+    fn write_input<W: Write>(
+        &self,
+        input: &Input<'a>,
+        begin: usize,
+        end: usize,
+        sink: &mut CarSink<W>,
+    ) -> Result<(), OutputError>
+        ensures put { OnOk result
+            (Puts sink.old.has_index self.now.collected.now.options.is_unchecked
+            (state_of W.contents sink.old) (state_of W.contents sink.new)) }
+        ensures index { sink.new.has_index ≡ sink.old.has_index }
+    {
+        let rt = self.collected.rt;
+        match (&input.bytes, input.source.codec()) {
+            (Some(Bytes::Memory(bytes)), Some(_)) => self.write_file(begin, bytes, sink),
+            (_, Some(_)) => self.write_file(begin, &read_file(rt, input.source.file())?, sink),
+            (Some(bytes), None) => self.write_sections(input, bytes, begin, end, sink),
+            (None, None) => {
+                let bytes = bytes_of(rt, input.source.file())?;
+                self.write_sections(input, &bytes, begin, end, sink)
+            }
+        }
+    }
+
+    // Writes the block of a file.
+    #[tactic(auto, using(crate::proofs::NewCars::puts_none, crate::proofs::NewCars::puts_anyway))]
+    fn write_file<W: Write>(
+        &self,
+        number: usize,
+        bytes: &[u8],
+        sink: &mut CarSink<W>,
+    ) -> Result<(), OutputError>
+        ensures put { OnOk result
+            (Puts sink.old.has_index self.now.collected.now.options.is_unchecked
+            (state_of W.contents sink.old) (state_of W.contents sink.new)) }
+        ensures index { sink.new.has_index ≡ sink.old.has_index }
+    {
+        let Some(block) = self.collected.block(number) else {
+            return Ok(());
+        };
+        match CheckedBlock::new(&block.cid, bytes, false) {
+            Ok(block) => sink.put(&block),
+            Err(_) => Err(OutputError::Changed),
+        }
+    }
+
+    // Writes the blocks of a CAR from one number to another.
+    #[tactic(auto, using(crate::proofs::NewCars::puts_none, crate::proofs::NewCars::puts_more))]
+    fn write_sections<W: Write>(
+        &self,
+        input: &Input<'a>,
+        bytes: &Bytes,
+        begin: usize,
+        end: usize,
+        sink: &mut CarSink<W>,
+    ) -> Result<(), OutputError>
+        ensures put { OnOk result
+            (Puts sink.old.has_index self.now.collected.now.options.is_unchecked
+            (state_of W.contents sink.old) (state_of W.contents sink.new)) }
+        ensures index { sink.new.has_index ≡ sink.old.has_index }
+    {
+        let (rt, options) = (self.collected.rt, self.collected.options);
+        let Some(first) = self.collected.blocks.get(begin) else {
+            return Ok(());
+        };
+        let from = first.offset;
+        let mut sections = match sections_at(rt, bytes, from, input.payload_end, options.limit) {
+            Ok(sections) => sections,
+            Err(error) => return Err(changed(error)),
+        };
+        let mut section = Section::new(rt.alloc());
+        let mut number = begin;
+        for _ in 0..MOST_SECTIONS {
+            let Some(place) = self.collected.blocks.get(number) else {
+                return Ok(());
+            };
+            if number >= end {
+                return Ok(());
+            }
+            let offset = place_in_file(from, sections.offset());
+            match sections.read_section(&mut section) {
+                Ok(true) => {}
+                Ok(false) => return Err(OutputError::Changed),
+                Err(error) => return Err(changed(CarFileError::from(error))),
+            }
+            if offset == place.offset {
+                self.write_section(number, &section, sink)?;
+                number = number.saturating_add(1);
+            }
+        }
+        Err(OutputError::Changed)
+    }
+
+    // Writes the block of this number, which is the one of this section, if it is kept.
+    #[tactic(auto, using(crate::proofs::NewCars::puts_none))]
+    fn write_section<W: Write>(
+        &self,
+        number: usize,
+        section: &Section,
+        sink: &mut CarSink<W>,
+    ) -> Result<(), OutputError>
+        ensures put { OnOk result
+            (Puts sink.old.has_index self.now.collected.now.options.is_unchecked
+            (state_of W.contents sink.old) (state_of W.contents sink.new)) }
+        ensures index { sink.new.has_index ≡ sink.old.has_index }
+    {
+        let Some(block) = self.collected.block(number) else {
+            return Ok(());
+        };
+        if block.cid != *section.cid() {
+            return Err(OutputError::Changed);
+        }
+        let is_unchecked = self.collected.options.is_unchecked;
+        match CheckedBlock::new(section.cid(), section.data(), is_unchecked) {
+            Ok(block) => sink.put(&block),
+            Err(_) => Err(OutputError::Changed),
+        }
+    }
+}
+
+// Returns the error of a CAR that could be read before.
+fn changed(error: CarFileError) -> OutputError {
+    match error {
+        CarFileError::Memory => OutputError::Memory,
+        CarFileError::Car(error) => match error.kind {
+            CarErrorKind::Read(error) => OutputError::System(error),
+            _ => OutputError::Changed,
+        },
+        CarFileError::Write(_) => OutputError::Changed,
     }
 }
 
@@ -316,7 +675,11 @@ fn checked_links(
     block: &[u8],
     is_unchecked: bool,
 ) -> Result<Vec<Cid>, RejectedBlock> {
-    match links_of_block(alloc, cid.codec(), block) {
+    // Blocks of other codecs have no links.
+    let Some(codec) = BlockCodec::from_code(cid.codec()) else {
+        return Ok(Vec::new(alloc));
+    };
+    match links_of(alloc, codec, block) {
         Ok(links) => Ok(links),
         Err(CheckError::Memory) => Err(RejectedBlock::Memory),
         Err(CheckError::Invalid(_)) if is_unchecked => Ok(Vec::new(alloc)),
@@ -324,30 +687,22 @@ fn checked_links(
     }
 }
 
-// Returns the links of a block of the codec with this code. Blocks of other codecs have no links.
-fn links_of_block(alloc: Global, code: u64, block: &[u8]) -> Result<Vec<Cid>, CheckError> {
-    match BlockCodec::from_code(code) {
-        Some(codec) => links_of(alloc, codec, block),
-        None => Ok(Vec::new(alloc)),
-    }
-}
-
 // Reports that a section of `len` bytes would be longer than the limit.
 fn report_too_long(rt: &HostRuntime, file: &str, len: u64) -> Outcome {
-    let _ = eprintln!(rt;
-        "ipld: {file}: its section would be {len} bytes, over the limit (raise it with --limit)"
+    let why = format_args!(
+        "its section would be {len} bytes, over the limit (raise it with --limit)"
     );
-    Outcome::Failed
+    report(rt, file, &why, Outcome::Failed)
 }
 
 // The error of a block that is not taken.
 #[derive(Clone, Copy)]
-enum Why {
+enum Why<'a> {
     Block(InvalidBlock),
-    Digest(DigestExplanation),
+    Digest(DigestExplanation<'a>),
 }
 
-impl fmt::Display for Why {
+impl<'a> fmt::Display for Why<'a> {
     fn fmt<W: fmt::Write>(&self, f: &mut fmt::Formatter<W>) -> fmt::Result {
         match self {
             Why::Block(why) => why.fmt(f),
@@ -367,12 +722,16 @@ fn report_rejected(
     let (at_fault, why) = match refused {
         RejectedBlock::Memory => return report_out_of_memory(rt, file),
         RejectedBlock::Block(at_fault, why) => (at_fault, Why::Block(why)),
-        RejectedBlock::Digest(error) => (*cid, Why::Digest(DigestExplanation(error))),
+        RejectedBlock::Digest(error) => (*cid, Why::Digest(DigestExplanation { cid, error })),
     };
     let at_fault = NamedCid::new(rt.alloc(), &at_fault);
-    let _ = match offset {
-        Some(offset) => eprintln!(rt; "ipld: {file}: {at_fault} at byte {offset}: {why}"),
-        None => eprintln!(rt; "ipld: {file}: {at_fault}: {why}"),
-    };
-    Outcome::NotSo
+    match offset {
+        Some(offset) => report(
+            rt,
+            file,
+            &format_args!("{at_fault} at byte {offset}: {why}"),
+            Outcome::NotSo,
+        ),
+        None => report(rt, file, &format_args!("{at_fault}: {why}"), Outcome::NotSo),
+    }
 }

@@ -1,22 +1,43 @@
 //! Messages on standard error. If one can't be written, the exit status still shows the failure.
 
 use crate::messages::{
-    Explanation, Hint, NoCid, OpeningExplanation, Outcome, SectionExplanation, ShowExplanation,
-    WriteFailure,
+    Escaped, Explanation, Hint, NoCid, OpeningExplanation, Outcome, SectionExplanation,
+    ShowExplanation, WriteFailure,
 };
 use car_files::CarFileError;
 use ipld_block::{BlockCodec, InvalidBlock};
 use ipld_car::{CarError, CarErrorKind};
 use ipld_cid::Cid;
-use ipld_cid_text::parse_any;
+use ipld_cid_text::{TextError, parse_any};
 use ipld_show::ShowError;
-use std::fmt;
 use std::io::{self, ErrorKind, Write};
+use std::{fmt, str};
+
+// Writes a text on standard error by one call of the system, so that lines of several processes
+// don't mix.
+fn write_text<D: fmt::Display>(rt: &HostRuntime, text: &D) {
+    match format!(in rt.alloc(); "{text}") {
+        Ok(text) => {
+            let stderr = rt.stderr();
+            let _ = io::writer(&stderr).write_all(text.as_bytes());
+        }
+        Err(_) => {
+            let _ = eprint!(rt; "{text}");
+        }
+    }
+}
+
+/// Writes a line that begins with `ipld: ` on standard error. Control characters are escaped, as in
+/// the names of files.
+pub fn complain<D: fmt::Display>(rt: &HostRuntime, message: &D) {
+    let message = Escaped(message);
+    write_text(rt, &format_args!("ipld: {message}\n"));
+}
 
 /// Reports why `name`, a file or the text of a CID, was not processed, and returns `outcome`.
 pub fn report<D: fmt::Display>(rt: &HostRuntime, name: &str, why: &D, outcome: Outcome) -> Outcome {
     let name = if name.is_empty() { "''" } else { name };
-    let _ = eprintln!(rt; "ipld: {name}: {why}");
+    complain(rt, &format_args!("{name}: {why}"));
     outcome
 }
 
@@ -32,13 +53,22 @@ pub fn report_out_of_memory(rt: &HostRuntime, name: &str) -> Outcome {
 
 /// Reports wrong arguments, in the form of other usage errors.
 pub fn report_wrong_arguments<D: fmt::Display>(rt: &HostRuntime, why: &D) -> Outcome {
-    let _ = eprintln!(rt; "error: {why}\n\nFor more information, try '--help'.");
+    let why = Escaped(why);
+    write_text(
+        rt,
+        &format_args!("error: {why}\n\nFor more information, try '--help'.\n"),
+    );
     Outcome::Failed
+}
+
+/// Parses a CID from text, with or without `/ipfs/` or `ipfs://` before it.
+pub fn parse_cid(text: &str) -> Result<Cid, TextError> {
+    parse_any(text.strip_prefix("ipfs://").unwrap_or(text))
 }
 
 /// Parses a CID from text. Reports the error and returns `None` if the text is not a CID.
 pub fn parse_cid_argument(rt: &HostRuntime, text: &str) -> Option<Cid> {
-    match parse_any(text) {
+    match parse_cid(text) {
         Ok(cid) => Some(cid),
         Err(error) => {
             report(rt, text, &NoCid::new(text, error), Outcome::NotSo);
@@ -68,8 +98,7 @@ pub fn report_invalid_block(
 ) -> Outcome {
     let hint = Hint::of_no_block(rt.alloc(), codec, bytes);
     let why = Explanation::new(rt.alloc(), bytes, why);
-    let _ = eprintln!(rt; "ipld: {file}: {why}{hint}");
-    Outcome::NotSo
+    report(rt, file, &format_args!("{why}{hint}"), Outcome::NotSo)
 }
 
 /// Reports an error of a CAR or of standard output. Reports nothing if nobody reads the output any
@@ -112,30 +141,49 @@ fn outcome_of(kind: &CarErrorKind) -> Outcome {
     }
 }
 
-/// Standard error as a writer, which records whether anything was written.
+/// Standard error as a writer of whole lines, each after `ipld: `, with control characters escaped.
+/// It records whether there was one.
 #[derive(Drop)]
 pub struct Complaints<'a> {
     rt: &'a HostRuntime,
+    // The line so far.
+    line: Vec<u8>,
     any: bool,
 }
 
 impl<'a> Complaints<'a> {
     /// Creates a writer to which nothing was written.
     pub fn new(rt: &'a HostRuntime) -> Complaints<'a> {
-        Complaints { rt, any: false }
+        Complaints {
+            rt,
+            line: Vec::new(rt.alloc()),
+            any: false,
+        }
     }
 
-    /// Returns whether anything was written.
+    /// Returns whether a line was written.
     pub fn any(&self) -> bool {
         self.any
+    }
+
+    // Writes the line, which ends with a line feed.
+    fn end_line(&mut self) {
+        if let Ok(line) = str::from_utf8(&self.line) {
+            complain(self.rt, &line.trim_end_matches('\n'));
+        }
+        self.line.clear();
+        self.any = true;
     }
 }
 
 impl<'a> Write for Complaints<'a> {
     fn write(&mut self, buf: &[u8]) -> io::Result<usize> {
-        self.any = true;
-        let stderr = self.rt.stderr();
-        let _ = io::writer(&stderr).write_all(buf);
+        for part in buf.split_inclusive(|byte| *byte == b'\n') {
+            self.line.extend_from_slice(part)?;
+            if part.ends_with(b"\n") {
+                self.end_line();
+            }
+        }
         Ok(buf.len())
     }
 

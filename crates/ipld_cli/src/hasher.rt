@@ -1,5 +1,6 @@
 //! The hasher of tables of CIDs.
 
+use crate::complaints::complain;
 use crate::messages::Outcome;
 use std::hash::RandomState;
 
@@ -9,7 +10,7 @@ pub fn hasher_of(rt: &HostRuntime) -> Result<RandomState, Outcome> {
     match RandomState::new(rt) {
         Ok(hasher) => Ok(hasher),
         Err(error) => {
-            let _ = eprintln!(rt; "ipld: no random bytes: {error}");
+            complain(rt, &format_args!("no random bytes: {error}"));
             Err(Outcome::Failed)
         }
     }

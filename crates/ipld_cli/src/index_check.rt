@@ -2,13 +2,14 @@
 
 use crate::blocks::{header_of, index_at};
 use crate::bytes::{Bytes, BytesAt};
-use crate::complaints::report_unreadable;
+use crate::complaints::{report, report_unreadable};
 use crate::files::is_file;
 use crate::input::BUFFER;
 use crate::messages::Outcome;
+use crate::payload::{IndexedSection, sections_of};
 use car_files::{CarFileError, VerdictForm};
 use ipld_block::write_cid;
-use ipld_car::{CarHeader, CarReader, IndexEntry, IndexError, Section, entries_of};
+use ipld_car::{CarHeader, CarReader, IndexEntry, IndexError};
 use ipld_cid::{Cid, IDENTITY};
 use std::cmp::Ordering;
 use std::fs;
@@ -21,6 +22,8 @@ enum Fault {
     Lacks(Cid, u64),
     // The index has an entry that leads to this byte, but no section with its digest begins there.
     LeadsNowhere(u64),
+    // The index has the entry that leads to this byte more than once.
+    Repeats(u64),
 }
 
 // Writes an error in an index.
@@ -44,6 +47,9 @@ fn write_fault<W: Write>(
                 "the index points to byte {offset}, where no block with that digest begins"
             )?;
         }
+        (VerdictForm::Line, Fault::Repeats(offset)) => {
+            writeln!(writer, "the index points to byte {offset} more than once")?;
+        }
         (VerdictForm::Object, Fault::Lacks(cid, offset)) => {
             writer.write_all(b"{\"cid\":\"")?;
             write_cid(rt.alloc(), writer, cid)?;
@@ -54,22 +60,18 @@ fn write_fault<W: Write>(
             write!(writer, "{{\"offset\":{offset}")?;
             writer.write_all(b",\"error\":\"WrongEntry\"}\n")?;
         }
+        (VerdictForm::Object, Fault::Repeats(offset)) => {
+            write!(writer, "{{\"offset\":{offset}")?;
+            writer.write_all(b",\"error\":\"RepeatedEntry\"}\n")?;
+        }
     }
     Ok(())
 }
 
-// A section of the payload.
-#[derive(Clone, Copy)]
-struct IndexedSection {
-    entry: IndexEntry,
-    cid: Cid,
-}
-
-// The sections of the payload, in the order of an index.
-fn sections_of(
+// Returns the sections of a file's payload, in the order of an index.
+fn sorted_sections(
     rt: &HostRuntime,
     bytes: &Bytes,
-    payload: u64,
     limit: u64,
 ) -> Result<Vec<IndexedSection>, CarFileError> {
     let reader = BytesAt::new(bytes, 0, u64::MAX);
@@ -78,24 +80,9 @@ fn sections_of(
         Ok(car) => car,
         Err(error) => return Err(CarFileError::from(error)),
     };
-    let mut section = Section::new(rt.alloc());
-    let mut stands = Vec::new(rt.alloc());
-    for _ in 0..u64::MAX {
-        let offset = car.offset().saturating_sub(payload);
-        match car.read_section(&mut section) {
-            Ok(true) => {}
-            Ok(false) => break,
-            Err(error) => return Err(CarFileError::from(error)),
-        }
-        let cid = *section.cid();
-        let hash = *cid.hash();
-        stands.push(IndexedSection {
-            entry: IndexEntry { hash, offset },
-            cid,
-        })?;
-    }
-    stands.sort_by_key(|it| it.entry)?;
-    Ok(stands)
+    let mut sections = sections_of(rt.alloc(), &mut car)?;
+    sections.sort_by_key(|it| it.entry)?;
+    Ok(sections)
 }
 
 // Compares an index with the sections of the payload, and writes the errors.
@@ -104,24 +91,34 @@ fn compare<W: Write>(
     form: VerdictForm,
     header: &CarHeader,
     entries: &[IndexEntry],
-    stands: &[IndexedSection],
+    sections: &[IndexedSection],
     writer: &mut W,
 ) -> Result<Outcome, CarFileError> {
     let mut outcome = Outcome::Done;
-    for it in stands {
-        // One entry is enough for several sections with the same digest. CIDs that carry their
-        // block, or have an empty digest, may have no entry.
+    for it in sections {
+        // CIDs that carry their block, or have an empty digest, may have no entry.
         let hash = it.cid.hash();
         let carries = hash.code() == IDENTITY || hash.size() == 0;
         let may_lack = carries && !header.is_fully_indexed;
-        if entries_of(entries, &it.entry.hash).is_empty() && !may_lack {
+        let is_there = entries
+            .binary_search_by(|entry| entry.cmp(&it.entry))
+            .is_ok();
+        if !is_there && !may_lack {
             let at = header.payload.saturating_add(it.entry.offset);
             write_fault(rt, form, &Fault::Lacks(it.cid, at), writer)?;
             outcome = Outcome::NotSo;
         }
     }
+    let mut previous = None;
     for entry in entries {
-        if stands.binary_search_by(|it| it.entry.cmp(entry)).is_err() {
+        if previous == Some(*entry) {
+            let at = header.payload.saturating_add(entry.offset);
+            write_fault(rt, form, &Fault::Repeats(at), writer)?;
+            outcome = Outcome::NotSo;
+            continue;
+        }
+        previous = Some(*entry);
+        if sections.binary_search_by(|it| it.entry.cmp(entry)).is_err() {
             let at = header.payload.saturating_add(entry.offset);
             write_fault(rt, form, &Fault::LeadsNowhere(at), writer)?;
             outcome = Outcome::NotSo;
@@ -132,16 +129,17 @@ fn compare<W: Write>(
 
 // Reports that an index can't be read.
 fn report_index_error(rt: &HostRuntime, file: &str, at: u64, error: &IndexError) -> Outcome {
-    let _ = eprintln!(rt; "ipld: {file}: cannot read the index at byte {at}: {error}");
-    match error {
+    let outcome = match error {
         IndexError::Memory | IndexError::Read(_) => Outcome::Failed,
         _ => Outcome::NotSo,
-    }
+    };
+    let why = format_args!("cannot read the index at byte {at}: {error}");
+    report(rt, file, &why, outcome)
 }
 
 /// Writes the errors in the index of a CAR of version 2, if the file has one. These are each block
-/// without an entry, and each entry that leads to no block with its digest. The index of standard
-/// input or of a pipe is not checked.
+/// without an entry, each entry that leads to no block with its digest, and each entry that the
+/// index has already. The index of standard input or of a pipe is not checked.
 pub fn check_index<W: Write>(
     rt: &HostRuntime,
     file: &str,
@@ -165,6 +163,6 @@ pub fn check_index<W: Write>(
         Ok(entries) => entries,
         Err(error) => return Ok(report_index_error(rt, file, header.index, &error)),
     };
-    let stands = sections_of(rt, &bytes, header.payload, limit)?;
-    compare(rt, form, &header, &entries, &stands, writer)
+    let sections = sorted_sections(rt, &bytes, limit)?;
+    compare(rt, form, &header, &entries, &sections, writer)
 }

@@ -1,11 +1,12 @@
 //! CAR files, and standard input, opened and read as far as needed.
 
+use crate::bytes::{Bytes, BytesAt};
 use crate::complaints::{report_opening_error, report_unreadable};
 use crate::messages::{Outcome, beginning_of};
 use crate::progress::{Progress, ProgressLine};
 use ipld_car::CarReader;
 use std::fs::{self, File};
-use std::io::{self, BufReader, Read, StdinLock};
+use std::io::{self, BufReader, IsTerminal, Read, StdinLock};
 
 /// The number of bytes of a file that are read or written at a time.
 pub const BUFFER: usize = 1 << 16;
@@ -47,6 +48,31 @@ impl<'a> OpenCar<'a> {
             self.shown.write_line(self.car.offset());
         }
     }
+}
+
+/// Opens a CAR in these bytes of a file. Reports the error if they can't be read or don't begin with
+/// a CAR header.
+pub fn open_car_bytes<'a>(
+    rt: &HostRuntime,
+    file: &str,
+    bytes: &'a Bytes,
+    limit: u64,
+) -> Result<CarReader<BufReader<BytesAt<'a>>>, Outcome> {
+    let reader = BytesAt::new(bytes, 0, u64::MAX);
+    let mut reader = match BufReader::with_capacity(rt.alloc(), BUFFER, reader) {
+        Ok(reader) => reader,
+        Err(error) => return Err(report_unreadable(rt, file, &error)),
+    };
+    let beginning = beginning_of(rt.alloc(), &mut reader);
+    match CarReader::new(rt.alloc(), reader, limit) {
+        Ok(car) => Ok(car),
+        Err(error) => Err(report_opening_error(rt, file, &beginning, &error)),
+    }
+}
+
+/// Returns whether progress is shown although nobody asked for it: if standard error is a terminal.
+pub fn shows_progress(rt: &HostRuntime) -> bool {
+    rt.stderr().is_terminal()
 }
 
 // Opens a file or standard input, and returns its size in bytes, if that is known.

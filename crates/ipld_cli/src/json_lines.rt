@@ -17,9 +17,9 @@ fn begin_object(alloc: Global, file: &str) -> Result<Writer, AllocError> {
     Ok(object)
 }
 
-// Ends an object, and writes it and a line feed by one call of the writer. Returns the line's
-// buffer, empty.
-fn write_line<W: Write>(mut object: Writer, writer: &mut W) -> io::Result<Vec<u8>> {
+/// Ends an object, and writes it and a line feed by one call of the writer. Returns the line's
+/// buffer, empty.
+pub(crate) fn write_line<W: Write>(mut object: Writer, writer: &mut W) -> io::Result<Vec<u8>> {
     object.end_object()?;
     let mut line = object.into_inner();
     line.push(b'\n')?;
@@ -99,9 +99,10 @@ pub fn write_links<W: Write>(
     Ok(())
 }
 
-/// Writes an object for each CID whose block is missing.
-pub fn write_missing_objects<W: Write>(
+/// Writes an object for each CID, with one member of this key.
+pub fn write_cids<W: Write>(
     alloc: Global,
+    key: &str,
     cids: &[Cid],
     writer: &mut W,
 ) -> io::Result<()> {
@@ -109,7 +110,7 @@ pub fn write_missing_objects<W: Write>(
     for cid in cids {
         let mut object = Writer::new(line);
         object.begin_object()?;
-        add_string(&mut object, "missing", &usual_text(alloc, cid)?)?;
+        add_string(&mut object, key, &usual_text(alloc, cid)?)?;
         line = write_line(object, writer)?;
     }
     Ok(())

@@ -20,38 +20,51 @@
 
 mod blocks;
 mod bytes;
+mod car_sink;
 mod checked_block;
 mod collected_blocks;
 mod complaints;
 mod files;
 mod hasher;
 mod index_check;
+mod indexed_copy;
 mod input;
 pub mod json_lines;
+mod limits;
 mod messages;
 mod new_car;
 mod output;
+mod payload;
 mod per_word;
 mod progress;
+mod spool;
+mod summary;
 mod writer;
 
 pub use blocks::{Blocks, Opened, open_blocks, open_indexed};
+pub use car_sink::CarSink;
 pub use checked_block::CheckedBlock;
-pub use collected_blocks::{CollectedBlocks, Source};
+pub use collected_blocks::{BlockRange, CollectOptions, CollectedBlocks, Source};
 pub use complaints::{
-    Complaints, parse_cid_argument, report, report_car_error, report_invalid_block,
-    report_out_of_memory, report_show_error, report_unreadable, report_wrong_arguments,
+    Complaints, complain, parse_cid, parse_cid_argument, report, report_car_error,
+    report_invalid_block, report_out_of_memory, report_show_error, report_unreadable,
+    report_wrong_arguments,
 };
 pub use files::{is_file, read_file};
 pub use hasher::hasher_of;
 pub use index_check::check_index;
-pub use input::{BUFFER, Car, OpenCar, open_car};
+pub use indexed_copy::IndexedCopy;
+pub use input::{BUFFER, Car, OpenCar, open_car, shows_progress};
+pub use limits::MOST_SECTIONS;
 pub use messages::{
-    DigestExplanation, Explanation, JsonExplanation, NamedCid, NoCid, Outcome, ShowExplanation,
+    DigestExplanation, Escaped, Explanation, JsonExplanation, NamedCid, NoCid, Outcome,
+    ShowExplanation,
 };
-pub use new_car::{NewBlock, NewCar, framed_len, header_len};
+pub use new_car::{BlockSource, NewBlock, NewCar, framed_len, header_len};
 pub use output::{
-    Content, Output, OutputError, TemporaryName, output_of, report_unwritable, write,
+    Content, Output, OutputError, Syncing, TemporaryName, output_of, report_unwritable,
+    sync_folder, write, write_output, writes_to_input,
 };
 pub use per_word::{PerWord, reads_twice, run_over, run_to_end};
+pub use summary::Summary;
 pub use writer::{UntilClosed, end_writer};

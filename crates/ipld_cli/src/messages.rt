@@ -9,10 +9,11 @@
 //!
 //! let hint = Hint::of_no_block(alloc, codec, &bytes);
 //! let why = Explanation::new(alloc, &bytes, why);
-//! eprintln!(rt; "ipld: {file}: {why}{hint}")?;
+//! report(rt, file, &format_args!("{why}{hint}"), Outcome::NotSo);
 //! ```
 
 mod car_error;
+mod escaped;
 mod explain;
 mod hint;
 mod json_error;
@@ -25,6 +26,7 @@ mod text_place;
 mod write_failure;
 
 pub use car_error::{DigestExplanation, OpeningExplanation, SectionExplanation, beginning_of};
+pub use escaped::Escaped;
 pub use explain::Explanation;
 pub use hint::Hint;
 pub use json_error::JsonExplanation;

@@ -1,25 +1,25 @@
 //! A CAR that is to be written.
 
-ghost use Rattle.std.specs.Prelude.{◌≡◌, ◌+◌, ◌<◌, ◌^◌, length, map, IfOk};
+ghost use Rattle.std.specs.Prelude.{◌≡◌, ◌+◌, ◌<◌, ◌^◌, Bool, length, map, IfOk, OnOk};
+ghost use Rattle.ipld_cid.specs.Bytes.{bytes_of};
 ghost use Rattle.ipld_cid.specs.LinkOf.{link_of};
-ghost use Rattle.ipld_car.specs.Section.{content_of};
-ghost use Rattle.car_files.specs.Written.{section_len, sections_len};
-ghost use Rattle.ipld_cli.specs.NewCar.{block_of, located, IsHeaderLen, WritesCar, WritesIndexedCar};
+ghost use Rattle.ipld_cli.specs.NewCar.{IsHeaderLen, state_of, Puts, WritesPayload, WritesTaken, WritesTakenIndexed};
 ghost use Rattle.ipld_cid.specs.Varint.{varint_of};
 
+use crate::car_sink::CarSink;
 use crate::output::{Content, OutputError};
-use ipld_car::{CarHeader, CarIndex, CarWriter, HEADER_END, IndexEntry, write_header};
+use ipld_car::{CarHeader, CarIndex, CarWriter, HEADER_END, write_header};
 use ipld_cid::{ByteBuffer, Cid};
 use std::alloc::Global;
 use std::io::{self, ErrorKind, Write};
 
-/// A block that is to be written, with its CID.
+/// A block that is to be written, without its bytes.
 #[derive(Clone, Copy)]
-pub struct NewBlock<'a> {
+pub struct NewBlock {
     /// The CID.
     pub cid: Cid,
-    /// The bytes.
-    pub bytes: &'a [u8],
+    /// The number of bytes.
+    pub len: u64,
 }
 
 /// Returns the size of `len` bytes with their length before them, which is the form of a header and
@@ -33,19 +33,18 @@ pub fn framed_len(len: u64) -> u64
     (varint.len() as u64).saturating_add(len)
 }
 
-impl<'a> NewBlock<'a> {
-    /// Returns the number of bytes after the length in the block's section.
+impl NewBlock {
+    /// Returns the number of bytes after the length in the block's section. Returns 2^64 - 1 if
+    /// that is more.
     pub fn content_len(&self) -> u64
-        ensures exact { result ≡ length (content_of (block_of self.now)) }
-        ensures short { result + 10 < 2 ^ 64 }
+        ensures { length (bytes_of (link_of self.now.cid)) + self.now.len < 2 ^ 64
+            → result ≡ length (bytes_of (link_of self.now.cid)) + self.now.len }
     {
-        self.cid.encoded_len() as u64 + self.bytes.len() as u64
+        (self.cid.encoded_len() as u64).saturating_add(self.len)
     }
 
     /// Returns the number of bytes of the block's section.
-    pub fn section_len(&self) -> u64
-        ensures { result ≡ section_len (block_of self.now) }
-    {
+    pub fn section_len(&self) -> u64 {
         framed_len(self.content_len())
     }
 }
@@ -62,97 +61,110 @@ pub fn header_len(alloc: Global, roots: &[Cid]) -> Result<u64, OutputError>
     Ok(header.len() as u64)
 }
 
-// Returns the rows of an index of the blocks, and the end of the payload. The first section begins
-// at this byte of the payload.
-fn locate<'a>(
-    alloc: Global,
-    blocks: &[NewBlock<'a>],
-    begin: u64,
-) -> Result<(Vec<IndexEntry>, u64), OutputError>
-    ensures rows { IfOk result (λ made.
-        made.0.items ≡ located begin (map block_of blocks.now)) }
-    ensures end { IfOk result (λ made. made.1 ≡ begin + sections_len (map block_of blocks.now)) }
-{
-    let mut rows = Vec::new(alloc);
-    let mut end = begin;
-    for block in blocks {
-        rows.push(IndexEntry {
-            hash: *block.cid.hash(),
-            offset: end,
-        })?;
-        let Some(next) = end.checked_add(block.section_len()) else {
-            return Err(too_large());
-        };
-        end = next;
-    }
-    Ok((rows, end))
+/// Returns the error of a CAR of 2^64 bytes or more.
+pub fn too_large() -> OutputError {
+    OutputError::System(io::Error::from(ErrorKind::FileTooLarge))
 }
 
-// The error of a CAR of 2^64 bytes or more.
-fn too_large() -> OutputError {
-    OutputError::System(io::Error::from(ErrorKind::FileTooLarge))
+/// The blocks of a new CAR.
+pub trait BlockSource {
+    // Whether blocks are written as they are, even if their digest is not that of the CID.
+    ghost unchecked: { Self → Bool };
+
+    /// Writes the blocks in their order.
+    fn write_blocks<W: Write>(&self, sink: &mut CarSink<W>) -> Result<(), OutputError>
+        ensures put { OnOk result (Puts sink.old.has_index (unchecked self.now)
+            (state_of W.contents sink.old) (state_of W.contents sink.new)) };
 }
 
 /// A CAR that is to be written.
 #[derive(Clone, Copy)]
-pub struct NewCar<'a> {
+pub struct NewCar<'a, B> {
     /// The allocator.
     pub alloc: Global,
     /// The roots.
     pub roots: &'a [Cid],
     /// The blocks.
-    pub blocks: &'a [NewBlock<'a>],
+    pub blocks: B,
+    /// The number of bytes of their sections.
+    pub size: u64,
     /// Whether the CAR is of version 2, with an index.
     pub has_index: bool,
+    /// Whether each block has a digest.
+    pub is_fully_indexed: bool,
 }
 
-impl<'a> NewCar<'a> {
-    // Writes the CAR of version 1.
-    fn write_payload<W: Write + Drop>(&self, writer: W) -> Result<W, OutputError>
-        ensures { IfOk result (λ to. WritesCar (W.contents writer) (W.contents to)
-            (map link_of self.now.roots.now) (map block_of self.now.blocks.now)) }
+impl<'a, B: BlockSource> NewCar<'a, B> {
+    // Writes a CAR of version 1, up to the end of its last section. The offsets of the entries
+    // count the header as `begin` bytes.
+    #[tactic(auto, using(crate::proofs::NewCars::payload_written))]
+    fn write_payload<W: Write + Drop>(
+        &self,
+        writer: W,
+        begin: u64,
+        has_index: bool,
+    ) -> Result<CarSink<W>, OutputError>
+        ensures { IfOk result (λ sink.
+            WritesPayload has_index (B.unchecked self.now.blocks) begin self.now.size
+            (W.contents writer) (map link_of self.now.roots.now)
+            (state_of W.contents sink)) }
     {
-        let mut car = CarWriter::new(self.alloc, writer, self.roots)?;
-        for block in self.blocks {
-            car.write_section(&block.cid, block.bytes)?;
+        let car = CarWriter::new(self.alloc, writer, self.roots)?;
+        let mut sink = CarSink::new(self.alloc, car, begin, has_index);
+        self.blocks.write_blocks(&mut sink)?;
+        if begin.checked_add(self.size) != Some(sink.end()) {
+            return Err(OutputError::Changed);
         }
-        let writer = car.finish()?;
+        Ok(sink)
+    }
+
+    // Writes a CAR of version 1.
+    #[tactic(auto, using(crate::proofs::NewCars::car_written))]
+    fn write_plain<W: Write + Drop>(&self, writer: W) -> Result<W, OutputError>
+        ensures { IfOk result (λ to. WritesTaken (B.unchecked self.now.blocks) self.now.size
+            (W.contents writer) (W.contents to) (map link_of self.now.roots.now)) }
+    {
+        let (writer, _) = self.write_payload(writer, 0, false)?.finish()?;
         Ok(writer)
     }
 
-    // Writes the CAR of version 2: the header, the payload, and an index of its sections. An empty
+    // Writes a CAR of version 2: the header, the payload, and an index of its sections. An empty
     // digest has no row in an index.
+    #[tactic(auto, using(crate::proofs::NewCars::indexed_written))]
     fn write_indexed<W: Write + Drop>(&self, writer: W) -> Result<W, OutputError>
-        ensures { IfOk result (λ to. WritesIndexedCar (W.contents writer) (W.contents to)
-            (map link_of self.now.roots.now) (map block_of self.now.blocks.now)) }
+        ensures { IfOk result (λ to.
+            WritesTakenIndexed (B.unchecked self.now.blocks) self.now.size
+            (W.contents writer) (W.contents to) (map link_of self.now.roots.now)) }
     {
         let begin = header_len(self.alloc, self.roots)?;
-        let (rows, size) = locate(self.alloc, self.blocks, begin)?;
-        let Some(end) = size.checked_add(HEADER_END as u64) else {
+        let Some(size) = begin.checked_add(self.size) else {
+            return Err(too_large());
+        };
+        let Some(index) = size.checked_add(HEADER_END as u64) else {
             return Err(too_large());
         };
         let header = CarHeader {
-            is_fully_indexed: self.blocks.iter().all(|it| it.cid.hash().size() > 0),
+            is_fully_indexed: self.is_fully_indexed,
             payload: HEADER_END as u64,
             size,
-            index: end,
+            index,
         };
-        let index = CarIndex::new(self.alloc, rows)?;
         let mut writer = writer;
         write_header(&header, &mut writer)?;
-        let mut written = self.write_payload(writer)?;
+        let (mut written, rows) = self.write_payload(writer, begin, true)?.finish()?;
+        let index = CarIndex::new(self.alloc, rows)?;
         index.write_to(&mut written)?;
         written.flush()?;
         Ok(written)
     }
 }
 
-impl<'a> Content for NewCar<'a> {
+impl<'a, B: BlockSource> Content for NewCar<'a, B> {
     fn write_to<W: Write + Drop>(&self, writer: W) -> Result<W, OutputError> {
         if self.has_index {
             self.write_indexed(writer)
         } else {
-            self.write_payload(writer)
+            self.write_plain(writer)
         }
     }
 }

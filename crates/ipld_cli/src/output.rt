@@ -41,6 +41,8 @@ pub enum OutputError {
     Input,
     /// No name for a temporary file is free in the output's folder.
     NoName,
+    /// An input is shorter than when it was read first.
+    Changed,
     /// An allocation failed.
     Memory,
     /// An error of the system.
@@ -56,6 +58,7 @@ impl fmt::Display for OutputError {
             OutputError::NoName => f.write_str(
                 "cannot create a temporary file next to it: delete the files .NAME.ipld-NUMBER there",
             ),
+            OutputError::Changed => f.write_str("an input changed while it was read; try again"),
             OutputError::Memory => f.write_str("out of memory"),
             OutputError::System(error) => write!(f, "{error}"),
         }
@@ -174,6 +177,16 @@ pub fn output_of(
     } else {
         Output::named(rt, name, force)
     }
+}
+
+/// Returns whether standard output is one of these files, as after `>> FILE`. If it is, reports
+/// that: the file would grow while it is read.
+pub fn writes_to_input(rt: &HostRuntime, files: &[&str]) -> bool {
+    let is_input = is_read(rt, "-", files);
+    if is_input {
+        report_unwritable(rt, "-", &OutputError::Input);
+    }
+    is_input
 }
 
 /// The name of a temporary file, `.NAME.ipld-PID`. It shows the output and the process that it is
@@ -302,6 +315,25 @@ pub trait Content {
     fn write_to<W: Write + Drop>(&self, writer: W) -> Result<W, OutputError>;
 }
 
+/// When the system syncs an output to the device.
+#[derive(Clone, Copy, Debug, PartialEq, Eq)]
+pub enum Syncing {
+    /// Before the output has its name.
+    Each,
+    /// With the others of its folder, by [`sync_folder`].
+    Together,
+}
+
+/// Has the system sync a folder, with the files that were written there, to the device.
+///
+/// # Errors
+///
+/// `System` if the folder can't be opened or synced.
+pub fn sync_folder(rt: &HostRuntime, folder: &str) -> Result<(), OutputError> {
+    fs::open(rt, folder)?.sync_all()?;
+    Ok(())
+}
+
 /// Writes the content to the output of this name. A file is written under the temporary name, and
 /// nothing is left of it if it can't be written whole.
 ///
@@ -313,6 +345,7 @@ pub fn write<C: Content>(
     name: &str,
     output: Output,
     temporary: &TemporaryName,
+    syncing: Syncing,
     content: &C,
 ) -> Result<(), OutputError> {
     match output {
@@ -321,9 +354,10 @@ pub fn write<C: Content>(
             Ok(())
         }
         Output::Stream => write_stream(rt, name, content),
-        Output::New => write_to_file(rt, temporary, Path::new(name), None, content),
+        Output::New => write_to_file(rt, temporary, Path::new(name), None, syncing, content),
         Output::Replaced(path, permissions) => {
-            write_to_file(rt, temporary, path.as_path(), Some(permissions), content)
+            let path = path.as_path();
+            write_to_file(rt, temporary, path, Some(permissions), syncing, content)
         }
     }
 }
@@ -355,12 +389,13 @@ fn write_to_file<C: Content>(
     temporary: &TemporaryName,
     path: Path<'_>,
     replaced: Option<Permissions>,
+    syncing: Syncing,
     content: &C,
 ) -> Result<(), OutputError> {
     let is_new = replaced.is_none();
     let (temporary, file) = create_temporary(rt, temporary, path)?;
     // The file stays open, and so locked, until it has its final name.
-    let ended = match fill(rt, file, replaced, content) {
+    let ended = match fill(rt, file, replaced, syncing, content) {
         Ok(_file) if is_new => move_into_place(rt, temporary.as_path(), path),
         Ok(_file) => replace(rt, temporary.as_path(), path),
         Err(error) => Err(error),
@@ -372,19 +407,21 @@ fn write_to_file<C: Content>(
     ended
 }
 
-// Writes to a new file, which has these permissions from the start, and has the system sync it to
-// the device.
+// Writes to a new file, which has these permissions from the start.
 fn fill<C: Content>(
     rt: &HostRuntime,
     file: File,
     permissions: Option<Permissions>,
+    syncing: Syncing,
     content: &C,
 ) -> Result<File, OutputError> {
     if let Some(permissions) = permissions {
         file.set_permissions(permissions)?;
     }
     let file = write_buffered(rt, file, content)?;
-    file.sync_all()?;
+    if syncing == Syncing::Each {
+        file.sync_all()?;
+    }
     Ok(file)
 }
 
@@ -450,6 +487,24 @@ fn move_into_place(
         let _ = fs::remove_file(rt, path);
     }
     placed
+}
+
+/// Writes the content to the output of this name, and returns how that ended. Reports the error if
+/// it can't be written, and nothing is then left of a file.
+pub fn write_output<C: Content>(
+    rt: &HostRuntime,
+    name: &str,
+    output: Output,
+    content: &C,
+) -> Outcome {
+    let written = match TemporaryName::of(rt, name, &output) {
+        Ok(temporary) => write(rt, name, output, &temporary, Syncing::Each, content),
+        Err(error) => Err(error),
+    };
+    match written {
+        Ok(()) => Outcome::Done,
+        Err(error) => report_unwritable(rt, name, &error),
+    }
 }
 
 /// Reports why an output is not written.

@@ -2,6 +2,7 @@
 
 use crate::complaints::{report_out_of_memory, report_show_error, report_wrong_arguments};
 use crate::messages::Outcome;
+use crate::output::writes_to_input;
 use crate::writer::{UntilClosed, end_writer};
 use ipld_show::ShowError;
 use std::io::{self, BufWriter, Write};
@@ -50,7 +51,7 @@ fn run_into<E: PerWord, W: Write + Drop>(
     each: &E,
     writer: W,
 ) -> Outcome {
-    if reads_twice(rt, words) {
+    if reads_twice(rt, words) || writes_to_input(rt, words) {
         return Outcome::Failed;
     }
     let Ok(mut writer) = BufWriter::new(rt.alloc(), writer) else {

@@ -1,5 +1,6 @@
 //! The progress of reading a file, on standard error.
 
+use crate::complaints::complain;
 use std::io::{self, Read};
 use std::time::Instant;
 
@@ -48,11 +49,13 @@ impl<'a> ProgressLine<'a> {
     /// Writes a line with the number of bytes that were read, and the total if that is known.
     pub fn write_line(&self, read: u64) {
         let file = self.file;
-        // If this can't be written, nothing is lost.
-        let _ = match self.total {
-            Some(total) => eprintln!(self.rt; "ipld: {file}: {read} of {total} bytes read"),
-            None => eprintln!(self.rt; "ipld: {file}: {read} bytes read"),
-        };
+        match self.total {
+            Some(total) => complain(
+                self.rt,
+                &format_args!("{file}: {read} of {total} bytes read"),
+            ),
+            None => complain(self.rt, &format_args!("{file}: {read} bytes read")),
+        }
     }
 
     // Writes the number of bytes that were read. If the size is known, also writes it and the time
@@ -62,9 +65,9 @@ impl<'a> ProgressLine<'a> {
             Some(total) if read > 0 && read <= total => {
                 let file = self.file;
                 let left = u128::from(seconds) * u128::from(total - read) / u128::from(read);
-                // If this can't be written, nothing is lost.
-                let _ = eprintln!(self.rt;
-                    "ipld: {file}: {read} of {total} bytes read, {left} seconds left"
+                complain(
+                    self.rt,
+                    &format_args!("{file}: {read} of {total} bytes read, {left} seconds left"),
                 );
             }
             _ => self.write_line(read),

@@ -5,7 +5,8 @@ use crate::block_commands::links::report_not_valid;
 use clap::ArgMatches;
 use ipld_block::{BlockCodec, check, check_canonical};
 use ipld_cli::{
-    Outcome, PerWord, json_lines, read_file, report_unreadable, report_wrong_arguments, run_to_end,
+    Escaped, Outcome, PerWord, json_lines, read_file, report_unreadable, report_wrong_arguments,
+    run_to_end,
 };
 use ipld_show::ShowError;
 use std::io::Write;
@@ -36,7 +37,7 @@ impl PerWord for Check {
         };
         match checked {
             Ok(()) if self.json => json_lines::write_valid(rt.alloc(), file, writer)?,
-            Ok(()) => writeln!(writer, "{file}: valid")?,
+            Ok(()) => writeln!(writer, "{}: valid", Escaped(&file))?,
             Err(error) => {
                 return report_not_valid(rt, file, self.codec, self.json, &bytes, error, writer);
             }

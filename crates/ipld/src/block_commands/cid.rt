@@ -5,10 +5,10 @@ use crate::block_commands::links::report_not_valid;
 use clap::ArgMatches;
 use ipld_block::{BlockCodec, check, cid_of};
 use ipld_cid::{Cid, DAG_PB, Version};
-use ipld_cid_text::{Base, parse_any, to_string_of_base, usual_text};
+use ipld_cid_text::{Base, to_string_of_base, usual_text};
 use ipld_cli::{
-    NoCid, Outcome, PerWord, json_lines, parse_cid_argument, read_file, report, report_unreadable,
-    run_over,
+    NoCid, Outcome, PerWord, json_lines, parse_cid, parse_cid_argument, read_file, report,
+    report_unreadable, run_over,
 };
 use ipld_show::{ShowError, write_cid_parts};
 use std::alloc::Global;
@@ -184,13 +184,21 @@ fn print_file<W: Write>(
 
 // Reports that a word is neither a file that can be read nor a CID.
 fn report_no_file(rt: &HostRuntime, word: &str, error: &io::Error, why: &NoCid<'_>) -> Outcome {
-    let name = if word.is_empty() { "''" } else { word };
-    let _ = if error.kind() == ErrorKind::NotFound {
-        eprintln!(rt; "ipld: {name}: no such file, and {why}")
+    if error.kind() == ErrorKind::NotFound {
+        report(
+            rt,
+            word,
+            &format_args!("no such file, and {why}"),
+            Outcome::Failed,
+        )
     } else {
-        eprintln!(rt; "ipld: {name}: cannot read the file: {error}; and {why}")
-    };
-    Outcome::Failed
+        report(
+            rt,
+            word,
+            &format_args!("cannot read the file: {error}; and {why}"),
+            Outcome::Failed,
+        )
+    }
 }
 
 // Prints the CID that a word is. Otherwise prints the CID of the block in the file that it names.
@@ -200,7 +208,7 @@ fn print_word<W: Write>(
     word: &str,
     writer: &mut W,
 ) -> Result<Outcome, ShowError> {
-    let no_cid = match parse_any(word) {
+    let no_cid = match parse_cid(word) {
         Ok(_) if options.names_codec => {
             let why = "--codec applies only to files, and this is a CID (for a file, write ./NAME)";
             return Ok(report(rt, word, &why, Outcome::Failed));

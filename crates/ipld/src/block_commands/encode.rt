@@ -4,8 +4,8 @@ use clap::ArgMatches;
 use dag_cbor_tape::{EncodeErrorKind, encode_tape};
 use dag_json::{ReadError, ReadErrorKind, from_canonical, from_slice, tape_from_slice, to_vec};
 use ipld_cli::{
-    Content, JsonExplanation, Outcome, Output, OutputError, TemporaryName, output_of, read_file,
-    report, report_out_of_memory, report_unreadable, report_unwritable, write,
+    Content, JsonExplanation, Outcome, Output, OutputError, output_of, read_file, report,
+    report_out_of_memory, report_unreadable, report_unwritable, write_output,
 };
 use ipld_codec::{Codec, RawCodec, RawError};
 use ipld_show::to_json;
@@ -38,20 +38,23 @@ fn encode_file(
         Err(error) => return report_unreadable(rt, file, &error),
     };
     let format = format_of(matches);
-    match block_of(rt.alloc(), &text, format, matches.get_flag("canonical")) {
-        Ok(bytes) => write_encoded(rt, name, output, Block { bytes }),
-        Err(error) => report_error(rt, file, &text, format, &error),
+    let canonical = matches.get_flag("canonical");
+    let value = if canonical {
+        without_line_feed(&text)
+    } else {
+        &text
+    };
+    match block_of(rt.alloc(), value, format, canonical) {
+        Ok(bytes) => write_output(rt, name, output, &Block { bytes }),
+        Err(error) => report_error(rt, file, value, format, &error),
     }
 }
 
-fn write_encoded(rt: &HostRuntime, name: &str, output: Output, block: Block) -> Outcome {
-    let written = match TemporaryName::of(rt, name, &output) {
-        Ok(temporary) => write(rt, name, output, &temporary, &block),
-        Err(error) => Err(error),
-    };
-    match written {
-        Ok(()) => Outcome::Done,
-        Err(error) => report_unwritable(rt, name, &error),
+// Returns a text without the line feed at its end, which is not part of its value.
+fn without_line_feed(text: &[u8]) -> &[u8] {
+    match text {
+        [line @ .., b'\n'] => line,
+        _ => text,
     }
 }
 
@@ -223,10 +226,7 @@ fn report_error(
                 Outcome::NotSo,
             )
         }
-        EncodeError::Tape(error) => {
-            let _ = eprintln!(rt; "ipld: {file}: {error}");
-            Outcome::NotSo
-        }
+        EncodeError::Tape(error) => { report(rt, file, error, Outcome::NotSo) }
         EncodeError::NotBytes => {
             let why = "--codec raw requires a value that is bytes: {\"/\":{\"bytes\":\"..\"}}";
             report(rt, file, &why, Outcome::NotSo)

@@ -6,8 +6,8 @@ use ipld_block::{BlockCodec, codec_name};
 use ipld_cid::{Cid, IDENTITY};
 use ipld_cid_text::parse_any;
 use ipld_cli::{
-    Blocks, CheckedBlock, DigestExplanation, Explanation, NamedCid, Outcome, ShowExplanation,
-    hasher_of, report,
+    Blocks, CheckedBlock, DigestExplanation, Explanation, MOST_SECTIONS, NamedCid, Outcome,
+    ShowExplanation, hasher_of, report,
 };
 use ipld_show::{LinkOnPath, ShowError, link_on_path, show};
 use std::io::Write;
@@ -44,10 +44,10 @@ fn rest_of_path(path: &str, segments: usize) -> &str {
     rest
 }
 
-// Splits a path after the CID that it begins with, with or without `/ipfs/` before it.
+// Splits a path after the CID that it begins with, with or without `/ipfs/` or `ipfs://` before it.
 fn split_cid(path: &str) -> Option<(Cid, &str)> {
     let (first, rest) = split_segment(path);
-    let (first, rest) = if first == "ipfs" {
+    let (first, rest) = if first == "ipfs" || first == "ipfs:" {
         split_segment(rest)
     } else {
         (first, rest)
@@ -84,35 +84,35 @@ fn report_step_error(
     error: &ShowError,
 ) -> Outcome {
     let cid = NamedCid::new(rt.alloc(), &place.cid);
-    let _ = match error {
+    match error {
         ShowError::Invalid(why) => {
             let why = Explanation::new(rt.alloc(), bytes, *why);
-            eprintln!(rt; "ipld: {file}: {cid}: {why}")
+            report(rt, file, &format_args!("{cid}: {why}"), Outcome::of(error))
         }
         error => {
             let why = ShowExplanation::new(place.rest, error);
-            eprintln!(rt; "ipld: {file}: {cid}: {why}")
+            report(rt, file, &format_args!("{cid}: {why}"), Outcome::of(error))
         }
-    };
-    Outcome::of(error)
+    }
 }
 
 // Reports that blocks of this codec are not read.
 fn report_unknown_codec(rt: &HostRuntime, file: &str, cid: &Cid) -> Outcome {
     let (named, code) = (NamedCid::new(rt.alloc(), cid), cid.codec());
-    let _ = match codec_name(code) {
+    match codec_name(code) {
         Some(name) => {
-            eprintln!(rt;
-                "ipld: {file}: {named}: the codec {name} is not supported (ipld car extract writes the block)"
-            )
+            let why = format_args!(
+                "{named}: the codec {name} is not supported (ipld car extract writes the block)"
+            );
+            report(rt, file, &why, Outcome::NotSo)
         }
         None => {
-            eprintln!(rt;
-                "ipld: {file}: {named}: the codec {code:#x} is not supported (ipld car extract writes the block)"
-            )
+            let why = format_args!(
+                "{named}: the codec {code:#x} is not supported (ipld car extract writes the block)"
+            );
+            report(rt, file, &why, Outcome::NotSo)
         }
-    };
-    Outcome::NotSo
+    }
 }
 
 // Shows the value at the end of the path, or finds the link in this block that the path leads
@@ -129,9 +129,10 @@ fn take_step<W: Write>(
     let bytes = match CheckedBlock::new(cid, bytes, request.is_unchecked) {
         Ok(block) => block.bytes(),
         Err(error) => {
-            let (cid, why) = (NamedCid::new(rt.alloc(), cid), DigestExplanation(error));
-            let _ = eprintln!(rt; "ipld: {file}: {cid}: {why}");
-            return Ok(Step::Ended(Outcome::NotSo));
+            let why = DigestExplanation { cid, error };
+            let cid = NamedCid::new(rt.alloc(), cid);
+            let why = format_args!("{cid}: {why}");
+            return Ok(Step::Ended(report(rt, file, &why, Outcome::NotSo)));
         }
     };
     let Some(codec) = BlockCodec::from_code(cid.codec()) else {
@@ -152,22 +153,23 @@ fn take_step<W: Write>(
 // Reports that a block is missing.
 fn report_lacking_block(rt: &HostRuntime, file: &str, place: &Place<'_>) -> Outcome {
     let (cid, segments) = (NamedCid::new(rt.alloc(), &place.cid), place.segments);
-    let _ = if segments > 0 {
-        eprintln!(rt;
-            "ipld: {file}: segment {segments} of the path is a link to {cid}, which is not in the CAR"
-        )
+    if segments > 0 {
+        let why = format_args!(
+            "segment {segments} of the path is a link to {cid}, which is not in the CAR"
+        );
+        report(rt, file, &why, Outcome::NotSo)
     } else {
-        eprintln!(rt; "ipld: {file}: {cid}: the CAR has no block with this CID")
-    };
-    Outcome::NotSo
+        let why = format_args!("{cid}: the CAR has no block with this CID");
+        report(rt, file, &why, Outcome::NotSo)
+    }
 }
 
 // Reports that blocks which are links lead back to one of them. This can't happen if digests are
 // verified.
 fn report_circle(rt: &HostRuntime, file: &str, cid: &Cid) -> Outcome {
     let cid = NamedCid::new(rt.alloc(), cid);
-    let _ = eprintln!(rt; "ipld: {file}: {cid}: the links form a cycle through this block");
-    Outcome::NotSo
+    let why = format_args!("{cid}: the links form a cycle through this block");
+    report(rt, file, &why, Outcome::NotSo)
 }
 
 // Takes a step in the block of a place, which is in the file or in its CID.
@@ -209,7 +211,7 @@ pub fn show_in_car<W: Write>(
     };
     // The blocks that are links themselves, after the last segment.
     let mut links = IndexSet::with_hasher(rt.alloc(), hasher);
-    for _ in 0..u64::MAX {
+    for _ in 0..MOST_SECTIONS {
         match step_in(rt, &mut blocks, request, &place, writer)? {
             Step::Ended(outcome) => return Ok(outcome),
             Step::Link(link) => {

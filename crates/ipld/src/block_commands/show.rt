@@ -39,20 +39,18 @@ fn report_path_error(
 ) -> Outcome {
     if let Ok(Some(link)) = link_on_path(rt.alloc(), request.codec, bytes, request.path) {
         let (segments, cid) = (link.segments, NamedCid::new(rt.alloc(), &link.cid));
-        let _ = eprintln!(rt;
-            "ipld: {file}: segment {segments} of the path is a link to {cid}, and only a CAR has linked blocks"
+        let why = format_args!(
+            "segment {segments} of the path is a link to {cid}, and only a CAR has linked blocks"
         );
-        return Outcome::NotSo;
+        return report(rt, file, &why, Outcome::NotSo);
     }
     let path = request.path;
     let why = ShowExplanation::new(path, error);
     if !is_file(rt, path) {
         return report(rt, file, &why, Outcome::NotSo);
     }
-    let _ = eprintln!(rt;
-        "ipld: {file}: {why} ({path} is a file: for several files, use --path /)"
-    );
-    Outcome::NotSo
+    let why = format_args!("{why} ({path} is a file: for several files, use --path /)");
+    report(rt, file, &why, Outcome::NotSo)
 }
 
 // Shows the requested part of a block.

@@ -1,16 +1,18 @@
 //! The command that extracts blocks from a CAR file.
 
-use crate::arguments::limit_of;
+use crate::arguments::{cid_texts, limit_of};
 use car_files::CarFileError;
 use clap::ArgMatches;
-use indexmap::IndexMap;
+use indexmap::{IndexMap, IndexSet};
 use ipld_car::Section;
 use ipld_cid::Cid;
 use ipld_cli::{
-    CheckedBlock, DigestExplanation, NamedCid, OpenCar, Outcome, OutputError, TemporaryName,
-    hasher_of, open_car, open_indexed, output_of, parse_cid_argument, report_car_error,
-    report_out_of_memory, report_unwritable, report_wrong_arguments, write,
+    CheckedBlock, DigestExplanation, MOST_SECTIONS, NamedCid, OpenCar, Outcome, OutputError,
+    Syncing, TemporaryName, hasher_of, open_car, open_indexed, output_of, parse_cid_argument,
+    report, report_car_error, report_out_of_memory, report_unwritable, report_wrong_arguments,
+    shows_progress, sync_folder, write, writes_to_input,
 };
+use std::fmt;
 use std::hash::RandomState;
 use std::io::{self, Write};
 use std::path::{Path, PathBuf};
@@ -42,32 +44,95 @@ struct Target<'a, 't> {
 
 /// Runs `ipld car extract`.
 pub fn run_extract(rt: &HostRuntime, matches: &ArgMatches<'_>) -> Outcome {
-    let folder = matches.get_str("directory");
-    let Some(texts) = matches.get_strs("cids") else {
-        return Outcome::Failed;
+    let file = matches.get_str("file").unwrap_or("-");
+    let texts = match cid_texts(rt, matches, file) {
+        Ok(texts) => texts,
+        Err(outcome) => return outcome,
     };
+    match matches.get_str("directory") {
+        Some(folder) => extract_to_folder(rt, matches, folder, &texts),
+        None if texts.len() > 1 => {
+            let why = "several CIDs require --directory <DIR>, the folder for their blocks";
+            report_wrong_arguments(rt, &why)
+        }
+        None if writes_to_input(rt, &[file]) => Outcome::Failed,
+        None => extract_to(rt, matches, target_of(matches, None), &texts),
+    }
+}
+
+// Writes blocks to files in this folder, and has the system sync them.
+fn extract_to_folder<'a>(
+    rt: &HostRuntime,
+    matches: &ArgMatches<'a>,
+    folder: &'a str,
+    texts: &[String],
+) -> Outcome {
+    let temporary = match TemporaryName::new(rt, Path::new(folder), "extract") {
+        Ok(temporary) => temporary,
+        Err(error) => return report_unwritable(rt, folder, &error),
+    };
+    let target = target_of(matches, Some((folder, &temporary)));
+    let outcome = extract_to(rt, matches, target, texts);
+    match sync_folder(rt, folder) {
+        Ok(()) => outcome,
+        // The failed block was reported.
+        Err(_) if outcome == Outcome::Failed => outcome,
+        Err(error) => outcome.worse(report_unwritable(rt, folder, &error)),
+    }
+}
+
+// Writes the blocks of these CIDs, or all blocks with `--all`.
+fn extract_to(
+    rt: &HostRuntime,
+    matches: &ArgMatches<'_>,
+    target: Target<'_, '_>,
+    texts: &[String],
+) -> Outcome {
     let limit = match limit_of(rt, matches) {
         Ok(limit) => limit,
         Err(outcome) => return outcome,
     };
-    if texts.len() > 1 && folder.is_none() {
-        let why = "several CIDs require --directory <DIR>, the folder for their blocks";
-        return report_wrong_arguments(rt, &why);
+    if matches.get_flag("all") {
+        return extract_all(rt, target, limit);
     }
-    let (requested, places) = match requested_blocks(rt, texts) {
-        Ok(found) => found,
+    match requested_blocks(rt, texts) {
+        Ok((requested, places)) => extract(rt, target, limit, requested, &places),
+        Err(outcome) => outcome,
+    }
+}
+
+// Writes each block of a CAR, the first of each CID.
+fn extract_all(rt: &HostRuntime, target: Target<'_, '_>, limit: u64) -> Outcome {
+    let hasher = match hasher_of(rt) {
+        Ok(hasher) => hasher,
         Err(outcome) => return outcome,
     };
-    let Some(folder) = folder else {
-        return extract(rt, target_of(matches, None), limit, requested, &places);
+    let mut opened = match open_car(rt, target.file, limit, shows_progress(rt)) {
+        Ok(opened) => opened,
+        Err(outcome) => return outcome,
     };
-    match TemporaryName::new(rt, Path::new(folder), "extract") {
-        Ok(temporary) => {
-            let target = target_of(matches, Some((folder, &temporary)));
-            extract(rt, target, limit, requested, &places)
+    let mut written = IndexSet::with_hasher(rt.alloc(), hasher);
+    let mut section = Section::new(rt.alloc());
+    let mut outcome = Outcome::Done;
+    for _ in 0..MOST_SECTIONS {
+        match opened.car.read_section(&mut section) {
+            Ok(true) => {}
+            Ok(false) => return outcome,
+            Err(error) => {
+                let error = CarFileError::from(error);
+                return outcome.worse(report_car_error(rt, target.file, &error));
+            }
         }
-        Err(error) => report_unwritable(rt, folder, &error),
+        match written.insert(*section.cid()) {
+            Ok(true) => {
+                let cid = NamedCid::new(rt.alloc(), section.cid());
+                outcome = outcome.worse(write_extracted(rt, target, &cid, &section));
+            }
+            Ok(false) => {}
+            Err(_) => return outcome.worse(report_out_of_memory(rt, target.file)),
+        }
     }
+    Outcome::Failed
 }
 
 // Returns the destination in this folder, or standard output.
@@ -86,7 +151,7 @@ fn target_of<'a, 't>(
 // Returns the blocks of these CIDs, each once, and their places.
 fn requested_blocks<'a>(
     rt: &HostRuntime,
-    texts: &[&'a str],
+    texts: &'a [String],
 ) -> Result<(Vec<RequestedBlock<'a>>, Places), Outcome> {
     let hasher = match hasher_of(rt) {
         Ok(hasher) => hasher,
@@ -95,6 +160,7 @@ fn requested_blocks<'a>(
     let mut requested: Vec<RequestedBlock<'a>> = Vec::new(rt.alloc());
     let mut places = IndexMap::with_hasher(rt.alloc(), hasher);
     for text in texts {
+        let text = text.as_str();
         let Some(cid) = parse_cid_argument(rt, text) else {
             return Err(Outcome::Failed);
         };
@@ -151,7 +217,7 @@ fn extract_indexed(
     for block in requested.iter_mut() {
         if let Some(section) = blocks.find_indexed(&block.cid) {
             block.is_found = true;
-            outcome = outcome.worse(write_extracted(rt, target, block.text, &section));
+            outcome = outcome.worse(write_extracted(rt, target, &block.text, &section));
         }
     }
     outcome
@@ -169,7 +235,7 @@ fn extract_found(
     if left == 0 {
         return Ok(Outcome::Done);
     }
-    match open_car(rt, target.file, limit, false) {
+    match open_car(rt, target.file, limit, shows_progress(rt)) {
         Ok(opened) => extract_from(rt, target, opened, requested, places, left),
         Err(outcome) => Err(outcome),
     }
@@ -187,7 +253,7 @@ fn extract_from(
     let (mut opened, mut left) = (opened, count);
     let mut section = Section::new(rt.alloc());
     let mut outcome = Outcome::Done;
-    for _ in 0..u64::MAX {
+    for _ in 0..MOST_SECTIONS {
         if left == 0 {
             return Ok(outcome);
         }
@@ -204,10 +270,10 @@ fn extract_from(
         }
         if let Some(text) = take_requested(requested, places, section.cid()) {
             left = left.saturating_sub(1);
-            outcome = outcome.worse(write_extracted(rt, target, text, &section));
+            outcome = outcome.worse(write_extracted(rt, target, &text, &section));
         }
     }
-    Ok(outcome)
+    Err(Outcome::Failed)
 }
 
 // Returns the text of a requested CID that was not found yet, and marks it as found.
@@ -238,26 +304,31 @@ fn report_lacking_blocks(
     for block in requested {
         if !block.is_found {
             let text = block.text;
-            let _ = eprintln!(rt; "ipld: {file}: {text}: the CAR has no block with this CID");
-            outcome = Outcome::NotSo;
+            let why = format_args!("{text}: the CAR has no block with this CID");
+            outcome = report(rt, file, &why, Outcome::NotSo);
         }
     }
     outcome
 }
 
-// Writes a block, if it matches its CID or is not to be checked.
-fn write_extracted(
+// Writes a block, if it matches its CID or is not to be checked. `name` is the CID in messages.
+fn write_extracted<D: fmt::Display>(
     rt: &HostRuntime,
     target: Target<'_, '_>,
-    text: &str,
+    name: &D,
     section: &Section,
 ) -> Outcome {
     let block = match CheckedBlock::new(section.cid(), section.data(), target.is_unchecked) {
         Ok(block) => block,
         Err(error) => {
-            let (file, why) = (target.file, DigestExplanation(error));
-            let _ = eprintln!(rt; "ipld: {file}: {text}: {why}");
-            return Outcome::NotSo;
+            let cid = section.cid();
+            let why = DigestExplanation { cid, error };
+            return report(
+                rt,
+                target.file,
+                &format_args!("{name}: {why}"),
+                Outcome::NotSo,
+            );
         }
     };
     match target.folder {
@@ -310,7 +381,7 @@ fn write_as(
         Ok(output) => output,
         Err(error) => return report_unwritable(rt, name, &error),
     };
-    match write(rt, name, output, temporary, block) {
+    match write(rt, name, output, temporary, Syncing::Together, block) {
         Ok(()) => Outcome::Done,
         Err(error) => report_unwritable(rt, name, &error),
     }

@@ -1,4 +1,4 @@
-//! The blocks that CAR files name and lack.
+//! The command that lists the blocks which CARs link to and don't have.
 
 use crate::arguments::limit_of;
 use car_files::{CarFileError, MissingBlocks, Seen, add_car};
@@ -6,14 +6,17 @@ use clap::ArgMatches;
 use ipld_block::write_links;
 use ipld_cid::Cid;
 use ipld_cli::{
-    BUFFER, Complaints, Outcome, end_writer, hasher_of, json_lines, open_car, reads_twice,
-    report_car_error, report_out_of_memory,
+    BUFFER, Complaints, Outcome, complain, end_writer, hasher_of, json_lines, open_car,
+    reads_twice, report_car_error, report_out_of_memory, writes_to_input,
 };
 use std::io::{self, BufWriter, Write};
 
-/// Runs `ipld car --missing` over these files.
-pub fn run_missing(rt: &HostRuntime, matches: &ArgMatches<'_>, files: &[&str]) -> Outcome {
-    if reads_twice(rt, files) {
+/// Runs `ipld car missing`.
+pub fn run_missing(rt: &HostRuntime, matches: &ArgMatches<'_>) -> Outcome {
+    let Some(files) = matches.get_strs("files") else {
+        return Outcome::Failed;
+    };
+    if reads_twice(rt, files) || writes_to_input(rt, files) {
         return Outcome::Failed;
     }
     let limit = match limit_of(rt, matches) {
@@ -26,7 +29,19 @@ pub fn run_missing(rt: &HostRuntime, matches: &ArgMatches<'_>, files: &[&str]) -
     };
     let mut index = MissingBlocks::new(rt.alloc(), hasher);
     let added = add_files(rt, files, limit, matches.get_flag("progress"), &mut index);
-    write_result(rt, matches.get_flag("json"), &index, added)
+    if !added.is_whole {
+        // If a file was not read to its end, the missing blocks are not known.
+        return added.outcome;
+    }
+    let missing = if matches.get_flag("by-cid") {
+        index.missing(rt.alloc())
+    } else {
+        index.missing_by_hash(rt.alloc(), hasher)
+    };
+    match missing {
+        Ok(missing) => write_result(rt, matches.get_flag("json"), &missing, added),
+        Err(_) => report_out_of_memory(rt, "the missing blocks"),
+    }
 }
 
 // Findings in files, other than the blocks that they have and lack.
@@ -70,12 +85,9 @@ fn add_files(
     added
 }
 
-// Writes the blocks that the files lack. If a file was not read to its end, they are not known.
-fn write_result(rt: &HostRuntime, json: bool, index: &MissingBlocks, added: Added) -> Outcome {
-    if !added.is_whole {
-        return added.outcome;
-    }
-    let written = write_missing(rt, json, index);
+// Writes the CIDs whose block is missing, and a warning if links are not known.
+fn write_result(rt: &HostRuntime, json: bool, missing: &[Cid], added: Added) -> Outcome {
+    let written = write_missing(rt, json, missing);
     if written != Outcome::Failed {
         warn_of_unknown(rt, added.unknown);
     }
@@ -94,7 +106,7 @@ fn add_file(
         Ok(opened) => opened,
         Err(outcome) => return Err(outcome),
     };
-    let Ok(label) = format!(in rt.alloc(); "ipld: {file}: ") else {
+    let Ok(label) = format!(in rt.alloc(); "{file}: ") else {
         return Err(report_out_of_memory(rt, file));
     };
     let mut complaints = Complaints::new(rt);
@@ -107,17 +119,14 @@ fn add_file(
 }
 
 // Writes the CIDs whose block is missing.
-fn write_missing(rt: &HostRuntime, json: bool, index: &MissingBlocks) -> Outcome {
-    let Ok(missing) = index.missing(rt.alloc()) else {
-        return report_out_of_memory(rt, "standard output");
-    };
+fn write_missing(rt: &HostRuntime, json: bool, missing: &[Cid]) -> Outcome {
     let found = if missing.is_empty() {
         Outcome::Done
     } else {
         Outcome::NotSo
     };
     // If nobody reads them any more, blocks are missing all the same.
-    match write_cids(rt, json, &missing) {
+    match write_cids(rt, json, missing) {
         Ok(()) => found,
         Err(error) => found.worse(report_car_error(rt, "standard output", &error)),
     }
@@ -126,7 +135,7 @@ fn write_missing(rt: &HostRuntime, json: bool, index: &MissingBlocks) -> Outcome
 fn write_cids(rt: &HostRuntime, json: bool, cids: &[Cid]) -> Result<(), CarFileError> {
     let mut writer = BufWriter::with_capacity(rt.alloc(), BUFFER, io::writer(rt))?;
     let written = if json {
-        json_lines::write_missing_objects(rt.alloc(), cids, &mut writer)
+        json_lines::write_cids(rt.alloc(), "missing", cids, &mut writer)
     } else {
         write_links(rt.alloc(), cids, &mut writer)
     };
@@ -138,15 +147,17 @@ fn write_cids(rt: &HostRuntime, json: bool, cids: &[Cid]) -> Result<(), CarFileE
 }
 
 fn warn_of_unknown(rt: &HostRuntime, unknown: u64) {
-    if unknown > 0 {
-        let _ = if unknown == 1 {
-            eprintln!(rt;
-                "ipld: warning: the links of 1 block are unknown, because its codec is not supported"
-            )
-        } else {
-            eprintln!(rt;
-                "ipld: warning: the links of {unknown} blocks are unknown, because their codecs are not supported"
-            )
-        };
+    if unknown == 1 {
+        complain(
+            rt,
+            &"warning: the links of 1 block are unknown, because its codec is not supported",
+        );
+    } else if unknown > 1 {
+        complain(
+            rt,
+            &format_args!(
+                "warning: the links of {unknown} blocks are unknown, because their codecs are not supported"
+            ),
+        );
     }
 }

@@ -4,8 +4,8 @@ use indexmap::{IndexMap, IndexSet};
 use ipld_car::HEADER_END;
 use ipld_cid::Cid;
 use ipld_cli::{
-    NewBlock, Outcome, Output, OutputError, TemporaryName, header_len, is_file, output_of,
-    report_out_of_memory, report_unwritable,
+    CollectedBlocks, NewBlock, Outcome, Output, OutputError, TemporaryName, header_len, is_file,
+    output_of, report, report_out_of_memory, report_unwritable,
 };
 use std::alloc::{AllocError, Global};
 use std::hash::RandomState;
@@ -108,7 +108,7 @@ impl Splitter {
     }
 
     // Returns the number of bytes that the CID of this block adds to a header.
-    fn added_to_header(&self, block: &NewBlock<'_>) -> u64 {
+    fn added_to_header(&self, block: &NewBlock) -> u64 {
         match self.roots.get(&block.cid) {
             Some(len) => len.saturating_sub(self.empty_header),
             None => 0,
@@ -116,22 +116,19 @@ impl Splitter {
     }
 
     // Returns the most bytes before the first section of a CAR of any one of these blocks.
-    fn least(&self, blocks: &[NewBlock<'_>]) -> u64 {
+    fn least(&self, blocks: &CollectedBlocks<'_>) -> u64 {
         let mut most = 0;
-        for block in blocks {
-            most = self.added_to_header(block).max(most);
+        for number in 0..blocks.len() {
+            if let Some(block) = blocks.block(number) {
+                most = self.added_to_header(&block).max(most);
+            }
         }
         let header = self.empty_header.saturating_add(most);
         header.saturating_add(self.form.fixed_len())
     }
 
     // Returns whether the block fits into the CAR.
-    fn fits(
-        &self,
-        alloc: Global,
-        part: &OpenPart,
-        block: &NewBlock<'_>,
-    ) -> Result<bool, OutputError> {
+    fn fits(&self, alloc: Global, part: &OpenPart, block: &NewBlock) -> Result<bool, OutputError> {
         let added = added_by(block, self.form.has_index, &part.hashes);
         let size = part.size.saturating_add(added);
         let longest = part.header.saturating_add(self.added_to_header(block));
@@ -153,7 +150,7 @@ impl Splitter {
     }
 
     // Adds a block to the CAR.
-    fn add(&self, part: &mut OpenPart, block: &NewBlock<'_>) -> Result<(), OutputError> {
+    fn add(&self, part: &mut OpenPart, block: &NewBlock) -> Result<(), OutputError> {
         let added = added_by(block, self.form.has_index, &part.hashes);
         part.size = part.size.saturating_add(added);
         part.header = part.header.saturating_add(self.added_to_header(block));
@@ -190,18 +187,21 @@ impl Splitter {
         &self,
         alloc: Global,
         hasher: RandomState,
-        blocks: &[NewBlock<'_>],
+        blocks: &CollectedBlocks<'_>,
     ) -> Result<Vec<Part>, OutputError> {
         let mut parts = Vec::new(alloc);
         let mut begin = 0;
         let mut part = self.open(alloc, hasher);
-        for (place, block) in blocks.iter().enumerate() {
-            if place > begin && !self.fits(alloc, &part, block)? {
-                parts.push(self.close(alloc, part, place)?)?;
+        for number in 0..blocks.len() {
+            let Some(block) = blocks.block(number) else {
+                continue;
+            };
+            if number > begin && !self.fits(alloc, &part, &block)? {
+                parts.push(self.close(alloc, part, number)?)?;
                 part = self.open(alloc, hasher);
-                begin = place;
+                begin = number;
             }
-            self.add(&mut part, block)?;
+            self.add(&mut part, &block)?;
         }
         parts.push(self.close(alloc, part, blocks.len())?)?;
         Ok(parts)
@@ -227,7 +227,7 @@ pub fn split_blocks(
     alloc: Global,
     hasher: RandomState,
     roots: &[Cid],
-    blocks: &[NewBlock<'_>],
+    blocks: &CollectedBlocks<'_>,
     form: Form,
 ) -> Result<Split, OutputError> {
     let splitter = Splitter::new(alloc, hasher, roots, form)?;
@@ -239,13 +239,13 @@ pub fn split_blocks(
 }
 
 // Returns the hash function of a block's CID, and the length of its digest.
-fn kind_of(block: &NewBlock<'_>) -> (u64, usize) {
+fn kind_of(block: &NewBlock) -> (u64, usize) {
     (block.cid.hash().code(), block.cid.hash().size())
 }
 
 // Returns the most bytes that this block adds to a CAR.
 fn added_by(
-    block: &NewBlock<'_>,
+    block: &NewBlock,
     has_index: bool,
     hashes: &IndexSet<(u64, usize), RandomState>,
 ) -> u64 {
@@ -298,7 +298,8 @@ fn report_if_there(rt: &HostRuntime, name: &str, number: usize) -> Result<(), Ou
         return Err(report_out_of_memory(rt, name));
     };
     if is_file(rt, &next) {
-        let _ = eprintln!(rt; "ipld: {next}: warning: this file is not part of the new CARs");
+        let why = "warning: this file is not part of the new CARs";
+        report(rt, &next, &why, Outcome::Done);
     }
     Ok(())
 }

@@ -30,7 +30,6 @@ const FLAG: Argument = Argument {
     help: "",
     needs: &[],
     excludes: &[],
-    groups: &[],
 };
 
 const BLOCK_CODEC: Argument = Argument {
@@ -87,9 +86,13 @@ const SHOW: Description = Description {
         Argument {
             name: "unchecked",
             help: "Print a block of a CAR even if its digest is wrong or its hash function unsupported.",
+            excludes: &["codec"],
             ..FLAG
         },
-        LIMIT,
+        Argument {
+            excludes: &["codec"],
+            ..LIMIT
+        },
         BLOCK_CODEC,
     ],
 };
@@ -100,10 +103,10 @@ quotation marks, with control characters escaped. Below 40 levels, lines show
 the level number instead of more indentation.
 
 A FILE that begins with a CAR header is read as a CAR, unless --codec is given.
-A path that begins with a CID starts in that block, and any other path in the
-block of the first root. The path follows links through the blocks of the CAR.
-If it ends at a link, the CID is printed. Digests are verified, unless
---unchecked is given.
+A path that begins with a CID, such as CID/a, /ipfs/CID/a or ipfs://CID/a,
+starts in that block, and any other path in the block of the first root. The
+path follows links through the blocks of the CAR. If it ends at a link, the CID
+is printed. Digests are verified, unless --unchecked is given.
 
 Examples:
   $ ipld show photo.cbor
@@ -199,6 +202,7 @@ const CID: Description = Description {
             name: "text",
             short: Some('t'),
             help: "Read all arguments as CIDs, and - as standard input with a CID on every line.",
+            excludes: &["codec"],
             ..FLAG
         },
         Argument {
@@ -225,10 +229,11 @@ const CID: Description = Description {
 };
 
 const CID_MORE: &str = "\
-An argument that is a CID, with or without /ipfs/ before it, is decoded. Any
-other argument is a file, whose block gets a CID with SHA2-256, of version 1
-unless --v0 is given. For a file whose name is a CID, write ./NAME. --codec
-applies only to files. A CID of version 0 is always written in base58btc.
+An argument that is a CID, with or without /ipfs/ or ipfs:// before it, is
+decoded. Any other argument is a file, whose block gets a CID with SHA2-256, of
+version 1 unless --v0 is given. For a file whose name is a CID, write ./NAME.
+--codec applies only to files. A CID of version 0 is always written in
+base58btc.
 
 Examples:
   $ ipld cid photo.cbor
@@ -260,124 +265,302 @@ Examples:
 /// The commands on blocks and CIDs.
 pub(super) const BLOCK_COMMANDS: &[Description] = &[SHOW, LINKS, CHECK, CID];
 
-/// The group of the forms in which a CAR is listed, one at a time.
-pub(super) const FORM: &str = "form";
-
-/// The command that lists a CAR.
-pub(super) const LIST: Description = Description {
+/// The commands on CARs.
+pub(super) const CAR: Description = Description {
     name: "car",
     about: "List, verify, extract and create CAR files.",
-    more: Some(LIST_MORE),
-    arguments: &[
-        Argument {
-            name: "files",
-            kind: Kind::Words(&["FILE"]),
-            help: "A CAR, or with --missing one or more.",
-            ..FLAG
-        },
-        Argument {
-            name: "links",
-            help: "List the links: a CID and a link of its block on every line.",
-            groups: &[FORM],
-            ..FLAG
-        },
-        Argument {
-            name: "missing",
-            help: "List roots and links whose block is not in the files.",
-            groups: &[FORM],
-            ..FLAG
-        },
-        Argument {
-            name: "dot",
-            help: "Print the graph for Graphviz.",
-            groups: &[FORM],
-            ..FLAG
-        },
-        Argument {
-            name: "verify",
-            help: "List blocks whose digest is wrong or whose hash function is unsupported.",
-            groups: &[FORM],
-            ..FLAG
-        },
-        Argument {
-            name: "known",
-            help: "With --verify, ignore unsupported hash functions in the exit status.",
-            needs: &["verify"],
-            excludes: &["links", "missing", "dot"],
-            ..FLAG
-        },
-        Argument {
-            name: "json",
-            help: "Print JSON objects, one per line.",
-            excludes: &["links", "dot"],
-            ..FLAG
-        },
-        LIMIT,
-        Argument {
-            name: "progress",
-            help: "Print the bytes read and the time left on standard error, once a second.",
-            ..FLAG
-        },
-    ],
+    more: Some(CAR_MORE),
+    arguments: &[],
 };
 
-const LIST_MORE: &str = "\
-Without an option, ipld prints the version, the roots, and a line for every
-block: its CID, codec, size and number of links. If a block is invalid for its
-codec, or the codec is unsupported, its line has a note instead of the number.
-
-The error of an invalid block is printed on standard error, or with --json in
-its object, and the status is 1. --missing prints these errors too, also those
-of blocks inside identity CIDs.
-
---verify also compares the index of a CAR of version 2 with the blocks, except
-for standard input and pipes. Supported hash functions are SHA2-256, SHA2-512
-and identity. To read a file named extract or create, write ./extract or
-./create.
-
-JSON objects:
-  --json            {\"version\":1,\"roots\":[..]}, then for every block
-                    {\"cid\":..,\"codec\":..,\"offset\":..,\"size\":..,\"links\":[..]}.
-                    An invalid block has \"error\" and \"at\" instead of \"links\",
-                    and a block of an unsupported codec has no \"links\".
-  --missing --json  {\"missing\":\"CID\"}
-  --verify --json   {\"cid\":..,\"offset\":..,\"error\":\"WrongDigest\"}, or \"UnknownHash\"
-                    with \"hash\", or the index errors \"NotIndexed\" and \"WrongEntry\".
+const CAR_MORE: &str = "\
+A CAR is a file that contains blocks and their CIDs. Both versions are read.
+Digests are verified with SHA2-256, SHA2-512 and identity.
 
 Examples:
-  $ ipld car album.car
+  $ ipld car list album.car
   version 1
   root bafyreidglldmsjx73lvndeob54rzgouut6j7sxzoxr4zatpbydx7btmfpa
   bafyreidglldmsjx73lvndeob54rzgouut6j7sxzoxr4zatpbydx7btmfpa dag-cbor 61 bytes, 1 links
   bafyreidl4puu5qgoyaxslyujtbdk5g7ps2j5jziwepjyktvekap6cpeeui dag-cbor 19 bytes, 0 links
 
-  $ ipld car --missing part.car
+  $ ipld car verify album.car && ipld car missing album.car && echo whole
+  whole
+
+  $ ipld car create -o new.car album.cbor photo.cbor
+  $ ipld car roots new.car
+  bafyreidglldmsjx73lvndeob54rzgouut6j7sxzoxr4zatpbydx7btmfpa";
+
+// The CAR of a command that reads one.
+const ONE_CAR: Argument = Argument {
+    name: "file",
+    kind: Kind::Word("FILE"),
+    help: "A CAR.",
+    ..FLAG
+};
+
+const PROGRESS: Argument = Argument {
+    name: "progress",
+    help: "Print the bytes read and the time left on standard error, once a second.",
+    ..FLAG
+};
+
+const OUTPUT_CAR: Argument = Argument {
+    name: "output",
+    short: Some('o'),
+    kind: Kind::Required("CAR"),
+    help: "File to create, or - for standard output.",
+    ..FLAG
+};
+
+const FORCE: Argument = Argument {
+    name: "force",
+    help: "Replace the file if it exists.",
+    ..FLAG
+};
+
+const VERSION: Argument = Argument {
+    name: "version",
+    kind: Kind::OneOf("VERSION", &["1", "2"]),
+    help: "Version of the new CAR. Version 2 has an index (MultihashIndexSorted). [default: 1]",
+    ..FLAG
+};
+
+const LIST: Description = Description {
+    name: "list",
+    about: "List the blocks of a CAR.",
+    more: Some(LIST_MORE),
+    arguments: &[ONE_CAR, JSON_LINES, LIMIT, PROGRESS],
+};
+
+const LIST_MORE: &str = "\
+ipld prints the version, the roots, and a line for every block: its CID, codec,
+size and number of links. If a block is invalid for its codec, or the codec is
+unsupported, its line has a note instead of the number.
+
+The error of an invalid block is printed on standard error, or with --json in
+its object, and the status is 1.
+
+JSON objects:
+  first     {\"version\":1,\"roots\":[..]}
+  a block   {\"cid\":..,\"codec\":..,\"offset\":..,\"size\":..,\"links\":[..]}
+
+The object of an invalid block has \"error\" and \"at\" instead of \"links\". A
+block of an unsupported codec has no \"links\".
+
+Examples:
+  $ ipld car list album.car
+  version 1
+  root bafyreidglldmsjx73lvndeob54rzgouut6j7sxzoxr4zatpbydx7btmfpa
+  bafyreidglldmsjx73lvndeob54rzgouut6j7sxzoxr4zatpbydx7btmfpa dag-cbor 61 bytes, 1 links
+  bafyreidl4puu5qgoyaxslyujtbdk5g7ps2j5jziwepjyktvekap6cpeeui dag-cbor 19 bytes, 0 links
+
+  $ ipld car list --json album.car | jq -r 'select(.size > 20) | .cid'
+  bafyreidglldmsjx73lvndeob54rzgouut6j7sxzoxr4zatpbydx7btmfpa
+
+  $ cat album.car | ipld car list - | head -n 1
+  version 1";
+
+const INSPECT: Description = Description {
+    name: "inspect",
+    about: "Print a summary of a CAR.",
+    more: Some(INSPECT_MORE),
+    arguments: &[ONE_CAR, JSON_LINES, LIMIT, PROGRESS],
+};
+
+const INSPECT_MORE: &str = "\
+The summary has the number of blocks for every codec and hash function. unknown
+counts the blocks of unsupported codecs, whose links are not known, invalid the
+blocks that are invalid for their codec, and missing the roots and links whose
+block is not in the CAR. If nothing is unknown, invalid or missing, the graph is
+whole. Digests are not verified.
+
+The errors of invalid blocks are printed on standard error, and the status is 1.
+
+Examples:
+  $ ipld car inspect album.car
+  version  1
+  root     bafyreidglldmsjx73lvndeob54rzgouut6j7sxzoxr4zatpbydx7btmfpa
+  blocks   2
+  bytes    80 (each block 19 to 61)
+  codec    dag-cbor 2
+  hash     sha2-256 2
+  unknown  0
+  invalid  0
+  missing  0
+
+  $ ipld car inspect --json part.car | jq .missing
+  1
+
+  $ ipld car inspect --json album.car | jq -c .codecs
+  {\"dag-cbor\":2}";
+
+const ROOTS: Description = Description {
+    name: "roots",
+    about: "List the roots of a CAR.",
+    more: Some(ROOTS_MORE),
+    arguments: &[ONE_CAR, JSON_LINES, LIMIT],
+};
+
+const ROOTS_MORE: &str = "\
+Only the header of the CAR is read.
+
+JSON objects:
+  {\"root\":\"CID\"}
+
+Examples:
+  $ ipld car roots album.car
+  bafyreidglldmsjx73lvndeob54rzgouut6j7sxzoxr4zatpbydx7btmfpa
+
+  $ ipld car roots album.car | ipld car extract album.car - | cmp - album.cbor && echo same
+  same
+
+  $ ipld car roots --json album.car
+  {\"root\":\"bafyreidglldmsjx73lvndeob54rzgouut6j7sxzoxr4zatpbydx7btmfpa\"}";
+
+const LINKS_OF_CAR: Description = Description {
+    name: "links",
+    about: "List the links of a CAR.",
+    more: Some(LINKS_OF_CAR_MORE),
+    arguments: &[ONE_CAR, LIMIT, PROGRESS],
+};
+
+const LINKS_OF_CAR_MORE: &str = "\
+Every line has the CID of a block and a link of that block. The errors of
+invalid blocks are printed on standard error, and the status is 1.
+
+Examples:
+  $ ipld car links album.car
+  bafyreidglldmsjx73lvndeob54rzgouut6j7sxzoxr4zatpbydx7btmfpa bafyreidl4puu5qgoyaxslyujtbdk5g7ps2j5jziwepjyktvekap6cpeeui
+
+  $ ipld car links album.car | wc -l
+  1
+
+  $ ipld car links part.car | cut -d ' ' -f 2
+  bafyreidl4puu5qgoyaxslyujtbdk5g7ps2j5jziwepjyktvekap6cpeeui";
+
+const GRAPH: Description = Description {
+    name: "graph",
+    about: "Print the graph of a CAR for Graphviz.",
+    more: Some(GRAPH_MORE),
+    arguments: &[ONE_CAR, LIMIT, PROGRESS],
+};
+
+const GRAPH_MORE: &str = "\
+The roots are boxes. The errors of invalid blocks are printed on standard error,
+and the status is 1.
+
+Examples:
+  $ ipld car graph album.car > album.dot
+  $ head -n 1 album.dot
+  digraph car {
+
+  $ ipld car graph album.car | grep -c -- '->'
+  1
+
+  $ ipld car graph part.car | tail -n 1
+  }";
+
+const MISSING: Description = Description {
+    name: "missing",
+    about: "List roots and links whose block is not in the CARs.",
+    more: Some(MISSING_MORE),
+    arguments: &[
+        Argument {
+            name: "files",
+            kind: Kind::Words(&["FILE"]),
+            help: "CARs, which count as one.",
+            ..FLAG
+        },
+        Argument {
+            name: "by-cid",
+            help: "Compare whole CIDs, so that a block with another codec or version is missing.",
+            ..FLAG
+        },
+        JSON_LINES,
+        LIMIT,
+        PROGRESS,
+    ],
+};
+
+const MISSING_MORE: &str = "\
+A block is there if a block with its hash is, also under another codec or
+version of CID. If a block is missing, the status is 1. The errors of invalid
+blocks are printed on standard error, also those of blocks inside identity CIDs.
+
+JSON objects:
+  {\"missing\":\"CID\"}
+
+Examples:
+  $ ipld car missing part.car
   bafyreidl4puu5qgoyaxslyujtbdk5g7ps2j5jziwepjyktvekap6cpeeui
 
-  $ ipld car --missing part.car album.car && echo complete
+  $ ipld car missing part.car album.car && echo complete
   complete
 
-  $ ipld car --verify album.car && echo verified
+  $ ipld car missing --json part.car
+  {\"missing\":\"bafyreidl4puu5qgoyaxslyujtbdk5g7ps2j5jziwepjyktvekap6cpeeui\"}";
+
+const VERIFY: Description = Description {
+    name: "verify",
+    about: "Verify the digests and the index of a CAR.",
+    more: Some(VERIFY_MORE),
+    arguments: &[
+        ONE_CAR,
+        Argument {
+            name: "known",
+            help: "Ignore unsupported hash functions in the exit status.",
+            ..FLAG
+        },
+        JSON_LINES,
+        LIMIT,
+        PROGRESS,
+    ],
+};
+
+const VERIFY_MORE: &str = "\
+ipld lists the blocks whose digest is wrong or whose hash function is
+unsupported. Supported are SHA2-256, SHA2-512 and identity.
+
+The index of a CAR of version 2 is compared with the blocks, except for standard
+input and pipes. It must have an entry for every block, no entry twice, and no
+other entry.
+
+JSON objects:
+  a block   {\"cid\":..,\"offset\":..,\"error\":..}
+  an entry  {\"offset\":..,\"error\":..}
+
+The error of a block is WrongDigest, UnknownHash, whose object has \"hash\", or
+NotIndexed if the index has no entry for it. That of an entry of the index is
+WrongEntry or RepeatedEntry.
+
+Examples:
+  $ ipld car verify album.car && echo verified
   verified
 
-  $ ipld car --missing --json part.car
-  {\"missing\":\"bafyreidl4puu5qgoyaxslyujtbdk5g7ps2j5jziwepjyktvekap6cpeeui\"}";
+  $ cat album.car | ipld car verify - && echo verified
+  verified
+
+  $ ipld car index -o indexed.car album.car && ipld car verify indexed.car && echo verified
+  verified";
 
 const EXTRACT: Description = Description {
     name: "extract",
     about: "Write the blocks of these CIDs.",
     more: Some(EXTRACT_MORE),
     arguments: &[
+        ONE_CAR,
         Argument {
-            name: "file",
-            kind: Kind::Word("FILE"),
-            help: "A CAR.",
+            name: "cids",
+            kind: Kind::WordsUnless(&["CID"], "all"),
+            help: "CIDs of the blocks, or - for standard input with a CID on every line. Without -d, only one.",
             ..FLAG
         },
         Argument {
-            name: "cids",
-            kind: Kind::Words(&["CID"]),
-            help: "CIDs of the blocks. Without -d, only one.",
+            name: "all",
+            help: "With -d, write all blocks.",
+            needs: &["directory"],
+            excludes: &["cids"],
             ..FLAG
         },
         Argument {
@@ -408,65 +591,129 @@ CID, unless --unchecked is given. Supported hash functions are SHA2-256,
 SHA2-512 and identity.
 
 With -d, existing files are kept unless --force is given. A block is written to
-a temporary file in the same folder, which is renamed when it is complete.
+a temporary file in the same folder, which is renamed when it is complete. The
+folder is synced to the disk once, at the end.
 
-Unless --unchecked is given, the index of a CAR of version 2 is used, but not
-trusted. If it does not lead to a block with the CID, ipld searches the file.
+Unless --unchecked or --all is given, the index of a CAR of version 2 is used,
+but not trusted. If it does not lead to a block with the CID, ipld searches the
+file.
 
 Examples:
   $ ipld car extract album.car $(ipld cid photo.cbor) | ipld show - name
   \"photo\"
 
-  $ ipld car extract -d blocks album.car $(ipld links album.cbor)
+  $ ipld links album.cbor | ipld car extract -d blocks album.car -
   $ ls blocks
   bafyreidl4puu5qgoyaxslyujtbdk5g7ps2j5jziwepjyktvekap6cpeeui
+
+  $ mkdir all
+  $ ipld car extract -d all --all album.car && ls all | wc -l
+  2
 
   $ ipld car extract album.car $(ipld cid photo.cbor) | cmp - photo.cbor && echo same
   same";
 
-const CREATE: Description = Description {
+const FILTER: Description = Description {
+    name: "filter",
+    about: "Copy blocks and their descendants to a new CAR.",
+    more: Some(FILTER_MORE),
+    arguments: &[
+        ONE_CAR,
+        Argument {
+            name: "cids",
+            kind: Kind::Words(&["CID"]),
+            help: "CIDs of the blocks, or - for standard input with a CID on every line.",
+            ..FLAG
+        },
+        OUTPUT_CAR,
+        FORCE,
+        VERSION,
+        Argument {
+            name: "unchecked",
+            help: "Copy blocks without a check of their digest and content.",
+            ..FLAG
+        },
+        LIMIT,
+    ],
+};
+
+const FILTER_MORE: &str = "\
+The new CAR has these blocks and all blocks of the CAR that their links lead to,
+each once. The CIDs are its roots. If the CAR has no block of a CID, nothing is
+written. The output is written as 'ipld car create --help' describes it.
+
+Examples:
+  $ ipld car filter -o photo.car album.car $(ipld cid photo.cbor)
+  $ ipld car list photo.car
+  version 1
+  root bafyreidl4puu5qgoyaxslyujtbdk5g7ps2j5jziwepjyktvekap6cpeeui
+  bafyreidl4puu5qgoyaxslyujtbdk5g7ps2j5jziwepjyktvekap6cpeeui dag-cbor 19 bytes, 0 links
+
+  $ ipld car roots album.car | ipld car filter -o copy.car album.car -
+  $ ipld car missing copy.car && echo complete
+  complete
+
+  $ ipld links album.cbor | ipld car filter -o - album.car - | ipld car roots -
+  bafyreidl4puu5qgoyaxslyujtbdk5g7ps2j5jziwepjyktvekap6cpeeui";
+
+const INDEX: Description = Description {
+    name: "index",
+    about: "Copy a CAR to version 2, with an index.",
+    more: Some(INDEX_MORE),
+    arguments: &[ONE_CAR, OUTPUT_CAR, FORCE, LIMIT],
+};
+
+const INDEX_MORE: &str = "\
+The new CAR has the payload byte for byte, and an index of its blocks
+(MultihashIndexSorted). Digests are not verified. The output is written as
+'ipld car create --help' describes it.
+
+Examples:
+  $ ipld car index -o fast.car album.car
+  $ ipld car verify fast.car && echo verified
+  verified
+
+  $ ipld car list fast.car | head -n 1
+  version 2
+
+  $ ipld car index -o - album.car | ipld car roots -
+  bafyreidglldmsjx73lvndeob54rzgouut6j7sxzoxr4zatpbydx7btmfpa";
+
+/// The command that creates a CAR.
+pub(super) const CREATE: Description = Description {
     name: "create",
     about: "Create a CAR from blocks and other CARs.",
     more: Some(CREATE_MORE),
     arguments: &[
         Argument {
             name: "files",
-            kind: Kind::Words(&["FILE"]),
+            kind: Kind::WordsUnless(&["FILE"], "files-from"),
             help: "Blocks to include, and car:FILE for all blocks of a CAR.",
             ..FLAG
         },
         Argument {
-            name: "output",
-            short: Some('o'),
-            kind: Kind::Required("CAR"),
-            help: "File to create, or - for standard output.",
+            name: "files-from",
+            kind: Kind::Value("LIST"),
+            help: "Also include the files that LIST names, one on every line. - is standard input.",
             ..FLAG
         },
-        Argument {
-            name: "force",
-            help: "Replace the file if it exists.",
-            ..FLAG
-        },
+        OUTPUT_CAR,
+        FORCE,
         Argument {
             name: "root",
             kind: Kind::Repeated("CID"),
             help: "A root of the CAR. [default: the roots of CARs, and files that no other block links to]",
             ..FLAG
         },
+        VERSION,
         Argument {
-            name: "only",
-            kind: Kind::Repeated("CID"),
-            help: "Include only this block and its descendants (also a root, unless --root is given).",
+            name: "v0",
+            help: "Give blocks of DAG-PB CIDs of version 0.",
             ..FLAG
         },
         Argument {
             name: "unchecked",
             help: "Include the blocks of CARs without a check of their digest and content.",
-            ..FLAG
-        },
-        Argument {
-            name: "index",
-            help: "Create version 2, with an index (MultihashIndexSorted).",
             ..FLAG
         },
         Argument {
@@ -484,7 +731,7 @@ const CREATE_MORE: &str = "\
 FILE is a block of the codec that --codec names. CODEC:FILE is a block of that
 codec, e.g. dag-pb:FILE, and car:FILE is a CAR. To read a file whose name begins
 with such a prefix, write ./NAME. A block that occurs twice is written once.
---root and --only can be given several times.
+--root can be given several times.
 
 The roots are those of all CARs, in order, and the blocks of files that no other
 block links to. If there are no such roots, they are all blocks that no other
@@ -506,29 +753,30 @@ size of its header.
 
 Examples:
   $ ipld car create -o new.car album.cbor photo.cbor
-  $ ipld car new.car
-  version 1
-  root bafyreidglldmsjx73lvndeob54rzgouut6j7sxzoxr4zatpbydx7btmfpa
-  bafyreidglldmsjx73lvndeob54rzgouut6j7sxzoxr4zatpbydx7btmfpa dag-cbor 61 bytes, 1 links
-  bafyreidl4puu5qgoyaxslyujtbdk5g7ps2j5jziwepjyktvekap6cpeeui dag-cbor 19 bytes, 0 links
+  $ ipld car roots new.car
+  bafyreidglldmsjx73lvndeob54rzgouut6j7sxzoxr4zatpbydx7btmfpa
 
   $ ipld car create -o all.car car:album.car raw:notes.txt dag-pb:folder.pb
-  $ ipld car --missing all.car && echo complete
+  $ ipld car missing all.car && echo complete
   complete
 
-  $ ipld car create -o two.car --index photo.cbor
-  $ ipld car two.car
-  version 2
-  root bafyreidl4puu5qgoyaxslyujtbdk5g7ps2j5jziwepjyktvekap6cpeeui
-  bafyreidl4puu5qgoyaxslyujtbdk5g7ps2j5jziwepjyktvekap6cpeeui dag-cbor 19 bytes, 0 links
+  $ ls photo.cbor cat.cbor | ipld car create -o two.car --version 2 --files-from -
+  $ ipld car list two.car | wc -l
+  5
 
   $ ipld car create -o both.car --split 150 photo.cbor cat.cbor
   $ ls both-*
   both-0.car
   both-1.car";
 
-/// The commands that read or write the blocks of CARs.
-pub(super) const CAR_COMMANDS: &[Description] = &[EXTRACT, CREATE];
+/// The commands that list what a CAR has.
+pub(super) const CAR_LISTINGS: &[Description] = &[LIST, INSPECT, ROOTS, LINKS_OF_CAR, GRAPH];
+
+/// The commands that check CARs.
+pub(super) const CAR_CHECKS: &[Description] = &[MISSING, VERIFY];
+
+/// The commands that copy blocks of a CAR.
+pub(super) const CAR_COPIES: &[Description] = &[EXTRACT, FILTER, INDEX];
 
 /// The command that makes a block.
 pub(super) const ENCODE: Description = Description {
@@ -557,7 +805,7 @@ pub(super) const ENCODE: Description = Description {
         },
         Argument {
             name: "canonical",
-            help: "Require canonical DAG-JSON, without a line feed at the end.",
+            help: "Require canonical DAG-JSON. A line feed at the end is allowed.",
             ..FLAG
         },
         Argument {

@@ -4,8 +4,10 @@
 use crate::messages::explain::Explanation;
 use crate::messages::hint::Hint;
 use crate::messages::start::{ItemStart, item_start};
+use car_files::is_truncated;
 use ipld_block::{BlockCodec, CheckError, VerifyError, check};
 use ipld_car::{CarError, CarErrorKind};
+use ipld_cid::Cid;
 use ipld_show::value_at;
 use std::alloc::Global;
 use std::fmt;
@@ -23,11 +25,23 @@ pub fn beginning_of<R: BufRead>(alloc: Global, reader: &mut R) -> Vec<u8> {
 
 /// The reason why a block is not known to match its CID. Its `Display` is a sentence.
 #[derive(Clone, Copy)]
-pub struct DigestExplanation(pub VerifyError);
+pub struct DigestExplanation<'a> {
+    /// The CID.
+    pub cid: &'a Cid,
+    /// The error.
+    pub error: VerifyError,
+}
 
-impl fmt::Display for DigestExplanation {
+impl<'a> fmt::Display for DigestExplanation<'a> {
     fn fmt<W: fmt::Write>(&self, f: &mut fmt::Formatter<W>) -> fmt::Result {
-        match self.0 {
+        match self.error {
+            VerifyError::WrongDigest if is_truncated(self.cid) => {
+                let len = self.cid.hash().size();
+                write!(
+                    f,
+                    "the digest is truncated to {len} bytes, which is not supported (--unchecked takes the block as it is)"
+                )
+            }
             VerifyError::WrongDigest => f.write_str(
                 "the digest of the block is wrong (--unchecked takes the block as it is)",
             ),
