@@ -20,7 +20,8 @@ that is done without the word. Then it runs
                crates/*/must-fail. What an earlier run proved on this machine is kept beside the kit
     mutants    the prover has to reject each wrong body in crates/*/mutants
     programs   the programs `ipld` and `ipld_links` by all their words, each allocation failing in
-               turn, calls of `ipld!` that must not compile, and a repository made by ./use-in
+               turn, calls of `ipld!` that must not compile, a repository made by ./use-in, and the
+               man page and the completions of `ipld`
     bindings   the packages for C, Rust, Python and JavaScript
     bench      each row of the benchmark once
     readme     the commands of README.md in a bare root
@@ -327,6 +328,14 @@ def the_programs():
             [".ci/failed-allocations"],
             [".ci/no-compile"],
             [".ci/use-in"],
+            [".ci/manual", "--check"],
+            [
+                "python3",
+                "-m",
+                "unittest",
+                "tests.manual.test_page",
+                "tests.manual.test_completions",
+            ],
         )
     )
     return result
