@@ -103,18 +103,29 @@ static size_t at_most(uint64_t size) { return size > SSIZE_MAX ? SSIZE_MAX : (si
 
 /* ---- The process */
 
-/* Writes the argument of the program with this number, without a zero byte at the end. Returns its
- * length, or -1 if there is no such argument. If it is longer than `size` bytes, it writes as many
- * and returns -2. */
-uint64_t host_arg(uint64_t number, uint8_t *to, uint64_t size) {
+/* Writes a text, without a zero byte at the end. Returns its length, or -1 if there is no text. If it
+ * is longer than `size` bytes, it writes as many and returns -2. */
+static uint64_t copy_text(const char *text, uint8_t *to, uint64_t size) {
     size_t length;
-    if (number >= (uint64_t)word_count) return FAILED;
-    length = strlen(words_given[number]);
-    memcpy(to, words_given[number], length < size ? length : (size_t)size);
+    if (text == NULL) return FAILED;
+    length = strlen(text);
+    memcpy(to, text, length < size ? length : (size_t)size);
     return length <= size ? length : FAILED - 1;
 }
 
+/* Writes the argument of the program with this number, as `copy_text` does. */
+uint64_t host_arg(uint64_t number, uint8_t *to, uint64_t size) {
+    return copy_text(number < (uint64_t)word_count ? words_given[number] : NULL, to, size);
+}
+
+/* Writes a variable of the environment, as `copy_text` does. */
+uint64_t host_env(uint8_t *name, uint8_t *to, uint64_t size) {
+    return copy_text(getenv((const char *)name), to, size);
+}
+
 uint32_t host_getpid(void) { return (uint32_t)getpid(); }
+
+uint32_t host_isatty(uint32_t file) { return (uint32_t)isatty((int)file); }
 
 /* Sets SIGPIPE to be ignored. It fails for any other arguments, which no program uses. */
 uint64_t host_signal(uint32_t number, uint64_t handler) {

@@ -1,6 +1,6 @@
 """Runs python/examples/missing_blocks.py over random CAR files by two processes. Compares the
 result with the blocks of these files. If the program `ipld` is built, also compares it with that of
-`ipld car --missing` over the merged files.
+`ipld car missing --by-cid` over the merged files.
 
 usage: python missing_blocks.py FOLDER [FILES [BLOCKS [SEED]]]
 
@@ -252,7 +252,10 @@ def main():
             )
         )
         ran = subprocess.run(
-            [program, "car", "--missing", merged], capture_output=True, text=True, timeout=SECONDS
+            [program, "car", "missing", "--by-cid", merged],
+            capture_output=True,
+            text=True,
+            timeout=SECONDS,
         )
         assert sorted(ran.stdout.splitlines()) == expected, (ran.stdout, ran.stderr)
         assert ran.returncode == 1, ran

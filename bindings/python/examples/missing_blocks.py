@@ -1,7 +1,7 @@
 #!/usr/bin/env python3
 """Prints the CIDs of the blocks that many CAR files together lack, by workers on one machine or on
-several: the roots and links whose block is in none of the files. `ipld car --missing` does the same
-for one file.
+several: the roots and links whose block is in none of the files. `ipld car missing --by-cid` does
+the same on one machine, one file after the other.
 
 usage: missing_blocks.py [--workers N | --scheduler ADDRESS] [--parts N] [--report] FILE..
 
