@@ -2,6 +2,7 @@
 
 ghost use Rattle.std.specs.Prelude.{◌≡◌, ◌+◌, ◌<◌, ◌^◌, [], ◌∷◌, ◌++◌, if◌then◌else◌, length, IfOk, OnOk};
 ghost use Rattle.std.specs.Io.KnownBytes.{Keeps};
+ghost use Rattle.ipld_cid.specs.LinkOf.{link_of};
 ghost use Rattle.ipld_car.specs.Section.{content_of};
 ghost use Rattle.car_files.specs.Written.{section_len};
 ghost use Rattle.ipld_cli.specs.NewCar.{block_of, state_of, Puts};
@@ -81,7 +82,8 @@ impl<W: Write> CarSink<W> {
     /// bytes.
     #[tactic(auto, using(crate::proofs::NewCars::puts_block))]
     pub fn put(&mut self, block: &CheckedBlock<'_>) -> Result<(), OutputError>
-        ensures put { OnOk result (Puts self.old.has_index block.now.is_unchecked
+        ensures put { OnOk result
+            (Puts self.old.has_index block.now.is_unchecked (link_of block.now.cid.now ∷ [])
             (state_of W.contents self.old) (state_of W.contents self.new)) }
         ensures index { self.new.has_index ≡ self.old.has_index }
     {

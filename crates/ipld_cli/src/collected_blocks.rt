@@ -1,8 +1,9 @@
 //! The blocks of files and of CARs, gathered for a CAR. They are read twice: to check them and to
 //! find their links, and to write them.
 
-ghost use Rattle.std.specs.Prelude.{◌≡◌, OnOk};
-ghost use Rattle.ipld_cli.specs.NewCar.{state_of, Puts};
+ghost use Rattle.std.specs.Prelude.{◌≡◌, ◌≤◌, OnOk, option_map, option_to_list};
+ghost use Rattle.ipld_cid.specs.LinkOf.{link_of};
+ghost use Rattle.ipld_cli.specs.NewCar.{kept_cid, kept_cids, state_of, Puts};
 
 use crate::blocks::{bytes_of, place_in_file, sections_at};
 use crate::bytes::Bytes;
@@ -256,7 +257,9 @@ impl<'a> CollectedBlocks<'a> {
     }
 
     /// Returns the block of this number, if there is one and it is kept.
-    pub fn block(&self, number: usize) -> Option<NewBlock> {
+    pub fn block(&self, number: usize) -> Option<NewBlock>
+        ensures { option_map (λ block. link_of block.cid) result ≡ kept_cid self.now number }
+    {
         let place = self.blocks.get(number)?;
         let (cid, known) = self.known.get_index(place.known)?;
         if self.is_reduced && !known.is_reached {
@@ -521,15 +524,26 @@ pub struct BlockRange<'a, 'b> {
 impl<'a, 'b> BlockSource for BlockRange<'a, 'b> {
     ghost unchecked = { λ range. range.collected.now.options.is_unchecked };
 
-    #[tactic(auto, using(crate::proofs::NewCars::puts_none, crate::proofs::NewCars::puts_more))]
+    ghost cids = { λ range. kept_cids range.collected.now range.begin range.end };
+
+    #[tactic(auto, using(crate::proofs::NewCars::puts_empty, crate::proofs::NewCars::puts_range))]
     fn write_blocks<W: Write>(&self, sink: &mut CarSink<W>) -> Result<(), OutputError> {
+        let mut next = self.begin;
         for input in self.collected.inputs.iter() {
             let (begin, end) = (input.begin.max(self.begin), input.end.min(self.end));
             if begin < end {
+                if begin != next {
+                    return Err(OutputError::Changed);
+                }
                 self.write_input(input, begin, end, sink)?;
+                next = end;
             }
         }
-        Ok(())
+        if next == self.end {
+            Ok(())
+        } else {
+            Err(OutputError::Changed)
+        }
     }
 }
 
@@ -542,15 +556,20 @@ impl<'a, 'b> BlockRange<'a, 'b> {
         end: usize,
         sink: &mut CarSink<W>,
     ) -> Result<(), OutputError>
+        requires { begin ≤ end }
         ensures put { OnOk result
             (Puts sink.old.has_index self.now.collected.now.options.is_unchecked
+            (kept_cids self.now.collected.now begin end)
             (state_of W.contents sink.old) (state_of W.contents sink.new)) }
         ensures index { sink.new.has_index ≡ sink.old.has_index }
     {
         let rt = self.collected.rt;
         match (&input.bytes, input.source.codec()) {
-            (Some(Bytes::Memory(bytes)), Some(_)) => self.write_file(begin, bytes, sink),
-            (_, Some(_)) => self.write_file(begin, &read_file(rt, input.source.file())?, sink),
+            (Some(Bytes::Memory(bytes)), Some(_)) => self.write_file(bytes, begin, end, sink),
+            (_, Some(_)) => {
+                let bytes = read_file(rt, input.source.file())?;
+                self.write_file(&bytes, begin, end, sink)
+            }
             (Some(bytes), None) => self.write_sections(input, bytes, begin, end, sink),
             (None, None) => {
                 let bytes = bytes_of(rt, input.source.file())?;
@@ -559,20 +578,25 @@ impl<'a, 'b> BlockRange<'a, 'b> {
         }
     }
 
-    // Writes the block of a file.
-    #[tactic(auto, using(crate::proofs::NewCars::puts_none, crate::proofs::NewCars::puts_anyway))]
+    // Writes the block of a file, which is the only one from one number to another.
+    #[tactic(auto, using(crate::proofs::NewCars::puts_file, crate::proofs::NewCars::puts_no_file))]
     fn write_file<W: Write>(
         &self,
-        number: usize,
         bytes: &[u8],
+        begin: usize,
+        end: usize,
         sink: &mut CarSink<W>,
     ) -> Result<(), OutputError>
         ensures put { OnOk result
             (Puts sink.old.has_index self.now.collected.now.options.is_unchecked
+            (kept_cids self.now.collected.now begin end)
             (state_of W.contents sink.old) (state_of W.contents sink.new)) }
         ensures index { sink.new.has_index ≡ sink.old.has_index }
     {
-        let Some(block) = self.collected.block(number) else {
+        if begin.checked_add(1) != Some(end) {
+            return Err(OutputError::Changed);
+        }
+        let Some(block) = self.collected.block(begin) else {
             return Ok(());
         };
         match CheckedBlock::new(&block.cid, bytes, false) {
@@ -582,7 +606,7 @@ impl<'a, 'b> BlockRange<'a, 'b> {
     }
 
     // Writes the blocks of a CAR from one number to another.
-    #[tactic(auto, using(crate::proofs::NewCars::puts_none, crate::proofs::NewCars::puts_more))]
+    #[tactic(auto, using(crate::proofs::NewCars::puts_empty, crate::proofs::NewCars::puts_next))]
     fn write_sections<W: Write>(
         &self,
         input: &Input<'a>,
@@ -591,14 +615,16 @@ impl<'a, 'b> BlockRange<'a, 'b> {
         end: usize,
         sink: &mut CarSink<W>,
     ) -> Result<(), OutputError>
+        requires { begin ≤ end }
         ensures put { OnOk result
             (Puts sink.old.has_index self.now.collected.now.options.is_unchecked
+            (kept_cids self.now.collected.now begin end)
             (state_of W.contents sink.old) (state_of W.contents sink.new)) }
         ensures index { sink.new.has_index ≡ sink.old.has_index }
     {
         let (rt, options) = (self.collected.rt, self.collected.options);
         let Some(first) = self.collected.blocks.get(begin) else {
-            return Ok(());
+            return Err(OutputError::Changed);
         };
         let from = first.offset;
         let mut sections = match sections_at(rt, bytes, from, input.payload_end, options.limit) {
@@ -608,12 +634,12 @@ impl<'a, 'b> BlockRange<'a, 'b> {
         let mut section = Section::new(rt.alloc());
         let mut number = begin;
         for _ in 0..MOST_SECTIONS {
-            let Some(place) = self.collected.blocks.get(number) else {
-                return Ok(());
-            };
-            if number >= end {
+            if number == end {
                 return Ok(());
             }
+            let Some(place) = self.collected.blocks.get(number) else {
+                return Err(OutputError::Changed);
+            };
             let offset = place_in_file(from, sections.offset());
             match sections.read_section(&mut section) {
                 Ok(true) => {}
@@ -622,14 +648,14 @@ impl<'a, 'b> BlockRange<'a, 'b> {
             }
             if offset == place.offset {
                 self.write_section(number, &section, sink)?;
-                number = number.saturating_add(1);
+                number += 1;
             }
         }
         Err(OutputError::Changed)
     }
 
     // Writes the block of this number, which is the one of this section, if it is kept.
-    #[tactic(auto, using(crate::proofs::NewCars::puts_none))]
+    #[tactic(auto, using(crate::proofs::NewCars::puts_kept, crate::proofs::NewCars::puts_left_out,))]
     fn write_section<W: Write>(
         &self,
         number: usize,
@@ -638,6 +664,7 @@ impl<'a, 'b> BlockRange<'a, 'b> {
     ) -> Result<(), OutputError>
         ensures put { OnOk result
             (Puts sink.old.has_index self.now.collected.now.options.is_unchecked
+            (option_to_list (kept_cid self.now.collected.now number))
             (state_of W.contents sink.old) (state_of W.contents sink.new)) }
         ensures index { sink.new.has_index ≡ sink.old.has_index }
     {
@@ -648,7 +675,7 @@ impl<'a, 'b> BlockRange<'a, 'b> {
             return Err(OutputError::Changed);
         }
         let is_unchecked = self.collected.options.is_unchecked;
-        match CheckedBlock::new(section.cid(), section.data(), is_unchecked) {
+        match CheckedBlock::new(&block.cid, section.data(), is_unchecked) {
             Ok(block) => sink.put(&block),
             Err(_) => Err(OutputError::Changed),
         }

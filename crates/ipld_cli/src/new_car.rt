@@ -1,9 +1,10 @@
 //! A CAR that is to be written.
 
-ghost use Rattle.std.specs.Prelude.{◌≡◌, ◌+◌, ◌<◌, ◌^◌, Bool, length, map, IfOk, OnOk};
+ghost use Rattle.std.specs.Prelude.{◌≡◌, ◌+◌, ◌<◌, ◌^◌, Bool, List, length, map, IfOk, OnOk};
 ghost use Rattle.ipld_cid.specs.Bytes.{bytes_of};
 ghost use Rattle.ipld_cid.specs.LinkOf.{link_of};
-ghost use Rattle.ipld_cli.specs.NewCar.{IsHeaderLen, state_of, Puts, WritesPayload, WritesTaken, WritesTakenIndexed};
+ghost use Rattle.ipld_cid.specs.Cid.{Link};
+ghost use Rattle.ipld_cli.specs.NewCar.{IsHeaderLen, new_blocks, state_of, Puts, WritesNew, WritesNewIndexed, WritesPayload};
 ghost use Rattle.ipld_cid.specs.Varint.{varint_of};
 
 use crate::car_sink::CarSink;
@@ -71,9 +72,13 @@ pub trait BlockSource {
     // Whether blocks are written as they are, even if their digest is not that of the CID.
     ghost unchecked: { Self → Bool };
 
-    /// Writes the blocks in their order.
+    // The CIDs of the blocks, in their order.
+    ghost cids: { Self → List Link };
+
+    /// Writes the blocks in their order, each once.
     fn write_blocks<W: Write>(&self, sink: &mut CarSink<W>) -> Result<(), OutputError>
-        ensures put { OnOk result (Puts sink.old.has_index (unchecked self.now)
+        ensures put { OnOk result
+            (Puts sink.old.has_index (unchecked self.now) (cids self.now)
             (state_of W.contents sink.old) (state_of W.contents sink.new)) };
 }
 
@@ -105,7 +110,8 @@ impl<'a, B: BlockSource> NewCar<'a, B> {
         has_index: bool,
     ) -> Result<CarSink<W>, OutputError>
         ensures { IfOk result (λ sink.
-            WritesPayload has_index (B.unchecked self.now.blocks) begin self.now.size
+            WritesPayload has_index
+            (new_blocks B.cids B.unchecked self.now) begin
             (W.contents writer) (map link_of self.now.roots.now)
             (state_of W.contents sink)) }
     {
@@ -121,7 +127,7 @@ impl<'a, B: BlockSource> NewCar<'a, B> {
     // Writes a CAR of version 1.
     #[tactic(auto, using(crate::proofs::NewCars::car_written))]
     fn write_plain<W: Write + Drop>(&self, writer: W) -> Result<W, OutputError>
-        ensures { IfOk result (λ to. WritesTaken (B.unchecked self.now.blocks) self.now.size
+        ensures { IfOk result (λ to. WritesNew (new_blocks B.cids B.unchecked self.now)
             (W.contents writer) (W.contents to) (map link_of self.now.roots.now)) }
     {
         let (writer, _) = self.write_payload(writer, 0, false)?.finish()?;
@@ -132,8 +138,7 @@ impl<'a, B: BlockSource> NewCar<'a, B> {
     // digest has no row in an index.
     #[tactic(auto, using(crate::proofs::NewCars::indexed_written))]
     fn write_indexed<W: Write + Drop>(&self, writer: W) -> Result<W, OutputError>
-        ensures { IfOk result (λ to.
-            WritesTakenIndexed (B.unchecked self.now.blocks) self.now.size
+        ensures { IfOk result (λ to. WritesNewIndexed (new_blocks B.cids B.unchecked self.now)
             (W.contents writer) (W.contents to) (map link_of self.now.roots.now)) }
     {
         let begin = header_len(self.alloc, self.roots)?;
