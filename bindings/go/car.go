@@ -15,7 +15,7 @@ type CarOptions struct {
 	// 32 MiB. A negative number doesn't allow any section.
 	MaxSection int
 	// Verify makes Next fail if a block doesn't match its CID, or if the hash function is not
-	// SHA2-256, SHA2-512 or identity.
+	// SHA2-256, SHA2-512, BLAKE2b-256 or identity.
 	Verify bool
 }
 

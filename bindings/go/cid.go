@@ -138,7 +138,8 @@ func (c Cid) GoString() string {
 // Verify checks that a block is the one that the CID identifies.
 //
 // It fails with ErrWrongDigest if the block has another digest. It fails with ErrUnknownHash if the
-// hash function is not SHA2-256, SHA2-512 or identity, and with ErrCidEnd if the CID is undefined.
+// hash function is not SHA2-256, SHA2-512, BLAKE2b-256 or identity, and with ErrCidEnd if the CID is
+// undefined.
 func (c Cid) Verify(block []byte) error {
 	if status := callVerify(c.bytes, block); status != 0 {
 		return failed(outcome{status: status, offset: -1})

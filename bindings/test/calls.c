@@ -83,6 +83,7 @@ static bool is_all(const uint8_t *at, size_t len, uint8_t byte) {
 
 #define DIGEST "c19a797fa1fd590cd2e5b42d1cf5f246e29b91684e2f87404b81dc345c7a56a0"
 #define EMPTY_DIGEST "e3b0c44298fc1c149afbf4c8996fb92427ae41e4649b934ca495991b7852b855"
+#define EMPTY_BLAKE2B "0e5751c026e543b2e8ab2eb06099daa1d1e5df47778f7787faab45cdf12fe3a8"
 #define EMPTY_SHA2_512                                                                             \
     "cf83e1357eefb8bdf1542850d66d8007d620e4050b5715dc83f4a921d36ce9ce47d0d13c5d85f2b0ff8318d2877e" \
     "ec2f63b931bd47417a81a538327af927da3e"
@@ -1152,6 +1153,8 @@ static const struct {
     {"01551340" EMPTY_SHA2_512, "", KOMBILAD_OK},
     {"01551340" EMPTY_SHA2_512, "00", KOMBILAD_WRONG_DIGEST},
     {"0155130168", "68", KOMBILAD_WRONG_DIGEST},
+    {"0155a0e40220" EMPTY_BLAKE2B, "", KOMBILAD_OK},
+    {"0155a0e40220" EMPTY_BLAKE2B, "00", KOMBILAD_WRONG_DIGEST},
     {"0155110168", "68", KOMBILAD_UNKNOWN_HASH},
     {"0155121f"
      "e3b0c44298fc1c149afbf4c8996fb92427ae41e4649b934ca495991b7852b8",

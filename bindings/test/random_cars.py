@@ -234,6 +234,7 @@ def compare_digest(source):
             (0x12, hashlib.sha256(block).digest()),
             (0, block),
             (0x13, hashlib.sha512(block).digest()),
+            (0xB220, hashlib.blake2b(block, digest_size=32).digest()),
             (0x11, hashlib.sha1(block).digest()),
         ]
     )

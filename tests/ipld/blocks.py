@@ -7,6 +7,7 @@ block is in no file.
 import json
 
 from .formats import (
+    BLAKE2B_256,
     DAG_CBOR,
     DAG_JSON,
     DAG_PB,
@@ -22,7 +23,9 @@ from .formats import (
     cbor,
     cid_of,
     cid_v0,
+    cid_with,
     dag_cbor,
+    digest_by,
     pb,
     pb_link,
     raw,
@@ -125,9 +128,13 @@ CARRIER = dag_cbor([LEAF.cid, INLINE_CBOR.cid, LOST.cid, INLINE_PB.cid, PART.cid
 CARRIER_ROOTS = [INLINE_PB.cid, CARRIER.cid]
 CARRIER_BLOCKS = [PART, CARRIER, CUT_CBOR, LEAF]
 
-# Blocks by SHA1, which the program doesn't compute, by SHA2-512, and by the identity function.
+# Blocks by SHA1, which the program doesn't compute, by SHA2-512, by BLAKE2b-256, and by the identity
+# function.
 FAR = block(RAW, b"far", SHA1)
 LONG = block(RAW, b"long", SHA2_512)
+CHAIN = block(RAW, b"chain", BLAKE2B_256)
+# A block whose CID has only the first bytes of its digest.
+CUT_CHAIN = Block(cid_with(RAW, BLAKE2B_256, digest_by(BLAKE2B_256, b"chain")[:20]), b"chain")
 NEAR = block(RAW, b"near", IDENTITY)
 
 # A graph of blocks of several codecs, for paths.

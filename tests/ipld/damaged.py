@@ -5,7 +5,7 @@ import pathlib
 import re
 
 from .blocks import INLINE, LEAF, LOST, TOP
-from .formats import IDENTITY, SHA2_256, SHA2_512, Cid, digest_by, hash_of
+from .formats import BLAKE2B_256, IDENTITY, SHA2_256, SHA2_512, Cid, digest_by, hash_of
 
 CARS = pathlib.Path(__file__).resolve().parents[2] / "crates" / "test_rows" / "cars.py"
 # The limit of a section and a header without --limit.
@@ -30,7 +30,7 @@ HEADER_ERRORS = {
 HEADER_FRONT = b"\xa2\x65roots\x81\xd8\x2a\x58\x25\0"
 HEADER_END = b"\x67version\x01"
 CID_SIZE = 36
-COMPUTED = (IDENTITY, SHA2_256, SHA2_512)
+COMPUTED = (IDENTITY, SHA2_256, SHA2_512, BLAKE2B_256)
 # The links of the blocks of CAR, and of the CIDs that contain a block.
 LINKS = {TOP.cid: [LEAF.cid, LOST.cid, INLINE.cid], INLINE.cid: [LOST.cid]}
 

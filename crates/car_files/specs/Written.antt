@@ -167,9 +167,10 @@ begun_text form car = front_text form (version_number car.version) (map link_of 
 
 -- ---- the blocks that don't match their CIDs
 
--- the number of bytes of a digest of SHA2-256 or SHA2-512, and 0 for other hash functions
+-- the number of bytes of a digest of SHA2-256, SHA2-512 or BLAKE2b-256, and 0 for other hash
+-- functions
 abbrev pub digest_len : ℕ → ℕ
-digest_len code = if code == 0x12 then 32 else if code == 0x13 then 64 else 0
+digest_len code = if code == 0x12 then 32 else if code == 0x13 then 64 else if code == 0xb220 then 32 else 0
 
 -- whether the CID has only the first bytes of a digest
 abbrev pub is_truncated : Link → Bool

@@ -10,14 +10,11 @@ ghost use Rattle.car_files.specs.Written.{complaint, complaint_members, is_trunc
 
 use crate::error::CarFileError;
 use crate::reading::read_next;
-use ipld_block::{VerifyError, verify, write_cid};
+use ipld_block::{BLAKE2B_256, SHA2_512, VerifyError, verify, write_cid};
 use ipld_car::{CarReader, Section};
 use ipld_cid::{Cid, SHA2_256};
 use std::alloc::Global;
 use std::io::{BufRead, Write};
-
-// The code of SHA2-512 in the multicodec table.
-const SHA2_512: u64 = 0x13;
 
 /// The counts of the blocks of a CAR by their digests.
 #[derive(Clone, Copy, Debug, PartialEq, Eq)]
@@ -62,18 +59,16 @@ fn write_reason_members<W: Write>(error: VerifyError, writer: &mut W) -> Result<
     }
 }
 
-/// Returns whether the CID has only the first bytes of a digest of SHA2-256 or SHA2-512. Such a
-/// digest is not that of the block. Does not allocate.
+/// Returns whether the CID has only the first bytes of a digest of SHA2-256, SHA2-512 or
+/// BLAKE2b-256. Such a digest is not that of the block. Does not allocate.
 pub fn is_truncated(cid: &Cid) -> bool
     ensures { result ≡ is_truncated (link_of cid.now) }
 {
     let hash = cid.hash();
-    let len = if hash.code() == SHA2_256 {
-        32
-    } else if hash.code() == SHA2_512 {
-        64
-    } else {
-        0
+    let len = match hash.code() {
+        SHA2_256 | BLAKE2B_256 => 32,
+        SHA2_512 => 64,
+        _ => 0,
     };
     hash.size() < len
 }

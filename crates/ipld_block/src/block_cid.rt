@@ -7,12 +7,16 @@ ghost use Rattle.ipld_block.specs.Digest.{digest_by, IsVerifyError};
 
 mod error;
 
+use blake2b::Blake2b256;
 pub use error::VerifyError;
 use ipld_cid::{Cid, IDENTITY, Multihash, SHA2_256, Version};
 use sha2::{Digest, Sha256, Sha512};
 
-// The code of SHA2-512 in the multicodec table.
-const SHA2_512: u64 = 0x13;
+/// The code of SHA2-512 in the multicodec table.
+pub const SHA2_512: u64 = 0x13;
+
+/// The code of BLAKE2b-256 in the multicodec table.
+pub const BLAKE2B_256: u64 = 0xb220;
 
 /// Returns the CID of a block in this codec. It has version 1 and the block's SHA2-256 digest. Does
 /// not allocate.
@@ -39,8 +43,8 @@ pub fn cid_of(codec: u64, block: &[u8]) -> Cid
 /// Checks that a block is the one that a CID names: its digest, by the hash function of the CID,
 /// equals that of the CID. Does not allocate.
 ///
-/// The known hash functions are SHA2-256, SHA2-512, and identity, whose digest is the block itself.
-/// The digest has to be complete: a truncated digest differs.
+/// The known hash functions are SHA2-256, SHA2-512, BLAKE2b-256, and identity, whose digest is the
+/// block itself. The digest has to be complete: a truncated digest differs.
 ///
 /// # Errors
 ///
@@ -56,6 +60,7 @@ pub fn verify(cid: &Cid, block: &[u8]) -> Result<(), VerifyError>
     match hash.code() {
         SHA2_256 => compare_digests(&Sha256::digest(block), hash.digest()),
         SHA2_512 => compare_digests(&Sha512::digest(block), hash.digest()),
+        BLAKE2B_256 => compare_digests(&Blake2b256::digest(block), hash.digest()),
         IDENTITY => compare_digests(block, hash.digest()),
         code => Err(VerifyError::UnknownHash(code)),
     }

@@ -24,7 +24,7 @@ mod codec;
 mod error;
 mod text;
 
-pub use block_cid::{VerifyError, cid_of, verify};
+pub use block_cid::{BLAKE2B_256, SHA2_512, VerifyError, cid_of, verify};
 pub use blocks::{check, check_canonical, links_of};
 pub use codec::{BlockCodec, codec_name, hash_name};
 pub use error::{CheckError, InvalidBlock};

@@ -81,7 +81,7 @@ car_sentence n =
 -- The sentences of the statuses from 112 on: a block that is not known to be that of a CID
 abbrev pub digest_sentence : ℕ → Option (List ℕ)
 digest_sentence n =
-    if n == 0 then Some (codes "the hash function of the CID is not SHA2-256, SHA2-512 or identity")
+    if n == 0 then Some (codes "the hash function of the CID is not SHA2-256, SHA2-512, BLAKE2b-256 or identity")
     else if n == 1 then Some (codes "the digest of the block is not that of the CID")
     else None
 

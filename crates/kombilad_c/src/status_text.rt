@@ -121,7 +121,7 @@ fn digest_text(number: u32) -> Option<&'static str>
     ensures { option_map (λ text. text.now) result ≡ digest_sentence number }
 {
     let text = match number {
-        0 => "the hash function of the CID is not SHA2-256, SHA2-512 or identity",
+        0 => "the hash function of the CID is not SHA2-256, SHA2-512, BLAKE2b-256 or identity",
         1 => "the digest of the block is not that of the CID",
         _ => return None,
     };

@@ -1,15 +1,18 @@
 """Rows of `ipld car --verify`."""
 
-from ..blocks import CAR, FAR, LEAF, LONG, PART
+from ..blocks import CAR, CHAIN, CUT_CHAIN, FAR, LEAF, LONG, PART
 from ..formats import car
 from . import CHECK_FAILED, DONE, Row, cut_payload, fails, json_lines, lines
 
 OTHER_DIGEST = "the block has another digest"
+CUT_DIGEST = "the digest is truncated to 20 bytes, which is not supported"
 NOT_COMPUTED = "the hash function 0x11 is not computed here"
-# The offsets of blocks in `wrong.car`, `far.car` and `not_sha512.car`.
+# The offsets of blocks in CARs below.
 TRAP_AT = len(car([], [LEAF]))
 FAR_AT = len(car([FAR.cid], []))
 LONG_AT = len(car([LONG.cid], []))
+CHAIN_AT = len(car([CHAIN.cid], []))
+CUT_CHAIN_AT = len(car([CUT_CHAIN.cid], []))
 
 
 def reports(command, *found, status=CHECK_FAILED):
@@ -22,12 +25,15 @@ VALID = [
     Row("car verify empty.car"),
     Row("car verify node.car"),
     Row("car verify sha512.car"),
+    Row("car verify blake2b.car"),
 ]
 
 WRONG = [
     reports("car verify wrong.car", f"{PART.cid} at byte {TRAP_AT}: {OTHER_DIGEST}"),
     reports("car verify --known wrong.car", f"{PART.cid} at byte {TRAP_AT}: {OTHER_DIGEST}"),
     reports("car verify not_sha512.car", f"{LONG.cid} at byte {LONG_AT}: {OTHER_DIGEST}"),
+    reports("car verify not_blake2b.car", f"{CHAIN.cid} at byte {CHAIN_AT}: {OTHER_DIGEST}"),
+    reports("car verify cut_blake2b.car", f"{CUT_CHAIN.cid} at byte {CUT_CHAIN_AT}: {CUT_DIGEST}"),
     reports("car verify far.car", f"{FAR.cid} at byte {FAR_AT}: {NOT_COMPUTED}"),
     reports(
         "car verify --known far.car", f"{FAR.cid} at byte {FAR_AT}: {NOT_COMPUTED}", status=DONE

@@ -52,9 +52,10 @@ def decode_car(
 
     A block of DAG-CBOR is decoded, within the limits `levels` and `values`. A block of another
     codec is returned as bytes. With `verify`, a block whose digest isn't that of its CID raises
-    `VerifyError`, as does one whose hash function is not SHA2-256, SHA2-512 or identity. `cids` is
-    the class of CIDs, as in `decode_dag_cbor`. If two blocks have the same CID, the later one is
-    returned. All values are in memory at once. `CarReader` keeps only one block in memory.
+    `VerifyError`, as does one whose hash function is not SHA2-256, SHA2-512, BLAKE2b-256 or
+    identity. `cids` is the class of CIDs, as in `decode_dag_cbor`. If two blocks have the same CID,
+    the later one is returned. All values are in memory at once. `CarReader` keeps only one block in
+    memory.
 
     >>> car = bytes.fromhex("19a265726f6f747381d82a4500015500006776657273696f6e01 0401550000 050171000001")
     >>> decode_car(car)
@@ -72,7 +73,8 @@ def decode_car(
 
 def verify(cid: Cid, block: BytesLike) -> None:
     """Raises `VerifyError` unless the block has the digest of the CID: `WRONG_DIGEST` if it has
-    another, and `UNKNOWN_HASH` if the hash function is not SHA2-256, SHA2-512 or identity.
+    another, and `UNKNOWN_HASH` if the hash function is not SHA2-256, SHA2-512, BLAKE2b-256 or
+    identity.
 
     >>> verify(Cid.of_block(b"\\xa0"), b"\\xa0")
     >>> verify(Cid.of_block(b"\\xa0"), b"\\x80")

@@ -73,8 +73,8 @@ class CarError(KombiladError):
 
 
 class VerifyError(KombiladError):
-    """A block doesn't have the digest of its CID, or the hash function is not SHA2-256, SHA2-512 or
-    identity. In a CAR `offset` is the first byte of the block, if it is known."""
+    """A block doesn't have the digest of its CID, or the hash function is not SHA2-256, SHA2-512,
+    BLAKE2b-256 or identity. In a CAR `offset` is the first byte of the block, if it is known."""
 
 
 _NOT_ENCODED = {

@@ -175,7 +175,7 @@ pub const KOMBILAD_CAR_NOT_A_HEADER: u32 = 102;
 pub const KOMBILAD_CAR_PAYLOAD: u32 = 103;
 /// The bytes end before the payload of version 2 does.
 pub const KOMBILAD_CAR_SHORT_PAYLOAD: u32 = 104;
-/// The hash function of the CID is not SHA2-256, SHA2-512 or identity.
+/// The hash function of the CID is not SHA2-256, SHA2-512, BLAKE2b-256 or identity.
 pub const KOMBILAD_UNKNOWN_HASH: u32 = 112;
 /// The block has another digest.
 pub const KOMBILAD_WRONG_DIGEST: u32 = 113;

@@ -73,7 +73,7 @@ impl Cid {
     /// # Errors
     ///
     /// [`Error::WrongDigest`] if it has another digest, and [`Error::UnknownHash`] if the hash
-    /// function is not SHA2-256, SHA2-512 or identity.
+    /// function is not SHA2-256, SHA2-512, BLAKE2b-256 or identity.
     pub fn verify(&self, block: &[u8]) -> Result<(), Error> {
         ffi::verify(self.as_bytes(), block).map_err(Error::of_digest)
     }

@@ -200,8 +200,8 @@ pub enum Error {
         /// The byte of the block at which the map begins.
         offset: usize,
     },
-    /// The hash function of the CID is not SHA2-256, SHA2-512 or identity, so a block can't be
-    /// verified.
+    /// The hash function of the CID is not SHA2-256, SHA2-512, BLAKE2b-256 or identity, so a block
+    /// can't be verified.
     UnknownHash,
     /// The block has another digest than the CID.
     WrongDigest,

@@ -275,7 +275,7 @@ pub(super) const CAR: Description = Description {
 
 const CAR_MORE: &str = "\
 A CAR is a file that contains blocks and their CIDs. Both versions are read.
-Digests are verified with SHA2-256, SHA2-512 and identity.
+Digests are verified with SHA2-256, SHA2-512, BLAKE2b-256 and identity.
 
 Examples:
   $ ipld car list album.car
@@ -520,7 +520,7 @@ const VERIFY: Description = Description {
 
 const VERIFY_MORE: &str = "\
 ipld lists the blocks whose digest is wrong or whose hash function is
-unsupported. Supported are SHA2-256, SHA2-512 and identity.
+unsupported. Supported are SHA2-256, SHA2-512, BLAKE2b-256 and identity.
 
 The index of a CAR of version 2 is compared with the blocks, except for standard
 input and pipes. It must have an entry for every block, no entry twice, and no
@@ -588,7 +588,7 @@ const EXTRACT: Description = Description {
 const EXTRACT_MORE: &str = "\
 Without -d, the block is written to standard output. Its digest must match the
 CID, unless --unchecked is given. Supported hash functions are SHA2-256,
-SHA2-512 and identity.
+SHA2-512, BLAKE2b-256 and identity.
 
 With -d, existing files are kept unless --force is given. A block is written to
 a temporary file in the same folder, which is renamed when it is complete. The

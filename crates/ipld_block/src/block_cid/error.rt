@@ -7,8 +7,8 @@ use std::{error, fmt};
 /// is a sentence.
 #[derive(Clone, Copy, Debug, PartialEq, Eq)]
 pub enum VerifyError {
-    /// The hash function has this code in the multicodec table. It is not SHA2-256, SHA2-512 or
-    /// identity.
+    /// The hash function has this code in the multicodec table. It is not SHA2-256, SHA2-512,
+    /// BLAKE2b-256 or identity.
     UnknownHash(u64),
     /// The digest of the block differs from that of the identifier.
     WrongDigest,
