@@ -2,12 +2,13 @@
 
 import re
 
-from ..blocks import FAR, LONG, LOST, NEAR, PART
+from ..blocks import CHAIN, FAR, LONG, LOST, NEAR, PART
 from . import ERROR, NO_BLOCK, UNKNOWN_HASH, WRONG_DIGEST, Row, fails
 
 EXTRACTED = [
     Row(f"car extract a.car {PART.cid}", "part"),
     Row(f"car extract sha512.car {LONG.cid}", "long"),
+    Row(f"car extract blake2b.car {CHAIN.cid}", "chain"),
     Row(f"car extract far.car {NEAR.cid}", "near"),
 ]
 
