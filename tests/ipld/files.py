@@ -57,6 +57,7 @@ from .formats import (
     entries_of,
     index_of,
     pb,
+    sorted_index_of,
     varint,
 )
 from .invalid import CUT_JSON, INVALID_CARS, INVALID_CBOR, INVALID_JSON_BLOCKS, NOT_ENCODED
@@ -177,7 +178,7 @@ CARS_V2 = {
 
 ENTRIES = entries_of(HASHED, [PART.cid])
 INDEX = index_of(ENTRIES)
-INDEX_OLD_FORMAT, INDEX_OTHER_FORMAT = 0x0400, 0x4401
+INDEX_OTHER_FORMAT = 0x4401
 
 
 def hashed(entries=None, full=True, index=None):
@@ -207,8 +208,17 @@ CARS_WITH_INDEX = {
     "nothing_full.car": car_indexed(
         [NOTHING.cid], [NOTHING, PART], entries_of([NOTHING, PART], [NOTHING.cid])[1:]
     ),
+    # The same in the format IndexSorted.
+    **{
+        f"sorted_{name}.car": hashed(index=sorted_index_of(entries))
+        for name, entries in [
+            ("all", ENTRIES),
+            ("lack", [it for it in ENTRIES if it[0] != SHA2_512]),
+            ("wrong", [(it, digest, at + (it == SHA2_512)) for it, digest, at in ENTRIES]),
+            ("other", [(it, digest, ENTRIES[0][2]) for it, digest, _ in ENTRIES]),
+        ]
+    },
     # Indexes that are not valid.
-    "index_old.car": hashed(index=varint(INDEX_OLD_FORMAT) + INDEX[2:]),
     "index_long.car": hashed(index=b"\x81\x88\x00" + INDEX[2:]),
     "index_other.car": hashed(index=varint(INDEX_OTHER_FORMAT) + INDEX[2:]),
     "index_large.car": hashed(index=varint(2**64) + bytes(4)),

@@ -25,5 +25,5 @@ in_capitals = false
 -- the sentence that `{}` prints, also for another format, with its code in hexadecimal digits, or
 -- nothing for an error of a reader
 abbrev pub sentence_of : IndexError → Option (List ℕ)
-sentence_of (Format code) = Some (codes "unsupported format of the index: expected 0x401, found 0x" ++ digits 16 in_capitals code)
+sentence_of (Format code) = Some (codes "unsupported format of the index: expected 0x400 or 0x401, found 0x" ++ digits 16 in_capitals code)
 sentence_of error = styled_sentence error

@@ -1,11 +1,10 @@
--- The first error of bytes that are not an index of MultihashIndexSorted with sorted entries, in
--- the order of the bytes. The bytes before it begin such an index. Bytes that end too early have
+-- The first error of bytes that are not an index with sorted entries, in the order of the bytes. The bytes before it begin such an index. Bytes that end too early have
 -- the error of an unexpected end, whatever could follow them.
 use Rattle.std.specs.Prelude.{◌≡◌, ◌≢◌, ◌≤◌, ◌<◌, ◌+◌, ◌*◌, ◌^◌, ℕ, List, [], ◌∷◌, ◌++◌, length, IfSome, Option}
 use Rattle.ipld_cid.specs.Varint.{IsVarint}
 use Rattle.ipld_cid.specs.declared.error.CidError.TheVariants.{NotShortest as VarintNotShortest, VarintTooLarge}
-use Rattle.ipld_car.specs.Index.{row, format_code}
-use Rattle.ipld_car.specs.IndexLayout.{IsOf, IsBucket, IsHash, Parts}
+use Rattle.ipld_car.specs.Index.{row, format_code, format_number}
+use Rattle.ipld_car.specs.IndexLayout.{IsOf, IsBucket, IsHash, IsPart, Parts}
 use Rattle.ipld_car.specs.IndexNumbers.{le32, le64}
 use Rattle.ipld_car.specs.IndexOrder.{AreSorted}
 use Rattle.ipld_car.specs.IndexReading.{AreInOrder, AreRows}
@@ -13,6 +12,8 @@ use Rattle.ipld_car.specs.Lengths.{BeginsVarint, IsNoVarint}
 use Rattle.ipld_car.specs.Taking.{IsReadError}
 use Rattle.ipld_car.specs.declared.index.entry.IndexEntry.{IndexEntry}
 use Rattle.ipld_car.specs.declared.index.error.IndexError.{IndexError}
+use Rattle.ipld_car.specs.declared.index.format.IndexFormat.{IndexFormat}
+use Rattle.ipld_car.specs.declared.index.format.IndexFormat.TheVariants.{IndexSorted, MultihashIndexSorted}
 use Rattle.ipld_car.specs.declared.index.error.IndexError.TheVariants.{Memory, Read, UnexpectedEnd, FormatNotShortest, FormatTooLarge, Format, Width, Length, NotSorted}
 
 -- True if the error is a failed allocation, or an error of the reader that fits `IsReadError`. The
@@ -79,20 +80,24 @@ pub data WrongHash (before : List IndexEntry) : List ℕ → IndexError → Type
   wrong_bucket : (code count : ℕ) (rest : List ℕ) (error : IndexError) → code < 2 ^ 64 → count < 2 ^ 32
       → FirstWrong (Parts (IsBucket code)) (WrongBucket code) count before rest error → WrongHash before (le64 code ++ (le32 count ++ rest)) error
 
+-- True if `error` is the first error of a part of an index in this format.
+abbrev pub WrongPart : IndexFormat → List IndexEntry → List ℕ → IndexError → Type 0
+WrongPart IndexSorted = WrongBucket 0
+WrongPart MultihashIndexSorted = WrongHash
+
 -- True if `error` is the first error of the code of the format. The bytes end within its varint,
--- the varint is not in its shortest form or encodes 2^64 or more, or the code is that of another
--- format.
+-- the varint is not in its shortest form or encodes 2^64 or more, or the code is not that of a
+-- format that is read.
 pub data WrongFormat : List ℕ → IndexError → Type 0 where
   format_ends : (bytes : List ℕ) → BeginsVarint bytes → WrongFormat bytes UnexpectedEnd
   format_not_shortest : (bytes rest : List ℕ) → IsNoVarint bytes VarintNotShortest → WrongFormat (bytes ++ rest) FormatNotShortest
   format_too_large : (bytes rest : List ℕ) → IsNoVarint bytes VarintTooLarge → WrongFormat (bytes ++ rest) FormatTooLarge
-  other_format : (code : ℕ) (bytes rest : List ℕ) → IsVarint code bytes → code ≢ 0x0401 → WrongFormat (bytes ++ rest) (Format code)
+  other_format : (code : ℕ) (bytes rest : List ℕ) → IsVarint code bytes → ((format : IndexFormat) → code ≢ format_number format) → WrongFormat (bytes ++ rest) (Format code)
 
 -- True if `error` is the first error of bytes that are not an index with sorted entries. The code
--- of the format is invalid, the bytes end within the number of hash functions, or the rows of a
--- hash function are invalid.
+-- of the format is invalid, the bytes end within the number of parts, or a part is invalid.
 pub data WrongIndex : List ℕ → IndexError → Type 0 where
   wrong_format : (bytes : List ℕ) (error : IndexError) → WrongFormat bytes error → WrongIndex bytes error
-  count_ends : (rest : List ℕ) → length rest < 4 → WrongIndex (format_code ++ rest) UnexpectedEnd
-  wrong_hash : (count : ℕ) (rest : List ℕ) (error : IndexError) → count < 2 ^ 32 → FirstWrong (Parts IsHash) WrongHash count [] rest error
-      → WrongIndex (format_code ++ (le32 count ++ rest)) error
+  count_ends : (format : IndexFormat) (rest : List ℕ) → length rest < 4 → WrongIndex (format_code format ++ rest) UnexpectedEnd
+  wrong_part : (format : IndexFormat) (count : ℕ) (rest : List ℕ) (error : IndexError) → count < 2 ^ 32
+      → FirstWrong (Parts (IsPart format)) (WrongPart format) count [] rest error → WrongIndex (format_code format ++ (le32 count ++ rest)) error

@@ -1,10 +1,12 @@
--- The bytes of an index in the format MultihashIndexSorted, and the entries that they encode
--- (CARv2, "Index format", code 0x0401). Numbers are in little-endian order.
+-- The bytes of an index, and the entries that they encode (CARv2, "Index format"). Numbers are in
+-- little-endian order.
 use Rattle.std.specs.Prelude.{◌≡◌, ◌≤◌, ◌<◌, ℕ, ◌+◌, ◌*◌, ◌^◌, List, [], ◌++◌, length}
 use Rattle.std.specs.List.{All}
 use Rattle.ipld_car.specs.Index.{rows, format_code}
 use Rattle.ipld_car.specs.IndexNumbers.{le32, le64}
 use Rattle.ipld_car.specs.declared.index.entry.IndexEntry.{IndexEntry}
+use Rattle.ipld_car.specs.declared.index.format.IndexFormat.{IndexFormat}
+use Rattle.ipld_car.specs.declared.index.format.IndexFormat.TheVariants.{IndexSorted, MultihashIndexSorted}
 
 -- True if the entry has the hash function with this code, and a digest of `digest_len` bytes.
 abbrev pub IsOf : ℕ → ℕ → IndexEntry → Type 0
@@ -36,11 +38,17 @@ pub record IsHash (bytes : List ℕ) (entries : List IndexEntry) : Type 0 where
   pub in_range : (code < 2 ^ 64) × (count < 2 ^ 32)
   pub encoded : bytes ≡ le64 code ++ le32 count ++ buckets
 
--- True if the bytes are an index of the entries: the code of the format, the number of hash
--- functions, and their rows (CARv2, "Index format", MultihashIndexSorted).
-pub record IsIndex (bytes : List ℕ) (entries : List IndexEntry) : Type 0 where
+-- True if the bytes are a part of an index in this format: the rows with digests of one length, or
+-- those of a hash function. In IndexSorted each hash has the code 0.
+abbrev pub IsPart : IndexFormat → List ℕ → List IndexEntry → Type 0
+IsPart IndexSorted = IsBucket 0
+IsPart MultihashIndexSorted = IsHash
+
+-- True if the bytes are an index of the entries in this format: the code of the format, the number
+-- of its parts, and the parts (CARv2, "Index format").
+pub record IsIndex (format : IndexFormat) (bytes : List ℕ) (entries : List IndexEntry) : Type 0 where
   pub count : ℕ
-  pub hashes : List ℕ
-  pub parts : Parts IsHash count hashes entries
+  pub behind : List ℕ
+  pub parts : Parts (IsPart format) count behind entries
   pub in_range : count < 2 ^ 32
-  pub encoded : bytes ≡ format_code ++ le32 count ++ hashes
+  pub encoded : bytes ≡ format_code format ++ le32 count ++ behind

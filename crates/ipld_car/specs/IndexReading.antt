@@ -13,6 +13,7 @@ use Rattle.ipld_car.specs.IndexOrder.{AreSorted}
 use Rattle.ipld_car.specs.Taking.{IsReadError}
 use Rattle.ipld_car.specs.declared.index.entry.IndexEntry.{IndexEntry}
 use Rattle.ipld_car.specs.declared.index.error.IndexError.{IndexError}
+use Rattle.ipld_car.specs.declared.index.format.IndexFormat.{IndexFormat}
 use Rattle.ipld_car.specs.declared.index.error.IndexError.TheVariants.{Memory, Read, UnexpectedEnd}
 
 -- True if an error of a reader with this kind becomes this error. `OutOfMemory` becomes `Memory`,
@@ -65,10 +66,10 @@ pub record TakesPart (IsPart : List ℕ → List IndexEntry → Type 0) (old new
   pub consumed : Consumes old.left new.left bytes
   pub in_order : AreInOrder old.entries → AreInOrder new.entries
 
--- True if an index of the entries was taken, and the entries are sorted.
-pub record TakesIndex (old new : Option (List ℕ)) (entries : List IndexEntry) : Type 0 where
+-- True if an index of the entries in this format was taken, and the entries are sorted.
+pub record TakesIndex (format : IndexFormat) (old new : Option (List ℕ)) (entries : List IndexEntry) : Type 0 where
   pub bytes : List ℕ
-  pub is_index : IsIndex bytes entries
+  pub is_index : IsIndex format bytes entries
   pub consumed : Consumes old new bytes
   pub sorted : AreSorted entries
 
@@ -103,7 +104,7 @@ pub record TakesCode (old new : Option (List ℕ)) (code : ℕ) : Type 0 where
   pub is_varint : IsVarint code bytes
   pub consumed : Consumes old new bytes
 
--- True if reading the code of the format from the front of known bytes fails only because an
+-- True if reading the code of a format from the front of known bytes fails only because an
 -- allocation or the reader fails.
-pub record ReadsFormat (old : Option (List ℕ)) (result : Result (Unit {0}) IndexError) : Type 0 where
-  pub reads : (rest : List ℕ) → old ≡ Some (format_code ++ rest) → IfErr result IsOfReader
+pub record ReadsFormat (old : Option (List ℕ)) (result : Result IndexFormat IndexError) : Type 0 where
+  pub reads : (format : IndexFormat) (rest : List ℕ) → old ≡ Some (format_code format ++ rest) → IfErr result IsOfReader

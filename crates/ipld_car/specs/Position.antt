@@ -1,5 +1,5 @@
 -- The position of a reader in a CAR.
-use Rattle.std.specs.Prelude.{◌≡◌, ◌+◌, ℕ, List, map, Option, Some, None}
+use Rattle.std.specs.Prelude.{◌≡◌, ◌+◌, ◌-◌, ◌^◌, max, ℕ, List, map, Option, Some, None}
 use Rattle.ipld_cid.specs.Cid.{Link}
 use Rattle.ipld_cid.specs.LinkOf.{link_of}
 use Rattle.ipld_car.specs.declared.error.CarError.{CarError}
@@ -38,6 +38,16 @@ pub record HasOpened {R : Type 0} (car : CarReader R) (version : CarVersion) (ro
 abbrev pub stated_end : CarVersion → ℕ → Option ℕ
 stated_end V1 end = None
 stated_end V2 end = Some end
+
+-- the version of a CAR whose header states this end of its sections, or none
+abbrev pub version_ending : Option ℕ → CarVersion
+version_ending None = V1
+version_ending (Some end) = V2
+
+-- the end of the sections from `offset` on, if the header of the CAR states this end or none
+abbrev pub end_from : ℕ → Option ℕ → ℕ
+end_from offset None = 2 ^ 64 - 1
+end_from offset (Some end) = max end offset
 
 -- True if the part before the sections cannot be read because of this error, by `OpenFault`. The
 -- bytes that are then left in the reader are not stated.

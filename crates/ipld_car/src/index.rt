@@ -8,6 +8,7 @@ ghost use Rattle.ipld_car.specs.IndexOrder.{AreSorted};
 
 mod entry;
 mod error;
+mod format;
 mod header;
 mod lookup;
 mod numbers;
@@ -16,9 +17,10 @@ mod write;
 
 pub use entry::IndexEntry;
 pub use error::IndexError;
+pub use format::IndexFormat;
 pub use header::{CarHeader, HEADER_END, write_header};
 pub use lookup::entries_of;
-pub use read::read_index;
+pub use read::{StoredIndex, read_index};
 use std::alloc::{AllocError, Global};
 
 // The entries of digests of one length.

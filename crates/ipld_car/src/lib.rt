@@ -23,7 +23,7 @@
 //!
 //! - [`CarIndex`] is made of the positions of blocks, and is written in the format
 //!   MultihashIndexSorted.
-//! - [`read_index`] reads an index.
+//! - [`read_index`] reads an index in that format, or in IndexSorted.
 //! - [`entries_of`] finds the entries of a hash in it.
 //! - [`CarHeader`] is the header of version 2, which has the positions of the payload and the
 //!   index.
@@ -31,8 +31,9 @@
 //! ```rust
 //! use ipld_car::{entries_of, read_index};
 //!
-//! let entries = read_index(alloc, &mut reader)?;
-//! for entry in entries_of(&entries, cid.hash()) {
+//! let index = read_index(alloc, &mut reader)?;
+//! let hash = index.format.stored_hash(cid.hash());
+//! for entry in entries_of(&index.entries, &hash) {
 //!     println!(rt; "a block at byte {} of the payload", entry.offset)?;
 //! }
 //! ```
@@ -60,7 +61,8 @@ mod writer;
 
 pub use error::{CarError, CarErrorKind};
 pub use index::{
-    CarHeader, CarIndex, HEADER_END, IndexEntry, IndexError, entries_of, read_index, write_header,
+    CarHeader, CarIndex, HEADER_END, IndexEntry, IndexError, IndexFormat, StoredIndex, entries_of,
+    read_index, write_header,
 };
 pub use reader::{CarReader, DEFAULT_LIMIT};
 pub use section::Section;

@@ -32,7 +32,7 @@ pub struct CarReader<R> {
 }
 
 impl<R: BufRead> CarReader<R> {
-    ghost use Rattle.std.specs.Prelude.{◌+◌, ◌-◌, ◌<◌, ◌^◌, ◌++◌, List, ℕ, Some, true, length, map, MatchResult};
+    ghost use Rattle.std.specs.Prelude.{◌+◌, ◌-◌, ◌<◌, ◌^◌, ◌++◌, [], List, ℕ, Some, true, length, map, min, MatchResult};
     ghost use Rattle.std.specs.Io.KnownBytes.{Consumes};
     ghost use Rattle.ipld_cid.specs.Cid.{Link};
     ghost use Rattle.ipld_cid.specs.LinkOf.{link_of};
@@ -40,7 +40,7 @@ impl<R: BufRead> CarReader<R> {
     ghost use Rattle.ipld_car.specs.Reading.{ReadsSection, EndsOf, Leaves, UnlessReaderFails};
     ghost use Rattle.ipld_car.specs.Section.{Block, IsSection, content_of};
     ghost use Rattle.ipld_car.specs.SectionOf.{taken_of, block_of};
-    ghost use Rattle.ipld_car.specs.Position.{Moves, IsOpened, FaultOf, HasOpened, stated_end};
+    ghost use Rattle.ipld_car.specs.Position.{Moves, IsOpened, FaultOf, HasOpened, end_from, stated_end, version_ending};
 
     /// Reads the part before the sections, and nothing more. In version 1 that is the header. In
     /// version 2 it is the pragma, the header and the header of the payload. A header or a section
@@ -79,6 +79,41 @@ impl<R: BufRead> CarReader<R> {
                 end: opening.end,
             }),
             Err(error) => Err(error),
+        }
+    }
+
+    /// Creates a reader that begins at a section, without the part before the sections. `reader`
+    /// has the bytes of the file from `offset` on, where a section begins or the sections end. The
+    /// payload begins at `start`, and its header places its end at `end`. Without `end`, the
+    /// sections end with the file, as in version 1. A section may have at most `limit` bytes after
+    /// its length.
+    ///
+    /// The reader has no roots. If `start` is after `offset`, or `end` before it, the payload begins
+    /// or ends at `offset`. Does not allocate.
+    pub fn at_section(
+        alloc: Global,
+        reader: R,
+        limit: u64,
+        start: u64,
+        end: Option<u64>,
+        offset: u64,
+    ) -> CarReader<R>
+        ensures opens { HasOpened result
+            (version_ending end) [] (min start offset) offset (end_from offset end) }
+        ensures reads { (result.reader ≡ reader) × (result.limit ≡ limit) }
+    {
+        let (version, end) = match end {
+            None => (CarVersion::V1, u64::MAX),
+            Some(end) => (CarVersion::V2, end.max(offset)),
+        };
+        CarReader {
+            reader,
+            roots: Vec::new(alloc),
+            version,
+            limit,
+            start: start.min(offset),
+            offset,
+            end,
         }
     }
 

@@ -9,24 +9,26 @@ use crate::messages::{NamedCid, Outcome};
 use car_files::CarFileError;
 use indexmap::IndexMap;
 use ipld_car::{
-    CarError, CarErrorKind, CarHeader, CarReader, HEADER_END, IndexEntry, IndexError, Section,
-    entries_of, read_index,
+    CarErrorKind, CarHeader, CarReader, HEADER_END, IndexError, Section, StoredIndex, entries_of,
+    read_index,
 };
 use ipld_cid::Cid;
 use std::alloc::Global;
 use std::fs;
 use std::hash::RandomState;
-use std::io::{self, BufReader, Chain, Error, ErrorKind, Read};
-
-// The header of a CAR without roots. Sections that follow it are read as those of a CAR that begins
-// with them.
-const NO_ROOTS: &[u8] = b"\x11\xa2eroots\x80gversion\x01";
-
-// The number of bytes of that header.
-const NO_ROOTS_LEN: u64 = 18;
+use std::io::{self, BufReader, Error, ErrorKind, Read};
 
 /// A reader of sections, which begins at any of them.
-pub type Sections<'a> = CarReader<BufReader<Chain<&'static [u8], BytesAt<'a>>>>;
+pub type Sections<'a> = CarReader<BufReader<BytesAt<'a>>>;
+
+/// The place of a CAR's payload in its file.
+#[derive(Clone, Copy)]
+pub struct PayloadPlace {
+    /// The offset of its first byte.
+    pub start: u64,
+    /// The offset of its end, if the header has it.
+    pub end: Option<u64>,
+}
 
 /// The blocks of a CAR. They are found by the index of the file, if it has one. Otherwise the file
 /// is read on from the last block that was found.
@@ -37,11 +39,9 @@ pub struct Blocks<'a> {
     bytes: Bytes,
     limit: u64,
     roots: Vec<Cid>,
-    // The beginning of the payload, and its end, if the header has it.
-    start: u64,
-    end: Option<u64>,
-    // The entries of the index, until one turns out to be wrong.
-    index: Option<Vec<IndexEntry>>,
+    payload: PayloadPlace,
+    // The index, until one of its entries turns out to be wrong.
+    index: Option<StoredIndex>,
     passed: PassedSections,
 }
 
@@ -72,13 +72,12 @@ impl PassedSections {
         cid: &Cid,
     ) -> Result<Option<Section>, CarFileError> {
         let mut sections = sections;
-        let from = self.end;
         let mut section = Section::new(alloc);
         for _ in 0..MOST_SECTIONS {
             match sections.read_section(&mut section) {
                 Ok(true) => {}
                 Ok(false) => return Ok(None),
-                Err(error) => return Err(CarFileError::from(error_in_file(from, error))),
+                Err(error) => return Err(CarFileError::from(error)),
             }
             if !self.offsets.contains_key(section.cid()) {
                 match self.offsets.insert(*section.cid(), self.end) {
@@ -86,7 +85,7 @@ impl PassedSections {
                     Err(_) => return Err(CarFileError::Memory),
                 }
             }
-            self.end = place_in_file(from, sections.offset());
+            self.end = sections.offset();
             if section.cid() == cid {
                 return Ok(Some(section));
             }
@@ -168,9 +167,9 @@ pub fn open_indexed<'a>(rt: &'a HostRuntime, file: &'a str, limit: u64) -> Optio
 #[derive(Drop)]
 struct Front {
     roots: Vec<Cid>,
-    start: u64,
+    payload: PayloadPlace,
+    // The offset of the first section.
     first: u64,
-    end: Option<u64>,
 }
 
 // Reads the header of a CAR, or returns `None` if the bytes don't begin as one.
@@ -189,9 +188,11 @@ fn read_front(rt: &HostRuntime, bytes: &Bytes, limit: u64) -> io::Result<Option<
     };
     Ok(Some(Front {
         roots: Vec::from_slice(rt.alloc(), car.roots())?,
-        start: car.start(),
+        payload: PayloadPlace {
+            start: car.start(),
+            end: car.end(),
+        },
         first: car.offset(),
-        end: car.end(),
     }))
 }
 
@@ -218,7 +219,7 @@ pub fn index_at(
     rt: &HostRuntime,
     bytes: &Bytes,
     header: &CarHeader,
-) -> Result<Vec<IndexEntry>, IndexError> {
+) -> Result<StoredIndex, IndexError> {
     let reader = BytesAt::new(bytes, header.index, u64::MAX);
     let mut reader = BufReader::with_capacity(rt.alloc(), BUFFER, reader)?;
     read_index(rt.alloc(), &mut reader)
@@ -259,8 +260,7 @@ fn blocks_of<'a>(
         bytes,
         limit,
         roots: front.roots,
-        start: front.start,
-        end: front.end,
+        payload: front.payload,
         index: None,
         passed: PassedSections {
             offsets: IndexMap::with_hasher(rt.alloc(), hasher),
@@ -273,36 +273,22 @@ fn blocks_of<'a>(
     Ok(blocks)
 }
 
-/// Creates a reader of the sections that begin at this byte of the file, up to `end` or to the end
-/// of the file.
+/// Creates a reader of the sections that begin at this byte of the file.
+///
+/// # Errors
+///
+/// `OutOfMemory` if the allocation of a buffer fails.
 pub fn sections_at<'a>(
     rt: &HostRuntime,
     bytes: &'a Bytes,
-    from: u64,
-    end: Option<u64>,
+    payload: PayloadPlace,
+    offset: u64,
     limit: u64,
-) -> Result<Sections<'a>, CarFileError> {
-    let reader = NO_ROOTS.chain(BytesAt::new(bytes, from, end.unwrap_or(u64::MAX)));
+) -> io::Result<Sections<'a>> {
+    let reader = BytesAt::new(bytes, offset, u64::MAX);
     let reader = BufReader::with_capacity(rt.alloc(), BUFFER, reader)?;
-    // The file has a header that is not shorter than this one, so the limit is not lower.
-    match CarReader::new(rt.alloc(), reader, limit) {
-        Ok(sections) => Ok(sections),
-        Err(error) => Err(CarFileError::from(error)),
-    }
-}
-
-/// Returns the place in the file of this offset of such a reader.
-pub fn place_in_file(from: u64, offset: u64) -> u64 {
-    from.saturating_add(offset.saturating_sub(NO_ROOTS_LEN))
-}
-
-// Converts an error of such a reader to places in the file.
-fn error_in_file(from: u64, error: CarError) -> CarError {
-    CarError {
-        kind: error.kind,
-        section: place_in_file(from, error.section),
-        offset: place_in_file(from, error.offset),
-    }
+    let PayloadPlace { start, end } = payload;
+    Ok(CarReader::at_section(rt.alloc(), reader, limit, start, end, offset))
 }
 
 impl<'a> Blocks<'a> {
@@ -322,7 +308,7 @@ impl<'a> Blocks<'a> {
             return;
         }
         match index_at(self.rt, &self.bytes, header) {
-            Ok(entries) => self.index = Some(entries),
+            Ok(index) => self.index = Some(index),
             Err(error) => {
                 let (file, at) = (self.file, header.index);
                 complain(
@@ -363,7 +349,7 @@ impl<'a> Blocks<'a> {
     /// using the index.
     pub fn find_indexed(&mut self, cid: &Cid) -> Option<Section> {
         let index = self.index.take()?;
-        match self.find_among(entries_of(&index, cid.hash()), cid) {
+        match self.find_among(&index, cid) {
             Indexed::Block(section) => {
                 self.index = Some(index);
                 Some(section)
@@ -385,14 +371,15 @@ impl<'a> Blocks<'a> {
         }
     }
 
-    // Follows these entries of an index to the block of a CID.
-    fn find_among(&self, entries: &[IndexEntry], cid: &Cid) -> Indexed {
-        for entry in entries {
-            let offset = self.start.saturating_add(entry.offset);
+    // Follows the entries of an index that have the hash of a CID to its block.
+    fn find_among(&self, index: &StoredIndex, cid: &Cid) -> Indexed {
+        let hash = index.format.stored_hash(cid.hash());
+        for entry in entries_of(&index.entries, &hash) {
+            let offset = self.payload.start.saturating_add(entry.offset);
             match self.section_at(offset) {
                 Ok(Some(section)) if section.cid() == cid => return Indexed::Block(section),
-                // A block of the same digest and of another codec.
-                Ok(Some(section)) if section.cid().hash() == cid.hash() => {}
+                // A block of the same digest, and of another codec or hash function.
+                Ok(Some(section)) if index.format.stored_hash(section.cid().hash()) == hash => {}
                 _ => return Indexed::Wrong(offset),
             }
         }
@@ -401,37 +388,20 @@ impl<'a> Blocks<'a> {
 
     // Reads the block whose section begins at this byte of the file.
     fn section_at(&self, offset: u64) -> Result<Option<Section>, CarFileError> {
-        let mut sections = sections_at(self.rt, &self.bytes, offset, self.end, self.limit)?;
-        let mut section = Section::new(self.rt.alloc());
+        let (rt, bytes) = (self.rt, &self.bytes);
+        let mut sections = sections_at(rt, bytes, self.payload, offset, self.limit)?;
+        let mut section = Section::new(rt.alloc());
         match sections.read_section(&mut section) {
             Ok(true) => Ok(Some(section)),
             Ok(false) => Ok(None),
-            Err(error) => Err(CarFileError::from(error_in_file(offset, error))),
+            Err(error) => Err(CarFileError::from(error)),
         }
     }
 
     // Reads on to the block of this CID.
     fn read_on(&mut self, cid: &Cid) -> Result<Option<Section>, CarFileError> {
-        let sections = sections_at(self.rt, &self.bytes, self.passed.end, self.end, self.limit)?;
-        match self.passed.read_on(self.rt.alloc(), sections, cid) {
-            Ok(Some(section)) => Ok(Some(section)),
-            Ok(None) => self.end_of_payload(),
-            Err(error) => Err(error),
-        }
-    }
-
-    // Returns `None` at the end of the payload, or an error if the header places the end later.
-    fn end_of_payload(&self) -> Result<Option<Section>, CarFileError> {
-        match self.end {
-            Some(end) if self.passed.end < end => Err(CarFileError::Car(CarError {
-                kind: CarErrorKind::ShortPayload {
-                    expected: end.saturating_sub(self.start),
-                    found: self.passed.end.saturating_sub(self.start),
-                },
-                section: self.passed.end,
-                offset: self.passed.end,
-            })),
-            _ => Ok(None),
-        }
+        let (rt, bytes) = (self.rt, &self.bytes);
+        let sections = sections_at(rt, bytes, self.payload, self.passed.end, self.limit)?;
+        self.passed.read_on(rt.alloc(), sections, cid)
     }
 }

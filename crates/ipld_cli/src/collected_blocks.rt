@@ -5,7 +5,7 @@ ghost use Rattle.std.specs.Prelude.{◌≡◌, ◌≤◌, OnOk, option_map, opti
 ghost use Rattle.ipld_cid.specs.LinkOf.{link_of};
 ghost use Rattle.ipld_cli.specs.NewCar.{kept_cid, kept_cids, state_of, Puts};
 
-use crate::blocks::{bytes_of, place_in_file, sections_at};
+use crate::blocks::{PayloadPlace, bytes_of, sections_at};
 use crate::bytes::Bytes;
 use crate::car_sink::CarSink;
 use crate::checked_block::CheckedBlock;
@@ -22,7 +22,7 @@ use crate::spool::spooled;
 use car_files::CarFileError;
 use indexmap::IndexMap;
 use ipld_block::{BlockCodec, CheckError, InvalidBlock, VerifyError, cid_of, links_of};
-use ipld_car::{CarErrorKind, CarReader, Section};
+use ipld_car::{CarError, CarErrorKind, CarReader, Section};
 use ipld_cid::{Cid, IDENTITY};
 use std::alloc::{AllocError, Global};
 use std::fmt;
@@ -94,8 +94,8 @@ struct Input<'a> {
     source: Source<'a>,
     // The bytes of an input that can be read only once.
     bytes: Option<Bytes>,
-    // The end of the payload of a CAR, if its header has it.
-    payload_end: Option<u64>,
+    // The place of the payload of a CAR.
+    payload: Option<PayloadPlace>,
     // The numbers of its blocks.
     begin: usize,
     end: usize,
@@ -187,16 +187,19 @@ impl<'a> CollectedBlocks<'a> {
     /// Adds the block or the blocks of an input. Reports the error if it can't.
     pub fn add(&mut self, source: Source<'a>) -> Result<(), Outcome> {
         let begin = self.blocks.len();
-        let (bytes, payload_end) = match source {
+        let (bytes, payload) = match source {
             Source::Block(codec, file) | Source::Unnamed(codec, file) => {
                 (self.add_file(codec, file)?, None)
             }
-            Source::Car(file) => self.add_car_file(file)?,
+            Source::Car(file) => {
+                let (bytes, payload) = self.add_car_file(file)?;
+                (bytes, Some(payload))
+            }
         };
         let input = Input {
             source,
             bytes,
-            payload_end,
+            payload,
             begin,
             end: self.blocks.len(),
         };
@@ -361,9 +364,9 @@ impl<'a> CollectedBlocks<'a> {
         }
     }
 
-    // Adds the blocks of a CAR. Returns its bytes if the file can be read only once, and the end of
-    // its payload if its header has it.
-    fn add_car_file(&mut self, file: &'a str) -> Result<(Option<Bytes>, Option<u64>), Outcome> {
+    // Adds the blocks of a CAR. Returns its bytes if the file can be read only once, and the place
+    // of its payload.
+    fn add_car_file(&mut self, file: &'a str) -> Result<(Option<Bytes>, PayloadPlace), Outcome> {
         let rt = self.rt;
         if file != "-" && is_file(rt, file) {
             let opened = match open_car(rt, file, self.options.limit, shows_progress(rt)) {
@@ -376,20 +379,24 @@ impl<'a> CollectedBlocks<'a> {
             Ok(spool) => Bytes::File(spool),
             Err(error) => return Err(report_unreadable(rt, file, &error)),
         };
-        let end = match open_car_bytes(rt, file, &bytes, self.options.limit) {
+        let payload = match open_car_bytes(rt, file, &bytes, self.options.limit) {
             Ok(car) => self.add_car(file, car)?,
             Err(outcome) => return Err(outcome),
         };
-        Ok((Some(bytes), end))
+        Ok((Some(bytes), payload))
     }
 
-    // Adds the blocks of an open CAR, and returns the end of its payload if its header has it.
+    // Adds the blocks of an open CAR, and returns the place of its payload.
     fn add_car<R: BufRead + Drop>(
         &mut self,
         file: &str,
         car: CarReader<R>,
-    ) -> Result<Option<u64>, Outcome> {
+    ) -> Result<PayloadPlace, Outcome> {
         let (rt, mut car) = (self.rt, car);
+        let payload = PayloadPlace {
+            start: car.start(),
+            end: car.end(),
+        };
         for root in car.roots() {
             if self.starts.insert(*root, true).is_err() {
                 return Err(report_out_of_memory(rt, file));
@@ -400,7 +407,7 @@ impl<'a> CollectedBlocks<'a> {
             let offset = car.offset();
             match car.read_section(&mut section) {
                 Ok(true) => {}
-                Ok(false) => return Ok(car.end()),
+                Ok(false) => return Ok(payload),
                 Err(error) => return Err(report_car_error(rt, file, &CarFileError::from(error))),
             }
             match self.add_section(&section, offset) {
@@ -622,15 +629,11 @@ impl<'a, 'b> BlockRange<'a, 'b> {
             (state_of W.contents sink.old) (state_of W.contents sink.new)) }
         ensures index { sink.new.has_index ≡ sink.old.has_index }
     {
-        let (rt, options) = (self.collected.rt, self.collected.options);
-        let Some(first) = self.collected.blocks.get(begin) else {
+        let (rt, limit) = (self.collected.rt, self.collected.options.limit);
+        let (Some(first), Some(payload)) = (self.collected.blocks.get(begin), input.payload) else {
             return Err(OutputError::Changed);
         };
-        let from = first.offset;
-        let mut sections = match sections_at(rt, bytes, from, input.payload_end, options.limit) {
-            Ok(sections) => sections,
-            Err(error) => return Err(changed(error)),
-        };
+        let mut sections = sections_at(rt, bytes, payload, first.offset, limit)?;
         let mut section = Section::new(rt.alloc());
         let mut number = begin;
         for _ in 0..MOST_SECTIONS {
@@ -640,11 +643,11 @@ impl<'a, 'b> BlockRange<'a, 'b> {
             let Some(place) = self.collected.blocks.get(number) else {
                 return Err(OutputError::Changed);
             };
-            let offset = place_in_file(from, sections.offset());
+            let offset = sections.offset();
             match sections.read_section(&mut section) {
                 Ok(true) => {}
                 Ok(false) => return Err(OutputError::Changed),
-                Err(error) => return Err(changed(CarFileError::from(error))),
+                Err(error) => return Err(changed(error)),
             }
             if offset == place.offset {
                 self.write_section(number, &section, sink)?;
@@ -683,14 +686,11 @@ impl<'a, 'b> BlockRange<'a, 'b> {
 }
 
 // Returns the error of a CAR that could be read before.
-fn changed(error: CarFileError) -> OutputError {
-    match error {
-        CarFileError::Memory => OutputError::Memory,
-        CarFileError::Car(error) => match error.kind {
-            CarErrorKind::Read(error) => OutputError::System(error),
-            _ => OutputError::Changed,
-        },
-        CarFileError::Write(_) => OutputError::Changed,
+fn changed(error: CarError) -> OutputError {
+    match error.kind {
+        CarErrorKind::Memory => OutputError::Memory,
+        CarErrorKind::Read(error) => OutputError::System(error),
+        _ => OutputError::Changed,
     }
 }
 

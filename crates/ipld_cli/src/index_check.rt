@@ -9,7 +9,7 @@ use crate::messages::Outcome;
 use crate::payload::{IndexedSection, sections_of};
 use car_files::{CarFileError, VerdictForm};
 use ipld_block::write_cid;
-use ipld_car::{CarHeader, CarReader, IndexEntry, IndexError};
+use ipld_car::{CarHeader, CarReader, IndexEntry, IndexError, IndexFormat};
 use ipld_cid::{Cid, IDENTITY};
 use std::cmp::Ordering;
 use std::fs;
@@ -68,11 +68,12 @@ fn write_fault<W: Write>(
     Ok(())
 }
 
-// Returns the sections of a file's payload, in the order of an index.
+// Returns the sections of a file's payload, in the order of an index of this format.
 fn sorted_sections(
     rt: &HostRuntime,
     bytes: &Bytes,
     limit: u64,
+    format: IndexFormat,
 ) -> Result<Vec<IndexedSection>, CarFileError> {
     let reader = BytesAt::new(bytes, 0, u64::MAX);
     let reader = BufReader::with_capacity(rt.alloc(), BUFFER, reader)?;
@@ -81,6 +82,9 @@ fn sorted_sections(
         Err(error) => return Err(CarFileError::from(error)),
     };
     let mut sections = sections_of(rt.alloc(), &mut car)?;
+    for it in sections.iter_mut() {
+        it.entry.hash = format.stored_hash(&it.entry.hash);
+    }
     sections.sort_by_key(|it| it.entry)?;
     Ok(sections)
 }
@@ -159,10 +163,10 @@ pub fn check_index<W: Write>(
         Ok(_) => return Ok(Outcome::Done),
         Err(error) => return Ok(report_unreadable(rt, file, &error)),
     };
-    let entries = match index_at(rt, &bytes, &header) {
-        Ok(entries) => entries,
+    let index = match index_at(rt, &bytes, &header) {
+        Ok(index) => index,
         Err(error) => return Ok(report_index_error(rt, file, header.index, &error)),
     };
-    let sections = sorted_sections(rt, &bytes, limit)?;
-    compare(rt, form, &header, &entries, &sections, writer)
+    let sections = sorted_sections(rt, &bytes, limit, index.format)?;
+    compare(rt, form, &header, &index.entries, &sections, writer)
 }

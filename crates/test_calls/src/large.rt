@@ -4,7 +4,7 @@ use dag_cbor::tape::read_tape;
 use dag_cbor::{CborError, DagCborCodec, ReadOptions, count_links, decode_slice};
 use dag_cbor_serde::{from_slice, to_vec};
 use dag_cbor_tape::encode_tape;
-use ipld_car::{CarIndex, IndexEntry, entries_of, read_index};
+use ipld_car::{CarIndex, IndexEntry, IndexFormat, entries_of, read_index};
 use ipld_cid::Multihash;
 use ipld_core::codec::Codec;
 use ipld_tree::{Ipld, Limits};
@@ -113,9 +113,10 @@ fn many_rows_of_an_index(rt: HostRuntime) -> Result<(), Fail> {
     CarIndex::new(rt.alloc(), entries)?.write_to(&mut bytes)?;
     assert_eq!(rt; bytes.len(), 30 + 12 * 70_000);
     let read = read_index(rt.alloc(), &mut bytes.as_slice())?;
-    assert_eq!(rt; read.len(), 70_000);
+    assert!(rt; read.format == IndexFormat::MultihashIndexSorted);
+    assert_eq!(rt; read.entries.len(), 70_000);
     let hash = Multihash::wrap(0x12, &65_537u32.to_be_bytes())?;
-    let found = entries_of(&read, &hash);
+    let found = entries_of(&read.entries, &hash);
     assert_eq!(rt; found.len(), 1);
     assert!(rt; found.iter().all(|entry| entry.offset == 65_537));
     Ok(())

@@ -31,7 +31,7 @@ OTHER_ENTRY = (
 
 RIGHT = [
     row
-    for file in ("kinds.car", "kinds_some.car")
+    for file in ("kinds.car", "kinds_some.car", "sorted_all.car")
     for row in [
         Row(f"car verify {file}"),
         Row(f"car verify --json {file}"),
@@ -40,11 +40,6 @@ RIGHT = [
 ]
 
 LACKS_ENTRIES = [
-    Row(
-        "car verify kinds_lack.car",
-        lines(f"{LONG.cid} at byte {LONG_AT}: {NO_ENTRY}"),
-        status=CHECK_FAILED,
-    ),
     Row(
         "car verify kinds_full.car",
         lines(f"{NEAR.cid} at byte {NEAR_AT}: {NO_ENTRY}"),
@@ -55,53 +50,66 @@ LACKS_ENTRIES = [
         lines(f"{NOTHING.cid} at byte {PAYLOAD_AT + len(car([NOTHING.cid], []))}: {NO_ENTRY}"),
         status=CHECK_FAILED,
     ),
-    Row(
-        "car verify --json kinds_lack.car",
-        json_lines({"cid": LONG.cid, "offset": LONG_AT, "error": "NotIndexed"}),
-        status=CHECK_FAILED,
-    ),
-    Row(f"car extract kinds_lack.car {LONG.cid}", "long"),
-    Row(
-        f"show kinds_lack.car {LONG.cid}",
-        "h'6c6f6e67'\n",
-        message("kinds_lack.car", f"{LONG.cid}: {NO_ENTRY}"),
-    ),
+] + [
+    row
+    for file in ("kinds_lack.car", "sorted_lack.car")
+    for row in [
+        Row(
+            f"car verify {file}",
+            lines(f"{LONG.cid} at byte {LONG_AT}: {NO_ENTRY}"),
+            status=CHECK_FAILED,
+        ),
+        Row(
+            f"car verify --json {file}",
+            json_lines({"cid": LONG.cid, "offset": LONG_AT, "error": "NotIndexed"}),
+            status=CHECK_FAILED,
+        ),
+        Row(f"car extract {file} {LONG.cid}", "long"),
+        Row(f"show {file} {LONG.cid}", "h'6c6f6e67'\n", message(file, f"{LONG.cid}: {NO_ENTRY}")),
+    ]
 ]
 
 WRONG_ENTRIES = [
-    Row(
-        "car verify kinds_wrong.car",
-        lines(
-            f"{LONG.cid} at byte {LONG_AT}: {NO_ENTRY}",
-            f"the index points to byte {LONG_AT + 1}, where no block with that digest begins",
+    row
+    for wrong, other in [
+        ("kinds_wrong.car", "kinds_other.car"),
+        ("sorted_wrong.car", "sorted_other.car"),
+    ]
+    for row in [
+        Row(
+            f"car verify {wrong}",
+            lines(
+                f"{LONG.cid} at byte {LONG_AT}: {NO_ENTRY}",
+                f"the index points to byte {LONG_AT + 1}, where no block with that digest begins",
+            ),
+            status=CHECK_FAILED,
         ),
-        status=CHECK_FAILED,
-    ),
-    Row(
-        "car verify --json kinds_wrong.car",
-        json_lines(
-            {"cid": LONG.cid, "offset": LONG_AT, "error": "NotIndexed"},
-            {"offset": LONG_AT + 1, "error": "WrongEntry"},
+        Row(
+            f"car verify --json {wrong}",
+            json_lines(
+                {"cid": LONG.cid, "offset": LONG_AT, "error": "NotIndexed"},
+                {"offset": LONG_AT + 1, "error": "WrongEntry"},
+            ),
+            status=CHECK_FAILED,
         ),
-        status=CHECK_FAILED,
-    ),
-    Row(
-        f"car extract kinds_wrong.car {LONG.cid}",
-        "long",
-        message("kinds_wrong.car", OTHER_ENTRY.format(LONG.cid, LONG_AT + 1)),
-    ),
-    Row(f"car extract kinds_wrong.car {PART.cid}", "part"),
-    Row(
-        f"car extract kinds_other.car {LEAF.cid}",
-        LEAF.data,
-        message("kinds_other.car", OTHER_ENTRY.format(LEAF.cid, PART_AT)),
-    ),
-    Row(f"car extract --unchecked kinds_other.car {LEAF.cid}", LEAF.data),
-    Row(
-        f"show kinds_other.car {LEAF.cid}/0",
-        '"leaf"\n',
-        message("kinds_other.car", OTHER_ENTRY.format(LEAF.cid, PART_AT)),
-    ),
+        Row(
+            f"car extract {wrong} {LONG.cid}",
+            "long",
+            message(wrong, OTHER_ENTRY.format(LONG.cid, LONG_AT + 1)),
+        ),
+        Row(f"car extract {wrong} {PART.cid}", "part"),
+        Row(
+            f"car extract {other} {LEAF.cid}",
+            LEAF.data,
+            message(other, OTHER_ENTRY.format(LEAF.cid, PART_AT)),
+        ),
+        Row(f"car extract --unchecked {other} {LEAF.cid}", LEAF.data),
+        Row(
+            f"show {other} {LEAF.cid}/0",
+            '"leaf"\n',
+            message(other, OTHER_ENTRY.format(LEAF.cid, PART_AT)),
+        ),
+    ]
 ]
 
 # Each section has an entry of its own, and no entry is there twice.
@@ -136,9 +144,11 @@ NUMBER_OF_ENTRIES = [
 NOT_VALID = [
     row
     for file, why in [
-        ("index_old.car", "unsupported format of the index: expected 0x401, found 0x400"),
         ("index_long.car", "the index's format is not in its shortest form"),
-        ("index_other.car", "unsupported format of the index: expected 0x401, found 0x4401"),
+        (
+            "index_other.car",
+            "unsupported format of the index: expected 0x400 or 0x401, found 0x4401",
+        ),
         ("index_large.car", "the index's format is 2^64 or more"),
         ("index_format_cut.car", "the file ends within the index"),
         ("index_cut.car", "the file ends within the index"),

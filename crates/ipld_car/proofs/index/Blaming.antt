@@ -6,13 +6,14 @@ use Rattle.std.proofs.Math.Nat.{div-add-mod, mul-mod_right}
 use Rattle.std.proofs.lemmas.List.{length-append}
 use Rattle.ipld_cid.specs.Multihash.{HashParts}
 use Rattle.ipld_car.specs.Index.{row, rows, format_code}
-use Rattle.ipld_car.specs.IndexLayout.{IsBucket, Parts, IsHash}
+use Rattle.ipld_car.specs.IndexLayout.{IsBucket, Parts, IsHash, IsPart}
 use Rattle.ipld_car.specs.IndexNumbers.{le32, le64}
 use Rattle.ipld_car.specs.IndexReading.{TakesRows, TakesPart, AreInOrder, AreRows}
-use Rattle.ipld_car.specs.IndexErrors.{Blames, EndsWithin, IsUnsorted, FirstWrong, WrongRow, row_ends, unsorted, WrongBucket, width_ends, wrong_width, length_ends, wrong_length, wrong_row, WrongHash, hash_ends, wrong_bucket, WrongFormat, WrongIndex, wrong_format, count_ends, wrong_hash}
+use Rattle.ipld_car.specs.IndexErrors.{Blames, EndsWithin, IsUnsorted, FirstWrong, WrongRow, row_ends, unsorted, WrongBucket, width_ends, wrong_width, length_ends, wrong_length, wrong_row, WrongHash, hash_ends, wrong_bucket, WrongPart, WrongFormat, WrongIndex, wrong_format, count_ends, wrong_part}
 use Rattle.ipld_car.proofs.index.Taking.{ordered_none}
 use Rattle.ipld_car.specs.declared.index.entry.IndexEntry.{IndexEntry}
 use Rattle.ipld_car.specs.declared.index.error.IndexError.{IndexError}
+use Rattle.ipld_car.specs.declared.index.format.IndexFormat.{IndexFormat}
 use Rattle.ipld_car.specs.declared.index.error.IndexError.TheVariants.{Memory, Read, UnexpectedEnd, FormatNotShortest, FormatTooLarge, Format, Width, Length, NotSorted}
 use Rattle.ipld_car.proofs.index.Taking.{state_of}
 
@@ -211,13 +212,14 @@ module _ (before : List IndexEntry) where
 pub index_format : (old : Option (List ℕ)) (error : IndexError) → Blames WrongFormat old error → Blames WrongIndex old error
 index_format old error b = blames_behind WrongFormat WrongIndex old old [] error (Consumes-nil old) (λ rest w. wrong_format rest error w) b
 
-pub hashes_cut : (old one : Option (List ℕ)) (error : IndexError) → Consumes old one format_code → EndsWithin 4 one error → Blames WrongIndex old error
-hashes_cut old one error p ends = blames_end WrongIndex 4 old one format_code error p (λ rest few. count_ends rest few) ends
+pub count_cut_short : (format : IndexFormat) (old one : Option (List ℕ)) (error : IndexError) → Consumes old one (format_code format) → EndsWithin 4 one error → Blames WrongIndex old error
+count_cut_short format old one error p ends = blames_end WrongIndex 4 old one (format_code format) error p (λ rest few. count_ends format rest few) ends
 
-pub index_blames : (count : ℕ) (old one two : Option (List ℕ)) (before : List IndexEntry) (error : IndexError) → Consumes old one format_code → Consumes one two (le32 count)
-    → count < 2 ^ 32 → before ≡ [] → (AreInOrder before → Blames (FirstWrong (Parts IsHash) WrongHash count before) two error) → Blames WrongIndex old error
-index_blames count old one two before error p q few empty b =
-    blames_behind (FirstWrong (Parts IsHash) WrongHash count []) WrongIndex old two (format_code ++ le32 count) error
-    (Consumes-trans old one two format_code (le32 count) p q)
-    (λ rest w. subst (λ l. WrongIndex l error) (sym (append_assoc format_code (le32 count) rest)) (wrong_hash count rest error few w))
-    (subst (λ l. Blames (FirstWrong (Parts IsHash) WrongHash count l) two error) empty (b (ordered_none before empty)))
+pub index_blames : (format : IndexFormat) (count : ℕ) (old one two : Option (List ℕ)) (before : List IndexEntry) (error : IndexError) → Consumes old one (format_code format)
+    → Consumes one two (le32 count) → count < 2 ^ 32 → before ≡ []
+    → (AreInOrder before → Blames (FirstWrong (Parts (IsPart format)) (WrongPart format) count before) two error) → Blames WrongIndex old error
+index_blames format count old one two before error p q few empty b =
+    blames_behind (FirstWrong (Parts (IsPart format)) (WrongPart format) count []) WrongIndex old two (format_code format ++ le32 count) error
+    (Consumes-trans old one two (format_code format) (le32 count) p q)
+    (λ rest w. subst (λ l. WrongIndex l error) (sym (append_assoc (format_code format) (le32 count) rest)) (wrong_part format count rest error few w))
+    (subst (λ l. Blames (FirstWrong (Parts (IsPart format)) (WrongPart format) count l) two error) empty (b (ordered_none before empty)))

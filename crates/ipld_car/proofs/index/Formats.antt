@@ -9,7 +9,9 @@ use Rattle.ipld_car.specs.declared.error.CarErrorKind.{CarErrorKind}
 use Rattle.ipld_car.specs.declared.error.CarErrorKind.TheVariants.{LengthNotShortest, LengthTooLarge}
 use Rattle.ipld_car.specs.declared.index.error.IndexError.{IndexError}
 use Rattle.ipld_car.specs.declared.index.error.IndexError.TheVariants.{Memory, Read, FormatNotShortest, FormatTooLarge, Format}
-use Rattle.ipld_car.specs.Index.{format_code}
+use Rattle.ipld_car.specs.Index.{format_code, format_number}
+use Rattle.ipld_car.specs.declared.index.format.IndexFormat.{IndexFormat}
+use Rattle.ipld_car.specs.declared.index.format.IndexFormat.TheVariants.{IndexSorted, MultihashIndexSorted}
 use Rattle.ipld_car.specs.IndexErrors.{Blames, EndsWithin, WrongFormat, format_ends, format_not_shortest, format_too_large, other_format}
 use Rattle.ipld_car.specs.IndexReading.{IsOfReader, ReadsFormat, TakesCode}
 use Rattle.ipld_car.specs.Lengths.{BeginsVarint, kind_of}
@@ -88,41 +90,50 @@ code_ends old mid code place error g ends =
 
 -- ---- the code
 
-format_is : varint_of 0x0401 ≡ format_code
+format_is : (format : IndexFormat) → varint_of (format_number format) ≡ format_code format
 unfolding varint_of format_code
-format_is = refl
+format_is IndexSorted = refl
+format_is MultihashIndexSorted = refl
 
--- the code of the format was taken
-pub format_taken : (old new : Option (List ℕ)) (code : ℕ) → TakesCode old new code → code ≡ 0x0401 → Consumes old new format_code
-format_taken old new code t is = subst (Consumes old new) (varint_alone code t.bytes t.is_varint ∙ ap varint_of is ∙ format_is) t.consumed
+format_small : (format : IndexFormat) → format_number format < 2 ^ 64
+format_small IndexSorted = omega arith
+format_small MultihashIndexSorted = omega arith
 
--- the code of another format was taken
-pub format_other : (old new : Option (List ℕ)) (code : ℕ) → TakesCode old new code → code ≢ 0x0401 → Blames WrongFormat old (Format code)
-format_other old new code t other = blames_here WrongFormat old new t.bytes (Format code) tt t.consumed (λ rest. other_format code t.bytes rest t.is_varint other)
+-- the code of a format was taken
+pub format_taken : (format : IndexFormat) (old new : Option (List ℕ)) (code : ℕ) → TakesCode old new code → code ≡ format_number format → Consumes old new (format_code format)
+format_taken format old new code t is = subst (Consumes old new) (varint_alone code t.bytes t.is_varint ∙ ap varint_of is ∙ format_is format) t.consumed
 
--- bytes that begin with the code of the format are read as that
-format_known : (rest bytes : List ℕ) → bytes ≡ format_code ++ rest → read_varint bytes ≡ Ok (0x0401, rest)
-format_known rest bytes e = ap read_varint (e ∙ ap (λ l. l ++ rest) (sym format_is)) ∙ read_varint-varint_of 0x0401 rest (omega arith)
+no_format : (code : ℕ) → code ≢ 0x0400 → code ≢ 0x0401 → (format : IndexFormat) → code ≢ format_number format
+no_format code p q IndexSorted = p
+no_format code p q MultihashIndexSorted = q
 
-no_fault : (front tail rest : List ℕ) (error : CidError) → front ++ tail ≡ format_code ++ rest → read_varint front ≡ Err error → error ≢ End → ⊥
-no_fault front tail rest error e fault other =
-    elim (varint_cut 0x0401 front tail rest (omega arith) (e ∙ ap (λ l. l ++ rest) (sym format_is))) [
-      | inl w ↦ not_both 0x0401 w.0 error (read_varint front) (ap read_varint w.1 ∙ read_varint-varint_of 0x0401 w.0 (omega arith)) fault
+-- the code of no format was taken
+pub format_other : (old new : Option (List ℕ)) (code : ℕ) → TakesCode old new code → code ≢ 0x0400 → code ≢ 0x0401 → Blames WrongFormat old (Format code)
+format_other old new code t p q = blames_here WrongFormat old new t.bytes (Format code) tt t.consumed (λ rest. other_format code t.bytes rest t.is_varint (no_format code p q))
+
+-- bytes that begin with the code of a format are read as that
+format_known : (format : IndexFormat) (rest bytes : List ℕ) → bytes ≡ format_code format ++ rest → read_varint bytes ≡ Ok (format_number format, rest)
+format_known format rest bytes e = ap read_varint (e ∙ ap (λ l. l ++ rest) (sym (format_is format))) ∙ read_varint-varint_of (format_number format) rest (format_small format)
+
+no_fault : (format : IndexFormat) (front tail rest : List ℕ) (error : CidError) → front ++ tail ≡ format_code format ++ rest → read_varint front ≡ Err error → error ≢ End → ⊥
+no_fault format front tail rest error e fault other =
+    elim (varint_cut (format_number format) front tail rest (format_small format) (e ∙ ap (λ l. l ++ rest) (sym (format_is format)))) [
+      | inl w ↦ not_both (format_number format) w.0 error (read_varint front) (ap read_varint w.1 ∙ read_varint-varint_of (format_number format) w.0 (format_small format)) fault
       | inr end ↦ other (let same = sym fault ∙ end in cc)
     ]
 
-right_format : (bytes rest : List ℕ) (error : IndexError) → WrongFormat bytes error → bytes ≡ format_code ++ rest → ⊥
-right_format bytes rest error (format_ends all cut) e = not_both 0x0401 rest End (read_varint all) (format_known rest all e) cut
-right_format bytes rest error (format_not_shortest front tail fault) e = no_fault front tail rest VarintNotShortest e fault.error_is (λ same. cc)
-right_format bytes rest error (format_too_large front tail fault) e = no_fault front tail rest VarintTooLarge e fault.error_is (λ same. cc)
-right_format bytes rest error (other_format code front tail is other) e =
-    other (ap number_in (sym (varint_read code front tail (front ++ tail) is refl) ∙ format_known rest (front ++ tail) e))
+right_format : (format : IndexFormat) (bytes rest : List ℕ) (error : IndexError) → WrongFormat bytes error → bytes ≡ format_code format ++ rest → ⊥
+right_format format bytes rest error (format_ends all cut) e = not_both (format_number format) rest End (read_varint all) (format_known format rest all e) cut
+right_format format bytes rest error (format_not_shortest front tail fault) e = no_fault format front tail rest VarintNotShortest e fault.error_is (λ same. cc)
+right_format format bytes rest error (format_too_large front tail fault) e = no_fault format front tail rest VarintTooLarge e fault.error_is (λ same. cc)
+right_format format bytes rest error (other_format code front tail is other) e =
+    other format (ap number_in (sym (varint_read code front tail (front ++ tail) is refl) ∙ format_known format rest (front ++ tail) e))
 
-wrong_known : (bytes rest : List ℕ) (old : Option (List ℕ)) (error : IndexError) → old ≡ Some (format_code ++ rest) → Blames WrongFormat old error → IsOfReader error
-wrong_known bytes rest old Memory known b = tt
-wrong_known bytes rest old (Read failure) known b = b
-wrong_known bytes rest None error known b = absurd cc
-wrong_known bytes rest (Some xs) error known b = absurd (right_format xs rest error b cc)
+wrong_known : (format : IndexFormat) (bytes rest : List ℕ) (old : Option (List ℕ)) (error : IndexError) → old ≡ Some (format_code format ++ rest) → Blames WrongFormat old error → IsOfReader error
+wrong_known format bytes rest old Memory known b = tt
+wrong_known format bytes rest old (Read failure) known b = b
+wrong_known format bytes rest None error known b = absurd cc
+wrong_known format bytes rest (Some xs) error known b = absurd (right_format format xs rest error b cc)
 
 pub format_only : (old : Option (List ℕ)) (error : IndexError) → Blames WrongFormat old error → ReadsFormat old (Err error)
-format_only old error b = record { reads = λ rest known. wrong_known [] rest old error known b }
+format_only old error b = record { reads = λ format rest known. wrong_known format [] rest old error known b }

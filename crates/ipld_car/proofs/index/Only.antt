@@ -11,13 +11,15 @@ use Rattle.std.proofs.lemmas.Nat.{from_le_bytes-to_le_bytes_4, from_le_bytes-to_
 use Rattle.ipld_car.proofs.OnlyFramed.{same_front}
 use Rattle.ipld_cid.specs.Multihash.{HashParts}
 use Rattle.ipld_car.specs.Index.{row, rows, format_code}
-use Rattle.ipld_car.specs.IndexLayout.{IsOf, IsBucket, Parts, none, more, IsHash, IsIndex}
+use Rattle.ipld_car.specs.IndexLayout.{IsOf, IsBucket, Parts, none, more, IsHash, IsIndex, IsPart}
 use Rattle.ipld_car.specs.IndexNumbers.{le32, le64}
 use Rattle.ipld_car.specs.IndexOrder.{AreSorted, entry_cmp}
 use Rattle.ipld_car.specs.IndexReading.{AreInOrder, IsOfReader, IsRow, AreRows, ReadsPart, ReadsFormat}
 use Rattle.ipld_car.specs.IndexErrors.{EndsWithin, IsUnsorted}
 use Rattle.ipld_car.specs.declared.index.entry.IndexEntry.{IndexEntry}
 use Rattle.ipld_car.specs.declared.index.error.IndexError.{IndexError}
+use Rattle.ipld_car.specs.declared.index.format.IndexFormat.{IndexFormat}
+use Rattle.ipld_car.specs.declared.index.format.IndexFormat.TheVariants.{IndexSorted, MultihashIndexSorted}
 use Rattle.ipld_car.specs.declared.index.error.IndexError.TheVariants.{Memory, Read, UnexpectedEnd, FormatNotShortest, FormatTooLarge, Format, Width, Length, NotSorted}
 use Rattle.ipld_car.proofs.index.Taking.{state_of}
 
@@ -432,45 +434,67 @@ hash_read code count result old one two new before after p q low few r = record 
       (subst (λ n. Parts (IsBucket code) n h.buckets entries) (sym second.0) (subst (λ c. Parts (IsBucket c) h.count h.buckets entries) (sym first.0) h.parts)) s;
 }
 
-pub index_no_format : (error : IndexError) (old : Option (List ℕ)) (bytes rest : List ℕ) (entries : List IndexEntry) → ReadsFormat old (Err error) → old ≡ Some (bytes ++ rest)
-    → IsIndex bytes entries → IsOfReader error
-index_no_format error old bytes rest entries f known i = f.reads _ (two_known format_code (le32 i.count) i.hashes rest bytes old known i.encoded)
+format_len : (f g : IndexFormat) → length (format_code g) ≡ length (format_code f)
+unfolding format_code
+format_len IndexSorted IndexSorted = refl
+format_len IndexSorted MultihashIndexSorted = refl
+format_len MultihashIndexSorted IndexSorted = refl
+format_len MultihashIndexSorted MultihashIndexSorted = refl
 
-pub index_no_count : (error : IndexError) (old one : Option (List ℕ)) (bytes rest : List ℕ) (entries : List IndexEntry) → Consumes old one format_code → EndsWithin 4 one error
-    → old ≡ Some (bytes ++ rest) → IsIndex bytes entries → IsOfReader error
+format_same : (f g : IndexFormat) → format_code g ≡ format_code f → g ≡ f
+unfolding format_code
+format_same IndexSorted IndexSorted e = refl
+format_same IndexSorted MultihashIndexSorted e = let first = ap (λ (l : List ℕ). get_or l 0 0) e in absurd (omega arith)
+format_same MultihashIndexSorted IndexSorted e = let first = ap (λ (l : List ℕ). get_or l 0 0) e in absurd (omega arith)
+format_same MultihashIndexSorted MultihashIndexSorted e = refl
+
+pub index_no_format : (error : IndexError) (old : Option (List ℕ)) (format : IndexFormat) (bytes rest : List ℕ) (entries : List IndexEntry) → ReadsFormat old (Err error)
+    → old ≡ Some (bytes ++ rest) → IsIndex format bytes entries → IsOfReader error
+index_no_format error old format bytes rest entries f known i = f.reads format _ (two_known (format_code format) (le32 i.count) i.behind rest bytes old known i.encoded)
+
+-- the code of the format that the bytes have was taken
+index_format_taken : (f g : IndexFormat) (old one : Option (List ℕ)) (bytes rest : List ℕ) (entries : List IndexEntry) → Consumes old one (format_code g)
+    → old ≡ Some (bytes ++ rest) → (i : IsIndex f bytes entries) → (g ≡ f) × (one ≡ Some (le32 i.count ++ (i.behind ++ rest)))
+index_format_taken f g old one bytes rest entries p known i =
+    let first = front_taken (format_code f) (format_code g) _ old one (format_len f g) (two_known (format_code f) (le32 i.count) i.behind rest bytes old known i.encoded) p in
+    (format_same f g first.0, first.1)
+
+pub index_no_count : (error : IndexError) (read : IndexFormat) (old one : Option (List ℕ)) (format : IndexFormat) (bytes rest : List ℕ) (entries : List IndexEntry)
+    → Consumes old one (format_code read) → EndsWithin 4 one error → old ≡ Some (bytes ++ rest) → IsIndex format bytes entries → IsOfReader error
 unfolding le32
-index_no_count error old one bytes rest entries p ends known i =
-    let first = front_taken format_code format_code _ old one refl (two_known format_code (le32 i.count) i.hashes rest bytes old known i.encoded) p in
-    not_ended 4 (le32 i.count) _ one error first.1 (omega arith) ends
+index_no_count error read old one format bytes rest entries p ends known i =
+    not_ended 4 (le32 i.count) _ one error (index_format_taken format read old one bytes rest entries p known i).1 (omega arith) ends
 
 -- what is left where the format and a count were read
-record IndexFront (count : ℕ) (rest : List ℕ) (two : Option (List ℕ)) (entries : List IndexEntry) : Type 0 where
-  hashes : List ℕ
-  parts : Parts IsHash count hashes entries
-  left : two ≡ Some (hashes ++ rest)
+record IndexFront (read format : IndexFormat) (count : ℕ) (rest : List ℕ) (two : Option (List ℕ)) (entries : List IndexEntry) : Type 0 where
+  same : read ≡ format
+  behind : List ℕ
+  parts : Parts (IsPart read) count behind entries
+  left : two ≡ Some (behind ++ rest)
 
-index_front : (count : ℕ) (old one two : Option (List ℕ)) (bytes rest : List ℕ) (entries : List IndexEntry) → Consumes old one format_code → Consumes one two (le32 count)
-    → count < 2 ^ 32 → old ≡ Some (bytes ++ rest) → IsIndex bytes entries → IndexFront count rest two entries
-index_front count old one two bytes rest entries p q few known i =
-    let first = front_taken format_code format_code _ old one refl (two_known format_code (le32 i.count) i.hashes rest bytes old known i.encoded) p in
+index_front : (read : IndexFormat) (count : ℕ) (old one two : Option (List ℕ)) (format : IndexFormat) (bytes rest : List ℕ) (entries : List IndexEntry) → Consumes old one (format_code read)
+    → Consumes one two (le32 count) → count < 2 ^ 32 → old ≡ Some (bytes ++ rest) → IsIndex format bytes entries → IndexFront read format count rest two entries
+index_front read count old one two format bytes rest entries p q few known i =
+    let first = index_format_taken format read old one bytes rest entries p known i in
     let second = number32_taken i.count count _ one two i.in_range few first.1 q in record {
-      hashes = i.hashes;
-      parts = subst (λ n. Parts IsHash n i.hashes entries) (sym second.0) i.parts;
+      same = first.0;
+      behind = i.behind;
+      parts = subst (λ n. Parts (IsPart read) n i.behind entries) (sym second.0) (subst (λ (f : IndexFormat). Parts (IsPart f) i.count i.behind entries) (sym first.0) i.parts);
       left = second.1;
     }
 
-module _ (count : ℕ) (old one two new : Option (List ℕ)) (before after : List IndexEntry) (p : Consumes old one format_code) (q : Consumes one two (le32 count))
+module _ (read : IndexFormat) (count : ℕ) (old one two new : Option (List ℕ)) (before after : List IndexEntry) (p : Consumes old one (format_code read)) (q : Consumes one two (le32 count))
     (few : count < 2 ^ 32) (empty : before ≡ []) where
-  pub index_read : ReadsPart (Parts IsHash count) (state_of two before) (state_of new after) (Ok tt) → (bytes rest : List ℕ) (entries : List IndexEntry) → old ≡ Some (bytes ++ rest)
-      → IsIndex bytes entries → AreInOrder entries → after ≡ entries
-  index_read r bytes rest entries known i s =
-      let f = index_front count old one two bytes rest entries p q few known i in
+  pub index_read : ReadsPart (Parts (IsPart read) count) (state_of two before) (state_of new after) (Ok tt) → (format : IndexFormat) (bytes rest : List ℕ) (entries : List IndexEntry)
+      → old ≡ Some (bytes ++ rest) → IsIndex format bytes entries → AreInOrder entries → (read ≡ format) × (after ≡ entries)
+  index_read r format bytes rest entries known i s =
+      let f = index_front read count old one two format bytes rest entries p q few known i in
       let here : before ++ entries ≡ entries = ap (λ l. l ++ entries) empty in
-      (r.reads f.hashes rest entries f.left f.parts (subst AreInOrder (sym here) s)).1 ∙ here
+      (f.same, (r.reads f.behind rest entries f.left f.parts (subst AreInOrder (sym here) s)).1 ∙ here)
 
-  pub index_wrong : (error : IndexError) → ReadsPart (Parts IsHash count) (state_of two before) (state_of new after) (Err error) → (bytes rest : List ℕ) (entries : List IndexEntry)
-      → old ≡ Some (bytes ++ rest) → IsIndex bytes entries → AreInOrder entries → IsOfReader error
-  index_wrong error r bytes rest entries known i s =
-      let f = index_front count old one two bytes rest entries p q few known i in
+  pub index_wrong : (error : IndexError) → ReadsPart (Parts (IsPart read) count) (state_of two before) (state_of new after) (Err error) → (format : IndexFormat) (bytes rest : List ℕ)
+      (entries : List IndexEntry) → old ≡ Some (bytes ++ rest) → IsIndex format bytes entries → AreInOrder entries → IsOfReader error
+  index_wrong error r format bytes rest entries known i s =
+      let f = index_front read count old one two format bytes rest entries p q few known i in
       let here : before ++ entries ≡ entries = ap (λ l. l ++ entries) empty in
-      r.reads f.hashes rest entries f.left f.parts (subst AreInOrder (sym here) s)
+      r.reads f.behind rest entries f.left f.parts (subst AreInOrder (sym here) s)

@@ -9,12 +9,13 @@ use Rattle.std.proofs.lemmas.List.{length-append}
 use Rattle.std.proofs.lemmas.List.Elements.{All-append, All-cons}
 use Rattle.ipld_cid.specs.Multihash.{HashParts}
 use Rattle.ipld_car.specs.Index.{row, rows, format_code}
-use Rattle.ipld_car.specs.IndexLayout.{IsOf, IsBucket, Parts, none, more, IsHash}
+use Rattle.ipld_car.specs.IndexLayout.{IsOf, IsBucket, Parts, none, more, IsHash, IsPart}
 use Rattle.ipld_car.specs.IndexNumbers.{le32, le64}
 use Rattle.ipld_car.specs.IndexOrder.{AreSorted}
 use Rattle.ipld_car.specs.IndexReading.{IndexState, AreInOrder, TakesRow, TakesRows, TakesPart, TakesIndex}
 use Rattle.ipld_car.specs.declared.index.entry.IndexEntry.{IndexEntry}
 use Rattle.ipld_car.specs.declared.index.error.IndexError.{IndexError}
+use Rattle.ipld_car.specs.declared.index.format.IndexFormat.{IndexFormat}
 
 -- where reading an index is, by its parts
 abbrev pub state_of : Option (List ℕ) → List IndexEntry → IndexState
@@ -155,17 +156,17 @@ hash_taken code count old one two new before after p q low few t = record {
 pub ordered_none : (entries : List IndexEntry) → entries ≡ [] → AreInOrder entries
 ordered_none entries empty = subst AreInOrder (sym empty) (λ k d low high. absurd (omega arith), λ k d low. absurd (omega arith))
 
-pub index_taken : (count : ℕ) (old one two new : Option (List ℕ)) (before after : List IndexEntry) → Consumes old one format_code → Consumes one two (le32 count)
-    → count < 2 ^ 32 → before ≡ [] → TakesPart (Parts IsHash count) (state_of two before) (state_of new after) → TakesIndex old new after
-index_taken count old one two new before after p q few empty t = record {
-  bytes = format_code ++ le32 count ++ t.bytes;
+pub index_taken : (format : IndexFormat) (count : ℕ) (old one two new : Option (List ℕ)) (before after : List IndexEntry) → Consumes old one (format_code format) → Consumes one two (le32 count)
+    → count < 2 ^ 32 → before ≡ [] → TakesPart (Parts (IsPart format) count) (state_of two before) (state_of new after) → TakesIndex format old new after
+index_taken format count old one two new before after p q few empty t = record {
+  bytes = format_code format ++ le32 count ++ t.bytes;
   is_index = record {
     count = count;
-    hashes = t.bytes;
-    parts = subst (Parts IsHash count t.bytes) (sym (t.behind ∙ ap (λ es. es ++ t.entries) empty)) t.is_part;
+    behind = t.bytes;
+    parts = subst (Parts (IsPart format) count t.bytes) (sym (t.behind ∙ ap (λ es. es ++ t.entries) empty)) t.is_part;
     in_range = few;
     encoded = refl;
   };
-  consumed = two_before old one two new format_code (le32 count) t.bytes p q t.consumed;
+  consumed = two_before old one two new (format_code format) (le32 count) t.bytes p q t.consumed;
   sorted = (t.in_order (ordered_none before empty)).0;
 }

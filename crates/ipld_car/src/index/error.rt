@@ -18,7 +18,8 @@ pub enum IndexError {
     FormatNotShortest,
     /// The varint of its format encodes a number of 2^64 or more.
     FormatTooLarge,
-    /// The index has this format instead of MultihashIndexSorted, which is 0x401.
+    /// The index has the format with this code. It is not IndexSorted, which is 0x400, or
+    /// MultihashIndexSorted, which is 0x401.
     Format(u64),
     /// Its rows have this number of bytes. That is fewer than an offset has (8), or more than an
     /// offset and a digest of 64 bytes have (72).
@@ -47,7 +48,7 @@ impl fmt::Display for IndexError {
             IndexError::Format(code) => {
                 return write!(
                     f,
-                    "unsupported format of the index: expected 0x401, found 0x{code:x}"
+                    "unsupported format of the index: expected 0x400 or 0x401, found 0x{code:x}"
                 );
             }
             IndexError::Width(width) => {

@@ -3,15 +3,16 @@
 ghost use Rattle.std.specs.Prelude.{◌≡◌, ◌≤◌, ◌∷◌, ◌++◌, [], ℕ, List, Some, length, IfErr, IfOk, MatchResult, OnOk};
 ghost use Rattle.std.specs.Io.KnownBytes.{Consumes};
 ghost use Rattle.ipld_car.specs.Index.{format_code};
-ghost use Rattle.ipld_car.specs.IndexLayout.{IsBucket, Parts, IsHash, IsIndex};
+ghost use Rattle.ipld_car.specs.IndexLayout.{IsBucket, Parts, IsHash, IsIndex, IsPart};
 ghost use Rattle.ipld_car.specs.IndexNumbers.{le32, le64};
 ghost use Rattle.ipld_car.specs.IndexOrder.{AreSorted};
 ghost use Rattle.ipld_car.specs.IndexReading.{state, TakesRow, TakesRows, TakesPart, TakesIndex, IsOfReader, AreInOrder, IsRow, AreRows, ReadsPart, ReadsFormat, TakesCode};
-ghost use Rattle.ipld_car.specs.IndexErrors.{Blames, EndsWithin, IsUnsorted, FirstWrong, WrongRow, WrongBucket, WrongHash, WrongFormat, WrongIndex};
+ghost use Rattle.ipld_car.specs.IndexErrors.{Blames, EndsWithin, IsUnsorted, FirstWrong, WrongRow, WrongBucket, WrongHash, WrongPart, WrongFormat, WrongIndex};
 
 use crate::error::CarErrorKind;
 use crate::index::entry::IndexEntry;
 use crate::index::error::IndexError;
+use crate::index::format::{IndexFormat, NO_HASH_FUNCTION};
 use crate::length::error_at;
 use ipld_cid::Multihash;
 use std::alloc::Global;
@@ -22,8 +23,19 @@ const OFFSET_LEN: u32 = 8;
 
 const LONGEST_DIGEST: u32 = 64;
 
-// The code of MultihashIndexSorted.
-const FORMAT: u64 = 0x0401;
+// The codes of IndexSorted and of MultihashIndexSorted.
+const INDEX_SORTED: u64 = 0x0400;
+
+const MULTIHASH_INDEX_SORTED: u64 = 0x0401;
+
+/// An index that was read.
+#[derive(Debug, Drop)]
+pub struct StoredIndex {
+    /// The format.
+    pub format: IndexFormat,
+    /// The entries, sorted. In [`IndexFormat::IndexSorted`] the code of each hash is 0.
+    pub entries: Vec<IndexEntry>,
+}
 
 // The number of 32 bits that bytes encode, the lowest byte first.
 fn u32_from_le(bytes: [u8; 4]) -> u32
@@ -119,19 +131,20 @@ fn read_code<R: Read>(reader: &mut R) -> Result<u64, IndexError>
     unreachable!()
 }
 
-// Reads the code of the format, which has to be that of MultihashIndexSorted.
+// Reads the code of the format.
 #[tactic(auto, using(crate::proofs::index::Formats::format_taken, crate::proofs::index::Formats::format_other, crate::proofs::index::Formats::format_only))]
-fn read_format<R: Read>(reader: &mut R) -> Result<(), IndexError>
-    ensures takes { OnOk result
-        (Consumes (R.remaining reader.old) (R.remaining reader.new) format_code) }
+fn read_format<R: Read>(reader: &mut R) -> Result<IndexFormat, IndexError>
+    ensures takes { IfOk result (λ format.
+        Consumes (R.remaining reader.old) (R.remaining reader.new) (format_code format)) }
     ensures only { ReadsFormat (R.remaining reader.old) result }
     ensures wrong { IfErr result (Blames WrongFormat (R.remaining reader.old)) }
 {
     let code = read_code(reader)?;
-    if code != FORMAT {
-        return Err(IndexError::Format(code));
+    match code {
+        INDEX_SORTED => Ok(IndexFormat::IndexSorted),
+        MULTIHASH_INDEX_SORTED => Ok(IndexFormat::MultihashIndexSorted),
+        _ => Err(IndexError::Format(code)),
     }
-    Ok(())
 }
 
 // Appends an entry if it comes in order.
@@ -307,9 +320,34 @@ fn read_hashes<R: Read>(
     Ok(())
 }
 
-/// Reads an index in the format MultihashIndexSorted (CARv2, "Index format", code 0x0401), and
-/// returns its entries in their order. It reads the index and nothing after it. Its time and memory
-/// grow with the number of bytes that there are.
+// Reads the `count` parts of an index in this format: hash functions or, without them, lengths of
+// digests.
+fn read_parts<R: Read>(
+    reader: &mut R,
+    format: IndexFormat,
+    count: u32,
+    entries: &mut Vec<IndexEntry>,
+) -> Result<(), IndexError>
+    ensures takes { OnOk result (TakesPart (Parts (IsPart format) count)
+        (state R.remaining reader.old entries.old.items)
+        (state R.remaining reader.new entries.new.items)) }
+    ensures only { ReadsPart (Parts (IsPart format) count)
+        (state R.remaining reader.old entries.old.items)
+        (state R.remaining reader.new entries.new.items) result }
+    ensures wrong { IfErr result (λ error. AreInOrder entries.old.items
+        → Blames
+        (FirstWrong (Parts (IsPart format)) (WrongPart format) count entries.old.items)
+        (R.remaining reader.old) error) }
+{
+    match format {
+        IndexFormat::IndexSorted => read_buckets(reader, NO_HASH_FUNCTION, count, entries),
+        IndexFormat::MultihashIndexSorted => read_hashes(reader, count, entries),
+    }
+}
+
+/// Reads an index in the format IndexSorted or MultihashIndexSorted (CARv2, "Index format", codes
+/// 0x0400 and 0x0401), and returns its entries in their order. It reads the index and nothing after
+/// it. Its time and memory grow with the number of bytes that there are.
 ///
 /// # Errors
 ///
@@ -322,20 +360,21 @@ fn read_hashes<R: Read>(
 /// - `Read` if the reader fails in another way. A read that was interrupted is tried again.
 ///
 /// It is not specified how much of the reader was read after an error.
-#[tactic(auto, using(crate::proofs::index::Taking::index_taken, crate::proofs::index::Only::index_no_format, crate::proofs::index::Only::index_no_count, crate::proofs::index::Blaming::index_format, crate::proofs::index::Blaming::hashes_cut, crate::proofs::index::Blaming::index_blames))]
-pub fn read_index<R: Read>(alloc: Global, reader: &mut R) -> Result<Vec<IndexEntry>, IndexError>
-    ensures takes { IfOk result (λ entries.
-        TakesIndex (R.remaining reader.old) (R.remaining reader.new) entries.items) }
-    ensures only { (bytes rest : List ℕ) (entries : List IndexEntry)
+#[tactic(auto, using(crate::proofs::index::Taking::index_taken, crate::proofs::index::Only::index_no_format, crate::proofs::index::Only::index_no_count, crate::proofs::index::Blaming::index_format, crate::proofs::index::Blaming::count_cut_short, crate::proofs::index::Blaming::index_blames))]
+pub fn read_index<R: Read>(alloc: Global, reader: &mut R) -> Result<StoredIndex, IndexError>
+    ensures takes { IfOk result (λ index. TakesIndex index.format
+        (R.remaining reader.old) (R.remaining reader.new) index.entries.items) }
+    ensures only { (format : IndexFormat) (bytes rest : List ℕ) (entries : List IndexEntry)
         → R.remaining reader.old ≡ Some (bytes ++ rest)
-        → IsIndex bytes entries
+        → IsIndex format bytes entries
         → AreInOrder entries
-        → MatchResult result (λ read. read.items ≡ entries) IsOfReader }
+        → MatchResult result
+        (λ index. (index.format ≡ format) × (index.entries.items ≡ entries)) IsOfReader }
     ensures wrong { IfErr result (Blames WrongIndex (R.remaining reader.old)) }
 {
-    read_format(reader)?;
+    let format = read_format(reader)?;
     let count = read_u32(reader)?;
     let mut entries = Vec::new(alloc);
-    read_hashes(reader, count, &mut entries)?;
-    Ok(entries)
+    read_parts(reader, format, count, &mut entries)?;
+    Ok(StoredIndex { format, entries })
 }

@@ -4,6 +4,7 @@ ghost use Rattle.std.specs.Prelude.{◌≡◌, OnOk};
 ghost use Rattle.std.specs.Io.KnownBytes.{Appends};
 ghost use Rattle.ipld_car.specs.Index.{row, rows, bucket_bytes, buckets_bytes, format_code, hash_bytes, hashes_bytes, index_bytes};
 ghost use Rattle.ipld_car.specs.IndexNumbers.{le32};
+ghost use Rattle.ipld_car.specs.declared.index.format.IndexFormat.TheVariants.{MultihashIndexSorted};
 
 use crate::index::entry::IndexEntry;
 use crate::index::numbers::{write_u32, write_u64};
@@ -15,7 +16,8 @@ const FORMAT: [u8; 2] = [0x81, 0x08];
 
 #[tactic(auto, unfolding(crate::specs::Index::format_code))]
 fn write_format<W: Write>(writer: &mut W) -> io::Result<()>
-    ensures { OnOk result (Appends (W.contents writer.old) (W.contents writer.new) format_code) }
+    ensures { OnOk result (Appends (W.contents writer.old) (W.contents writer.new)
+        (format_code MultihashIndexSorted)) }
 {
     writer.write_all(&FORMAT)?;
     Ok(())
