@@ -1,11 +1,16 @@
 """Tests of `ipld car extract`."""
 
 import errno
+import os
+import pty
+import subprocess
+import time
 
 from .blocks import CAR, NODE, PART, TOP
 from .folders import OutputTest, small_files
 from .formats import car
-from .rows import ERROR, Row, car_extract, fails, outputs, system_error
+from .program import SECONDS_FOR_A_RUN
+from .rows import DONE, ERROR, Row, car_extract, fails, outputs, system_error
 from .rows.outputs import EXTRACT_FILES, IS_INPUT, NEW
 
 
@@ -51,3 +56,26 @@ class ExtractTest(OutputTest):
             {},
             self.new_folder({**EXTRACT_FILES, str(PART.cid): CAR}),
         )
+
+    def test_progress_on_a_terminal(self):
+        folder = self.new_folder({})
+        os.mkfifo(folder / "slow.car")
+        leader, follower = pty.openpty()
+        with subprocess.Popen(
+            [self.program, *"car extract --all -d dir slow.car".split()],
+            cwd=folder,
+            env={},
+            stdin=subprocess.DEVNULL,
+            stderr=follower,
+        ) as running:
+            os.close(follower)
+            with open(folder / "slow.car", "wb", buffering=0) as slow:
+                slow.write(CAR[:-1])
+                # A line is due after a second.
+                time.sleep(1.5)
+                slow.write(CAR[-1:])
+            self.assertEqual(running.wait(SECONDS_FOR_A_RUN), DONE)
+        with open(leader, "rb", buffering=0) as terminal:
+            self.assertEqual(
+                terminal.read(1000).decode(), f"ipld: slow.car: {len(CAR)} bytes read\r\n"
+            )
