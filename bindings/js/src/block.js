@@ -157,6 +157,17 @@ const LONG = 65536
  */
 const SHORT = 4
 
+/** The object from which maps inherit, and which can have setters and read-only properties. */
+const INHERITED = Object.prototype
+const { getOwnPropertyNames } = Object
+const hasOwn = Function.prototype.call.bind(INHERITED.hasOwnProperty)
+
+/**
+ * The maximum number of keys that are looked up in INHERITED one by one. For more keys, listing the
+ * names of INHERITED, which takes a microsecond, is faster.
+ */
+const FEW_KEYS = 64
+
 /** Returns the value field of an entry, as a BigInt if it is not a safe integer. */
 export function integer ({ words, longs }, at) {
   const high = words[at + 3] >>> 0
@@ -183,6 +194,10 @@ class Builder {
     this.block = core.room
     this.texts = new Texts(core.bytes, core.room + length)
     this.calls = 0
+    this.keys = 0
+    // The lengths and the first letters of the names in INHERITED, modulo 32, as bits.
+    this.lengths = 0
+    this.letters = 0
   }
 
   /**
@@ -249,15 +264,30 @@ class Builder {
   map (count) {
     this.calls++
     const map = {}
+    this.keys += count
+    const isFew = this.keys <= FEW_KEYS
+    if (!isFew && this.lengths === 0) this.listInherited()
     for (let each = 0; each < count; each++) {
       const key = this.key()
       const value = this.value()
-      if (key === '__proto__') put(map, key, value)
+      if ((isFew || this.mayInherit(key)) && hasOwn(INHERITED, key)) define(map, key, value)
       else map[key] = value
     }
     this.calls--
     return map
   }
+
+  /** Sets the bits of all names in INHERITED. */
+  listInherited () {
+    const names = getOwnPropertyNames(INHERITED)
+    for (let at = 0; at < names.length; at++) {
+      this.lengths |= 1 << names[at].length
+      this.letters |= 1 << names[at].charCodeAt(0)
+    }
+  }
+
+  /** Returns false only if no name in INHERITED has the length and the first letter of the key. */
+  mayInherit (key) { return (this.lengths >>> key.length & this.letters >>> key.charCodeAt(0) & 1) !== 0 }
 
   key () {
     const { words, at } = this
@@ -290,7 +320,7 @@ class Builder {
       if (opens) this.at += 4
       const value = opens ? (kind === 9 ? [] : {}) : this.value()
       left--
-      if (isMap) put(parent, key, value)
+      if (isMap) define(parent, key, value)
       else if (parent !== undefined) parent.push(value)
       if (opens) {
         parents.push(parent, isMap, left)
@@ -304,12 +334,11 @@ class Builder {
 }
 
 /**
- * Sets a property of the object. If the key is `__proto__`, defines an own property instead of
- * setting the prototype.
+ * Defines an own property. Unlike an assignment, this calls no inherited setter, and also works if
+ * an inherited property is read-only.
  */
-function put (object, key, value) {
-  if (key === '__proto__') Object.defineProperty(object, key, { value, writable: true, enumerable: true, configurable: true })
-  else object[key] = value
+function define (object, key, value) {
+  Object.defineProperty(object, key, { value, writable: true, enumerable: true, configurable: true })
 }
 
 function valueOf (core, first, count, length) {

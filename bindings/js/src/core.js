@@ -155,9 +155,8 @@ function keep (core) { if (core.bound === bound) instance = core }
 
 /**
  * Calls `work` with the core, and returns its result. Throws TRAP after a trap or a RangeError, and
- * drops the instance, so that no later call uses it. A setter of Object.prototype can make a call
- * while a map is built. That call uses another instance, so the memory of the first call doesn't
- * change.
+ * drops the instance, so that no later call uses it. A call that begins during `work` uses another
+ * instance, so the memory of this one doesn't change.
  */
 export function run (work, a, b, c, d) {
   const core = instance ?? new Core()

@@ -267,6 +267,36 @@ describe('values', needsTape, () => {
     assert.equal(toHex(encode(Object.assign(Object.create(null), { a: 1 }))), 'a1616101')
   })
 
+  test('have keys that are own properties, whatever Object.prototype has', () => {
+    // Few keys and many keys, and maps that nest too deeply for recursive calls.
+    const names = ['toString', 'hostile', '', '7', 'constructor', '__proto__', '__defineGetter__', 'é', 'x'.repeat(40)]
+    const few = encode(new Map(names.map((name) => [name, 1])))
+    const many = encode(new Map([...names, ...Array.from({ length: 200 }, (_, at) => `key ${at}`)].map((name) => [name, 1])))
+    const deep = Buffer.concat([Buffer.alloc(300, 0x81), few])
+    const inside = (value) => Array.isArray(value) ? inside(value[0]) : value
+    let calls = 0
+    const added = names.filter((name) => !(name in Object.prototype))
+    for (const name of added) Object.defineProperty(Object.prototype, name, { configurable: true, get () { calls++; return undefined }, set () { calls++ } })
+    const usual = Object.getOwnPropertyDescriptor(Object.prototype, 'toString')
+    let made
+    try {
+      Object.defineProperty(Object.prototype, 'toString', { writable: false })
+      made = [few, many, few].map((block) => decode(block))
+      // The list in which the outer lists are kept has an item 7.
+      delete Object.prototype[7]
+      made.push(inside(decode(deep)))
+    } finally {
+      Object.defineProperty(Object.prototype, 'toString', usual)
+      for (const name of added) delete Object.prototype[name]
+    }
+    assert.equal(calls, 0)
+    for (const map of made) {
+      assert.ok(names.every((name) => Object.getOwnPropertyDescriptor(map, name).value === 1))
+      assert.equal(Object.getPrototypeOf(map), Object.prototype)
+    }
+    assert.deepEqual(made.map((map) => Object.keys(map).length), [9, 209, 9, 9])
+  })
+
   test('outside the data model are rejected', () => {
     for (const value of [undefined, () => 1, Symbol('a'), [undefined], { a: undefined }, new Date(), new Map([[1, 2]]), new Set(), /a/]) fails(() => encode(value), 'ENCODE_UNSUPPORTED')
     for (const value of [NaN, Infinity, -Infinity, 2n ** 64n, -(2n ** 64n) - 1n]) fails(() => encode(value), 'ENCODE_NUMBER')
@@ -772,23 +802,22 @@ describe('hostile inputs', needsTape, () => {
 
   test('that make another call do not change the first call', () => {
     const secret = encode([SECRET.repeat(100), { a: SECRET.repeat(9) }])
-    Object.defineProperty(Object.prototype, 'hostile', { configurable: true, get: () => undefined, set () { decode(secret); encode(SECRET.repeat(100)); CID.parse(EMPTY_RAW) } })
+    // A setter of Array.prototype can make a call while a long list is built.
+    Object.defineProperty(Array.prototype, '4', { configurable: true, get: () => undefined, set () { decode(secret); encode(SECRET.repeat(100)); CID.parse(EMPTY_RAW) } })
     let made
     try {
-      made = decode(hex('84' + 'a167686f7374696c6501' + '43010203' + '6161' + '81d82a450001550000'))
+      made = decode(hex('88' + '01020304' + '05' + '43010203' + '6161' + '81d82a450001550000'))
     } finally {
-      delete Object.prototype.hostile
+      delete Array.prototype[4]
     }
     assert.ok(!tells(made))
-    assert.deepEqual(made, [{}, hex('010203'), 'a', [CID.parse('bafkqaaa')]])
+    assert.deepEqual([made.length, ...made.slice(5)], [8, hex('010203'), 'a', [CID.parse('bafkqaaa')]])
     assert.equal(toHex(encode([{ get a () { return encode(SECRET.repeat(100)).length } }, { get b () { return 2 } }])), '82a161611902bfa1616202')
     // A limit that is set during a call applies to the next call.
-    Object.defineProperty(Object.prototype, 'hostile', { configurable: true, get: () => undefined, set () { setMemoryLimit(4 << 20) } })
     try {
-      decode(hex('a167686f7374696c6501'))
+      core.run(() => setMemoryLimit(4 << 20))
       fails(() => check(new Uint8Array(4 << 20)), 'NO_MEMORY')
     } finally {
-      delete Object.prototype.hostile
       setMemoryLimit(0xffff0000)
     }
   })
