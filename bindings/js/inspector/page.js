@@ -2,16 +2,24 @@
 import { showTree } from './tree.js'
 import { showBytes } from './hex.js'
 import { showGraph } from './graph.js'
+import { LONGEST_COPY, copyText, save } from './copy.js'
 
 const ROWS = 100
+const TOLD = 4000 // the number of milliseconds for which the page shows what it has done
+const LATER = 150 // the number of milliseconds after which DAG-JSON follows the chosen value
+const LONGEST_HEX = 1 << 20 // the maximum number of bytes that are copied as hexadecimal digits
+const CODECS = { 0x71: 'DAG-CBOR', 0x0129: 'DAG-JSON', 0x70: 'DAG-PB', 0x55: 'raw' }
+const EXTENSIONS = { ...CODECS, 0x71: 'cbor', 0x0129: 'json', 0x70: 'pb', 0x55: 'bin' }
 const element = (id) => document.getElementById(id)
 const number = new Intl.NumberFormat('en')
 const worker = new Worker(new URL('./worker.js', import.meta.url), { type: 'module' })
 
+/** The number of the last file that was read, by which the answers of earlier ones are dropped. */
 let turn = 0
 let from = 0
 let counts = {}
-const visited = []
+/** The block that is shown. */
+let shown
 
 /** Creates an element with these properties and children. */
 export function make (name, properties = {}, ...children) {
@@ -28,26 +36,200 @@ function definition (list, rows) {
   list.replaceChildren(...rows.flatMap(([term, ...content]) => [make('dt', { textContent: term }), make('dd', {}, ...content)]))
 }
 
+// ---- Requests to the worker that have one answer
+
+const waiting = new Map()
+let requests = 0
+
+function request (message) {
+  return new Promise((resolve) => {
+    waiting.set(++requests, resolve)
+    ask({ ...message, id: requests })
+  })
+}
+
+// ---- What is copied and saved
+
+let telling
+
+/** Shows for a few seconds what the page has done. */
+function tell (text) {
+  element('told').textContent = text
+  clearTimeout(telling)
+  telling = setTimeout(() => { element('told').textContent = '' }, TOLD)
+}
+
+async function copy (text, what) {
+  tell(await copyText(text) ? `Copied ${what}.` : 'The browser does not allow this page to copy.')
+}
+
+/** Copies the content of a Blob, unless it is too long. */
+async function copyBlob (blob, what) {
+  if (blob.size > LONGEST_COPY) tell(`${number.format(blob.size)} bytes are too long to copy. You can save them.`)
+  else copy(await blob.text(), what)
+}
+
+function saveAs (blob, name) {
+  save(blob, name)
+  tell(`Saved ${name}.`)
+}
+
+const tellError = ({ code, message }) => tell(`${code}: ${message}.`)
+
+element('copy-cid').addEventListener('click', () => copy(shown.cid.text, 'the CID'))
+element('save-block').addEventListener('click', () => {
+  const { file } = files.get(current)
+  saveAs(file.slice(shown.offset, shown.offset + shown.length), `${shown.cid.text}.${EXTENSIONS[shown.code] ?? 'bin'}`)
+})
+element('copy-hex').addEventListener('click', () => {
+  const [begins, length] = shown.marked[1] ? shown.marked : [0, shown.length]
+  if (length > LONGEST_HEX) return tell(`${number.format(length)} bytes are too long to copy. You can save the block.`)
+  copy(Array.from(shown.bytes.subarray(begins, begins + length), (byte) => byte.toString(16).padStart(2, '0')).join(''), `${number.format(length)} ${length === 1 ? 'byte' : 'bytes'} in hexadecimal`)
+})
+for (const id of ['copy-cids', 'save-cids']) {
+  element(id).addEventListener('click', async () => {
+    const which = element('which').value
+    const { blob, error } = await request({ type: 'cids', which })
+    if (error) tellError(error)
+    else if (id === 'save-cids') saveAs(blob, `${which}-cids.txt`)
+    else copyBlob(blob, `${number.format(counts[which])} ${counts[which] === 1 ? 'CID' : 'CIDs'}`)
+  })
+}
+for (const id of ['copy-json', 'save-json']) {
+  element(id).addEventListener('click', async () => {
+    const { index, cid, path, range } = shown
+    const { blob, error } = await request({ type: 'json', index, range: range(), isWhole: true })
+    if (error) tellError(error)
+    else if (id === 'copy-json') copyBlob(blob, 'the DAG-JSON')
+    else saveAs(blob, path.length ? `${cid.text}-part.json` : `${cid.text}.json`)
+  })
+}
+
+let jsonTimer
+let isAsking = false
+
+/** Shows the DAG-JSON of the chosen value. At most one request is on its way to the worker. */
+async function showJson () {
+  if (!shown?.hasJson || !element('json').open) return
+  if (isAsking) return soonJson()
+  isAsking = true
+  const { index, path, range, turn: asked } = shown
+  const { text, length, error } = await request({ type: 'json', index, range: range(), isWhole: false })
+  isAsking = false
+  if (shown?.index !== index || shown.turn !== asked || shown.path !== path) return
+  const of = path.length ? `The value at ${shorten(path.join('/'))}` : 'The block'
+  element('json-said').textContent = error ? of : length > text.length ? `${of}: the first ${number.format(text.length)} of ${number.format(length)} characters` : `${of}: ${number.format(length)} ${length === 1 ? 'character' : 'characters'}`
+  const pre = element('json-text')
+  pre.replaceChildren(error ? make('span', { className: 'wrong', textContent: `${error.code}: ${error.message}.` }) : text)
+  pre.scrollTop = 0
+  for (const id of ['copy-json', 'save-json']) element(id).disabled = error !== undefined
+}
+
+function soonJson () {
+  clearTimeout(jsonTimer)
+  jsonTimer = setTimeout(showJson, LATER)
+}
+
+const shorten = (text) => text.length > 100 ? `${text.slice(0, 100)}…` : text
+
+element('json').addEventListener('toggle', showJson)
+
+// ---- The history of the browser
+
+/** Identifies this document, since the entries of the history outlive it. */
+const session = String(performance.timeOrigin)
+/** The files that were opened, by number, and the number of the open file. */
+const files = new Map()
+let current = 0
+/** The element that opened a block, which gets the focus when the user comes back. */
+let opener
+
+const depth = () => history.state?.depth ?? 0
+const fragment = () => location.hash.slice(1)
+
+/** Returns the address of this page with a fragment, or without one. */
+const address = (name) => `${location.pathname}${location.search}${name ? `#${name}` : ''}`
+
+/** Writes an entry for what is shown: a new one, or in place of the last one. */
+function enter (isNew, name, more) {
+  const state = { session, file: current, depth: isNew ? depth() + 1 : depth(), ...more }
+  if (isNew) history.pushState(state, '', address(name))
+  else history.replaceState(state, '', address(name))
+}
+
+/** Shows what the entry of the history names. */
+function restore () {
+  const { session: from, file } = history.state ?? {}
+  if (from === session && file !== current && files.has(file)) return read(file)
+  if (fragment()) ask({ type: 'find', text: fragment(), view: { entry: 'kept', mark: history.state?.mark } })
+  else showSummary()
+}
+
+// While a file is read, `showWanted` waits for its end.
+addEventListener('popstate', () => { if (element('reading').hidden) restore() })
+
+/** Shows the file without a block. */
+function showSummary () {
+  show('block', false)
+  show('cid', false)
+  shown = undefined
+  entitle()
+  if (opener?.isConnected) opener.focus()
+  else if (!element('summary').hidden) element('summary-title').focus()
+}
+
+/** Sets the title of the page, which the history of the browser shows. */
+function entitle () {
+  const name = files.get(current)?.file.name
+  document.title = [shown && shorten(shown.cid.text), name, 'Kombilad inspector'].filter((it) => it).join(' - ')
+}
+
 // ---- Opening
 
-function open (chosen) {
-  if (!chosen) return
+/** Opens a file that the user has chosen. */
+function open (file) {
+  if (!file) return
+  const isFirst = current === 0
+  current = files.size + 1
+  files.set(current, { file })
+  // A link names the block to show in the first file.
+  if (isFirst) enter(false, location.hash.slice(1), { mark: history.state?.mark })
+  else enter(true, '', { depth: 0 })
+  read(current)
+}
+
+/** Reads a file that was opened. */
+function read (id) {
+  const { file } = files.get(id)
+  current = id
   turn++
-  visited.length = 0
-  for (const id of ['summary', 'graph', 'blocks', 'block', 'cid']) show(id, false)
-  element('failure').replaceChildren()
+  shown = opener = undefined
+  for (const each of ['choice', 'summary', 'graph', 'blocks', 'block', 'cid', 'found', 'stop']) show(each, false)
+  for (const each of ['failure', 'found-said']) element(each).replaceChildren()
+  element('sought').value = ''
   element('progress').removeAttribute('value')
   element('read').textContent = ''
   show('reading', true)
-  say(`Reading ${chosen.name}.`)
-  document.title = `${chosen.name} - Kombilad inspector`
-  ask({ type: 'open', file: chosen, turn })
+  say(`Reading ${file.name}.`)
+  entitle()
+  ask({ type: 'open', file, turn, wanted: fragment() || undefined })
 }
 
-element('file').addEventListener('change', ({ target }) => {
-  open(target.files[0])
-  target.value = ''
-})
+/** Shows the block that the history names, after the file is read. */
+function showWanted () {
+  if (fragment()) restore()
+}
+
+/** Opens the file that the browser has kept, or shows what the address names. */
+function begin () {
+  const [kept] = element('file').files
+  if (kept && current === 0) open(kept)
+  else if (fragment() && current === 0) restore()
+}
+
+// The input keeps its file, which a browser can restore when the user comes back to the page.
+element('file').addEventListener('change', ({ target }) => open(target.files[0]))
+element('file').addEventListener('click', ({ target }) => { target.value = '' })
 addEventListener('dragover', (event) => {
   event.preventDefault()
   document.body.classList.add('over')
@@ -56,13 +238,64 @@ addEventListener('dragleave', () => document.body.classList.remove('over'))
 addEventListener('drop', (event) => {
   event.preventDefault()
   document.body.classList.remove('over')
-  open(event.dataTransfer.files[0])
+  const { files: dropped } = event.dataTransfer
+  if (dropped.length === 0) return
+  element('file').files = dropped
+  open(dropped[0])
 })
 element('open').addEventListener('submit', (event) => {
   event.preventDefault()
   const text = element('text').value.trim()
   if (text) ask({ type: 'cid', text })
 })
+element('cid-close').addEventListener('click', () => {
+  show('cid', false)
+  if (asker?.isConnected && !asker.closest('[hidden]')) asker.focus()
+  else element('text').focus()
+})
+
+// ---- The choice of a codec
+
+const choose = (code, entry) => ask({ type: 'codec', code, view: { entry, keepsFocus: entry === 'new' } })
+
+element('codec').append(...[0x71, 0x0129, 0x70, 0x55].map((value) => make('option', { value, textContent: CODECS[value] })))
+element('codec').addEventListener('change', ({ target }) => choose(Number(target.value), 'new'))
+
+// ---- Search
+
+let searches = 0
+
+element('search').addEventListener('submit', (event) => {
+  event.preventDefault()
+  const text = element('sought').value.trim()
+  if (!text) return
+  show('found', false)
+  element('found').replaceChildren()
+  show('stop', true)
+  element('found-said').textContent = 'Searching.'
+  ask({ type: 'search', text, number: ++searches })
+})
+element('stop').addEventListener('click', () => {
+  ask({ type: 'stop' })
+  element('sought').focus()
+})
+
+function showFound ({ hits, done, all, isFull }) {
+  const count = number.format(hits.length)
+  show('stop', false)
+  show('found', hits.length > 0)
+  element('found-said').textContent = isFull ? `The first ${count} hits. The rest of the file is not searched.`
+    : `${hits.length ? count : 'No'} ${hits.length === 1 ? 'hit' : 'hits'}${done < all ? `, up to byte ${number.format(done)} of ${number.format(all)}` : ''}.`
+  const list = element('found')
+  list.scrollTop = 0
+  list.replaceChildren(...hits.map(({ text, index, at, length, snippet }) => {
+    const line = make('li', {}, linkTo({ text, index, mark: at === undefined ? undefined : [at, length] }))
+    if (at === undefined) return line.append(make('span', { className: 'faint', textContent: 'its CID' })), line
+    const [before, match, after] = snippet
+    line.append(make('span', { className: 'faint', textContent: `byte ${number.format(at)}` }), make('bdi', { className: 'snippet' }, before, make('mark', { textContent: match }), after))
+    return line
+  }))
+}
 
 // ---- Lists of blocks
 
@@ -79,20 +312,34 @@ const WHICH = {
  * Creates a link that opens a block, or shows the parts of the CID if the file doesn't have its
  * block.
  */
-function linkTo ({ text, index }) {
+function linkTo ({ text, index, mark }) {
   const button = make('button', { type: 'button', className: 'link', textContent: text })
   if (index === undefined) {
     button.title = 'Its block is not in the file'
-    button.addEventListener('click', () => ask({ type: 'cid', text }))
+    button.addEventListener('click', () => askParts(text, button))
   } else {
-    button.addEventListener('click', () => visit(index))
+    button.addEventListener('click', () => visit(index, mark, button))
   }
   return button
 }
 
-function visit (index) {
-  visited.push(index)
-  ask({ type: 'block', index })
+/**
+ * Opens a block, with a new entry of the history. `mark` is the offset and length of a hit. `by` is
+ * the element that opens it. Browsers don't focus each button that is clicked.
+ */
+function visit (index, mark, by = document.activeElement) {
+  if (!shown) opener = by
+  ask({ type: 'block', index, view: { entry: 'new', mark } })
+}
+
+/** The element that asked for the parts of a CID, which gets the focus when these are closed. */
+let asker
+
+/** Shows the parts of a CID that is not in the field. */
+function askParts (text, by = document.activeElement) {
+  asker = by
+  element('text').value = text
+  ask({ type: 'cid', text, more: { takesFocus: true } })
 }
 
 /** Shows the beginning of the list that `which` names. */
@@ -151,57 +398,85 @@ function showFailure ({ what, error, bytes }) {
 
 // ---- Parts of a CID
 
+/** Creates the value of a part, with a button that copies it. */
+function part (text, what) {
+  return [make('span', { textContent: text }), ' ', make('button', { type: 'button', className: 'small', textContent: 'Copy', ariaLabel: `Copy ${what}`, onclick: () => copy(text, what) })]
+}
+
+/** Shows the parts of a CID in a list of definitions. */
+function showParts (parts, cid, index) {
+  const rows = [['version', String(cid.version)], ['codec', cid.codec], ['hash', cid.hash], ['digest', `${cid.digest || 'none'} (${cid.size} bytes)`], ['bytes', ...part(cid.bytes, 'the bytes of the CID')], ...cid.texts.map(([name, text]) => [name, ...part(text, `the CID, ${name}`)])]
+  if (index !== undefined) rows.push(['block', linkTo({ text: 'open it', index })])
+  definition(parts, rows)
+}
+
+/** Shows the parts of a CID, or the error of the text, below the field for it. */
 function showCid ({ cid, index, error, text }) {
   show('cid', true)
-  element('cid-title').textContent = error ? 'No CID' : 'CID'
+  element('cid-title').textContent = error ? 'Not a CID' : 'CID'
   const parts = element('parts')
-  if (error) {
-    const rows = [['text', text], ['error', make('span', { className: 'wrong', textContent: `${error.code}: ${error.message}` })]]
-    if (error.offset !== undefined) rows.push(['at', make('span', {}, text.slice(0, error.offset), make('mark', { className: 'at', textContent: text[error.offset] ?? '␃' }), text.slice(error.offset + 1))])
-    return definition(parts, rows)
-  }
-  const rows = [['version', String(cid.version)], ['codec', cid.codec], ['hash', cid.hash], ['digest', `${cid.digest || 'none'} (${cid.size} bytes)`], ['bytes', cid.bytes], ...cid.texts]
-  if (index !== undefined) rows.push(['block', linkTo({ text: 'open it', index })])
+  if (!error) return showParts(parts, cid, index)
+  const rows = [['text', text], ['error', make('span', { className: 'wrong', textContent: `${error.code}: ${error.message}` })]]
+  if (error.offset !== undefined) rows.push(['at', make('span', {}, text.slice(0, error.offset), make('mark', { className: 'at', textContent: text[error.offset] ?? '␃' }), text.slice(error.offset + 1))])
   definition(parts, rows)
 }
 
 // ---- A block
 
 function showBlock (block) {
+  const { view = {}, bytes, cid } = block
+  shown = { ...block, length: bytes.length, path: [], range: () => [], marked: view.mark ?? [0, 0] }
+  const name = block.isFirst ? cid.text : `${cid.text}@${block.offset}`
+  if (view.entry === 'kept' && fragment() && fragment() !== name) say(`The block ${fragment()} is not in this file.`)
+  enter(view.entry === 'new', name, { mark: view.mark })
+  entitle()
   show('block', true)
-  show('back', visited.length > 1)
+  show('cid', false)
+  show('back', depth() > 0)
   const where = element('where')
-  const [name, said] = block.own
+  const [kind, said] = block.own
     ? ['faint', 'of which this CID is made']
     : block.right === undefined
       ? ['wrong', 'its hash function is not known here']
       : block.right ? ['right', 'its digest is right'] : ['wrong', 'its digest is wrong']
-  const digest = make('span', { className: name, textContent: said })
-  where.replaceChildren(make('span', { className: 'mono', textContent: block.cid.text }), ` ${number.format(block.bytes.length)} bytes, `, digest)
+  const digest = make('span', { className: kind, textContent: said })
+  where.replaceChildren(make('span', { className: 'mono', textContent: cid.text }), ` ${number.format(bytes.length)} bytes, `, digest)
   if (block.canonical === false) where.append(', ', make('span', { className: 'wrong', textContent: 'keys out of order' }))
   const error = element('error')
   error.replaceChildren()
   if (block.error) error.append(make('strong', { textContent: block.error.code }), ` ${block.error.message}`)
   const hex = { base: 0, at: block.error?.offset, buttons: [element('hex-before'), element('hex-after')], range: element('hex-range') }
-  const view = showBytes(element('hex'), block.bytes, hex)
-  showTree(element('tree'), block, {
-    select: (offset, length) => view(offset, length),
-    follow: (link) => link.index === undefined ? ask({ type: 'cid', text: link.text }) : visit(link.index)
+  const mark = showBytes(element('hex'), bytes, hex)
+  const reveal = showTree(element('tree'), { ...block, bytes: block.content ?? bytes }, {
+    select: (span, path, range) => {
+      // The offsets of DAG-JSON are not those of the text.
+      const marked = block.content ? [0, 0] : span
+      mark(...marked)
+      Object.assign(shown, { marked, path, range })
+      soonJson()
+    },
+    follow: (link) => link.index === undefined ? askParts(link.text) : visit(link.index)
   })
   for (const id of ['tree', 'tree-hint']) show(id, block.tape !== undefined)
   show('no-tree', block.tape === undefined)
-  element('no-tree').textContent = block.tape ? '' : block.error ? 'No values: the block is rejected.' : block.canonical === undefined ? 'Blocks of this codec have no values here.' : 'The block has more values than can be shown here.'
-  showCid({ cid: block.cid })
-  element('block-title').textContent = `Block of codec ${block.cid.codec}`
-  element('block').scrollIntoView({ block: 'start' })
-  const first = element('tree').querySelector('[role=treeitem]')
-  if (first) first.focus({ preventScroll: true })
+  element('no-tree').textContent = block.tape ? '' : block.error ? 'No values: the block is rejected.' : block.hasValues ? 'The block has more values than can be shown here.' : 'Blocks of this codec have no values here.'
+  showParts(element('block-parts'), cid)
+  element('block-title').textContent = `Block of codec ${cid.codec}`
+  show('json', block.hasJson && !block.error)
+  showJson()
+  if (!view.keepsFocus) {
+    element('block').scrollIntoView({ block: 'start' })
+    const first = element('tree').querySelector('[role=treeitem]') ?? element('block-title')
+    first.focus({ preventScroll: true })
+  }
+  if (view.mark) {
+    if (!block.content) reveal(view.mark[0])
+    mark(...view.mark)
+    shown.marked = view.mark
+  }
 }
 
-element('back').addEventListener('click', () => {
-  visited.pop()
-  ask({ type: 'block', index: visited.at(-1) })
-})
+element('back').addEventListener('click', () => history.back())
 
 // ---- The answers of the worker
 
@@ -209,6 +484,9 @@ const answers = {
   ready () {
     say('Ready.')
     document.body.dataset.ready = 'true'
+    // Browsers restore the input before the page is complete.
+    if (document.readyState === 'complete') begin()
+    else addEventListener('load', () => setTimeout(begin), { once: true })
   },
   progress ({ done, all, blocks }) {
     Object.assign(element('progress'), { max: all, value: done })
@@ -242,29 +520,56 @@ const answers = {
     ])
     element('which').replaceChildren(...Object.entries(WHICH).map(([value, text]) => make('option', { value, textContent: `${text} (${number.format(all[value])})`, disabled: value !== 'all' && all[value] === 0 })))
     show('summary', true)
+    show('codec-bar', false)
     show('blocks', true)
     if (failure) showFailure({ what: 'The file is read up to an error.', error: failure, bytes: failure.bytes })
     askRows()
     ask({ type: 'graph' })
+    showWanted()
   },
   graph ({ nodes, edges, isPart, from }) {
     show('graph', nodes.length > 0)
     element('graph-said').textContent = `${isPart ? `The ${nodes.length} blocks nearest to ${from}` : `What links lead to from ${from}`}: a column for each step. Arrow keys go along the links; Enter opens a block.`
-    showGraph(element('drawing'), { nodes, edges }, (node) => node.index === undefined ? ask({ type: 'cid', text: node.text }) : visit(node.index))
+    showGraph(element('drawing'), { nodes, edges }, (node) => node.index === undefined ? askParts(node.text) : visit(node.index))
   },
-  'block-file' ({ name, size }) {
+  'block-file' ({ name, size, code, view = { entry: 'kept', mark: history.state?.mark } }) {
     show('reading', false)
+    show('choice', false)
     say(`${name} is read.`)
-    definition(element('facts'), [['name', name], ['size', `${number.format(size)} bytes`], ['format', 'a block, taken for DAG-CBOR; the CID is made of it']])
+    definition(element('facts'), [['name', name], ['size', `${number.format(size)} bytes`], ['format', 'a block; the CID is made of it']])
     show('summary', true)
-    visit(0)
+    show('codec-bar', true)
+    element('codec').value = code
+    ask({ type: 'block', index: 0, view })
+  },
+  choice ({ name, size, errors }) {
+    show('reading', false)
+    show('choice', true)
+    say(`${name} is neither a CAR nor a valid block. Choose how to read it.`)
+    element('choice-said').textContent = `${name} has ${number.format(size)} bytes. Choose how to read it:`
+    element('choices').replaceChildren(...errors.map(({ code, error }) => make('li', {},
+      make('button', { type: 'button', textContent: CODECS[code], onclick: () => choose(code, 'kept') }),
+      make('span', { className: 'faint', textContent: error ? `${error.code}: ${error.message}` : 'any bytes' }))))
   },
   rows ({ rows }) { showRows(rows) },
   block (block) { showBlock(block) },
+  searching ({ number: of, done, all, hits }) {
+    if (of === searches) element('found-said').textContent = `Searched ${number.format(Math.floor(done / 1e6))} of ${number.format(Math.ceil(all / 1e6))} MB: ${number.format(hits)} hits.`
+  },
+  found (message) { if (message.number === searches) showFound(message) },
+  reply ({ id, ...answer }) {
+    waiting.get(id)(answer)
+    waiting.delete(id)
+  },
   cid (message) {
+    const { cid, error, text, isAbsent, takesFocus } = message
+    if (isAbsent) show('block', false)
     showCid(message)
-    say(message.error ? `${message.text} is no CID: ${message.error.message}.` : `The parts of ${message.cid.text} are at the end of the page.`)
+    if (error) say(`${text} is not a CID: ${error.message}.`)
+    else if (!isAbsent) say(`The parts of ${cid.text} are below the field.`)
+    else say(current ? `The block ${cid.text} is not in this file.` : `Open the file that has the block ${cid.text}.`)
     element('cid').scrollIntoView({ block: 'nearest' })
+    if (takesFocus) element('cid-title').focus()
   }
 }
 

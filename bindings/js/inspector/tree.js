@@ -1,6 +1,7 @@
 // Shows the values of a block as a tree of the tape's entries. The items of a folded list or map
 // are not created.
 const MANY = 200
+const PAGES = 10 // the maximum number of times MANY items that are created to show a hit
 const LONGEST = 300
 
 const NAMES = ['null', 'false', 'true', 'integer', 'integer', 'float', 'string', 'bytes', 'link', 'list', 'map', 'key']
@@ -37,13 +38,38 @@ function saying ([kind, length, value], bytes, link) {
   }
 }
 
+/** Returns the number of bytes in the head of a value of DAG-CBOR. */
+const headOf = (argument) => argument < 24 ? 1 : argument < 0x100 ? 2 : argument < 0x10000 ? 3 : argument < 0x100000000 ? 5 : 9
+
+/** Returns the number of bytes of an entry in the DAG-CBOR block, without the items in it. */
+function sizeOf ({ kinds, lengths, values, names }, at) {
+  const kind = kinds[at]
+  if (kind <= 2) return 1
+  if (kind === 5) return 9
+  if (kind === 3 || kind === 4 || kind === LIST || kind === MAP) return headOf(Number(values[at]))
+  const length = names.get(at)?.length ?? lengths[at]
+  // A link is a tag of two bytes, and a byte string with a zero byte before the CID.
+  return kind === 8 ? 3 + headOf(length + 1) + length : headOf(length) + length
+}
+
+/** Returns where the value of the entry `at` begins and ends in its DAG-CBOR block. */
+function rangeOf (tape, at) {
+  let begins = 0
+  for (let each = 0; each < at; each++) begins += sizeOf(tape, each)
+  let ends = begins
+  for (let each = at; each < at + spanOf(tape, at); each++) ends += sizeOf(tape, each)
+  return [begins, ends]
+}
+
 /**
  * Shows the block's values in the list `root`. Calls `select` with the offset and length of the
- * chosen item's bytes, and `follow` with a link that the user opens.
+ * chosen item's bytes, its path, and a function that returns its range in the DAG-CBOR block of the
+ * value. Calls `follow` with a link that the user opens. Returns a function that chooses the item
+ * whose content is at an offset.
  */
 export function showTree (root, { tape, bytes, links }, { select, follow }) {
   root.replaceChildren()
-  if (!tape) return
+  if (!tape) return () => {}
   // The index in `links` for each entry that is a link. The links of a block are in the order of
   // its bytes.
   const numbers = new Map()
@@ -61,7 +87,7 @@ export function showTree (root, { tape, bytes, links }, { select, follow }) {
     return tape.names.get(at) ?? shorten(text.decode(bytes.subarray(offset, offset + length)))
   }
 
-  function item (at, label, level, keyed) {
+  function item (at, label, level, keyed, path) {
     const [kind, length, value] = entry(tape, at)
     const holds = kind === LIST || kind === MAP
     const link = kind === 8 ? links[numbers.get(at)] : undefined
@@ -93,13 +119,13 @@ export function showTree (root, { tape, bytes, links }, { select, follow }) {
     node.append(row)
     node.setAttribute('aria-label', `${label === undefined ? '' : `${label}: `}${NAMES[kind]} ${said.textContent}`.slice(0, 400))
     if (holds && value > 0) node.setAttribute('aria-expanded', 'false')
-    node.at = { holds: holds && value > 0, fold, link, open: undefined }
+    node.at = { entry: at, path, holds: holds && value > 0, fold, link, open: undefined }
     node.at.span = kind >= 5 && kind <= 8 ? [value, length] : keyed !== undefined ? placeOf(keyed) : [0, 0]
     node.at.open = () => {
       const group = document.createElement('ul')
       group.setAttribute('role', 'group')
       node.append(group)
-      more(group, at + 1, 0, at, level + 1)
+      more(group, at + 1, 0, at, level + 1, path)
     }
     if (node.at.holds) fold.textContent = '▸'
     return node
@@ -109,7 +135,7 @@ export function showTree (root, { tape, bytes, links }, { select, follow }) {
    * Adds items of the list or map at `parent` to its group, beginning with the entry `at`, which is
    * the item `number`.
    */
-  function more (group, at, number, parent, level) {
+  function more (group, at, number, parent, level, path) {
     const [kind, span, count] = entry(tape, parent)
     const end = parent + span
     for (let made = 0; at < end; made++) {
@@ -119,8 +145,10 @@ export function showTree (root, { tape, bytes, links }, { select, follow }) {
         rest.setAttribute('aria-level', level)
         rest.setAttribute('aria-selected', 'false')
         rest.tabIndex = -1
-        rest.innerHTML = '<span class="row link"></span>'
-        rest.firstChild.textContent = `more of ${count}`
+        const row = document.createElement('span')
+        row.className = 'row link'
+        row.textContent = `more of ${count}`
+        rest.append(row)
         const next = at
         rest.at = {
           holds: false,
@@ -128,8 +156,12 @@ export function showTree (root, { tape, bytes, links }, { select, follow }) {
           act: () => {
             const before = rest.previousElementSibling
             rest.remove()
-            more(group, next, number, parent, level)
+            more(group, next, number, parent, level, path)
             choose(before.nextElementSibling)
+          },
+          grow: () => {
+            rest.remove()
+            more(group, next, number, parent, level, path)
           }
         }
         group.append(rest)
@@ -141,7 +173,7 @@ export function showTree (root, { tape, bytes, links }, { select, follow }) {
         keyed = at++
         label = keyOf(keyed)
       }
-      group.append(item(at, label, level, keyed))
+      group.append(item(at, label, level, keyed, [...path, label]))
       at += spanOf(tape, at)
       number++
     }
@@ -165,7 +197,7 @@ export function showTree (root, { tape, bytes, links }, { select, follow }) {
     node.tabIndex = 0
     node.setAttribute('aria-selected', 'true')
     if (focus) node.focus()
-    select(...node.at.span)
+    if (node.at.entry !== undefined) select(node.at.span, node.at.path, () => rangeOf(tape, node.at.entry))
   }
 
   function act (node) {
@@ -206,9 +238,42 @@ export function showTree (root, { tape, bytes, links }, { select, follow }) {
     if (node.at.act || target.classList.contains('link') || node.at.holds) act(node)
   }
 
-  const top = item(0, undefined, 1)
+  const top = item(0, undefined, 1, undefined, [])
   root.append(top)
   top.tabIndex = 0
   chosen = top
   unfold(top, true)
+
+  /** Returns the entry whose content is at an offset. For a key it is the entry of its value. */
+  function entryAt (place) {
+    const { kinds } = tape
+    for (let at = 0; at < kinds.length; at++) {
+      if (kinds[at] < 5 || kinds[at] === LIST || kinds[at] === MAP || tape.names.has(at)) continue
+      const [offset, length] = placeOf(at)
+      if (offset <= place && place < offset + (kinds[at] === 5 ? 8 : length)) return kinds[at] === 11 ? at + 1 : at
+    }
+    return undefined
+  }
+
+  return (place) => {
+    const wanted = entryAt(place)
+    if (wanted === undefined) return
+    let node = top
+    while (node.at.entry !== wanted) {
+      unfold(node, true)
+      const group = node.lastElementChild
+      const isAround = ({ at: { entry: begins } }) => begins <= wanted && wanted < begins + spanOf(tape, begins)
+      let next
+      for (let pages = 0; pages < PAGES; pages++) {
+        next = [...group.children].slice(-MANY - 1).find((it) => it.at.entry !== undefined && isAround(it))
+        if (next || !group.lastElementChild.at.grow) break
+        group.lastElementChild.at.grow()
+      }
+      // The item is too far down in a long list or map.
+      if (!next) break
+      node = next
+    }
+    choose(node)
+    node.firstElementChild.scrollIntoView({ block: 'nearest' })
+  }
 }

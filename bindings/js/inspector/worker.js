@@ -1,16 +1,25 @@
 // Reads the file in a worker thread: its sections, their digests and links, and the links without a
 // block in the file.
-import { CID, CarBlockIterator, KombiladError, bases, dagPb, isCanonical, links, tape, verify } from './index.js'
+import { CID, CarBlockIterator, KombiladError, bases, dagPb, encode, fromJSON, isCanonical, links, tape, toJSON, verify } from './index.js'
 import { keyOf } from './cid.js'
 import { pbTape } from './pb.js'
+import { CHUNK, patternOf, snippetOf, stringOf } from './search.js'
 
+const RAW = 0x55
 const DAG_PB = 0x70
 const DAG_CBOR = 0x71
+const DAG_JSON = 0x0129
+/** The codecs that the user can choose for a file, in the order in which they are tried. */
+const CHOICES = [DAG_CBOR, DAG_JSON, DAG_PB, RAW]
 const ROOTS = 20 // the maximum number of roots that the page shows
 const VALUES = 4000000 // the maximum number of values of a block that is shown as a tree
 const LONGEST_BLOCK = 64 << 20
 const EVERY = 100 // the minimum number of milliseconds between two reports
 const DRAWN = 60 // the maximum number of blocks in the graph
+const HITS = 1000 // the maximum number of hits of a search
+const SHORTEST_CID = 4 // the minimum number of letters that are looked for in the strings of CIDs
+const CIDS = 20000 // the number of CIDs that are searched or written at once
+const SHOWN = 65536 // the maximum number of characters of DAG-JSON that the page shows
 
 /** The state of the open file. */
 let open = { turn: 0 }
@@ -47,10 +56,24 @@ async function * chunksOf (file) {
 
 const told = (error) => ({ code: error.code ?? 'OTHER', message: error.message, offset: error.offset })
 
-/** Returns the links of a DAG-CBOR or DAG-PB block, and an empty array for other codecs. */
-function linksOf (cid, bytes) {
-  if (cid.code === DAG_CBOR) return links(bytes)
-  return cid.code === DAG_PB ? dagPb.decode(bytes).Links.map(({ Hash }) => Hash) : []
+/**
+ * Returns the links of a DAG-CBOR, DAG-JSON or DAG-PB block, and an empty array for other codecs.
+ * Throws if the block is not of its codec.
+ */
+function linksOf (code, bytes) {
+  if (code === DAG_PB) return dagPb.decode(bytes).Links.map(({ Hash }) => Hash)
+  return code === DAG_CBOR || code === DAG_JSON ? links(asCbor(code, bytes)) : []
+}
+
+/** Returns the DAG-CBOR block of a block's value, or undefined if the codec is not known here. */
+function asCbor (code, bytes) {
+  switch (code) {
+    case DAG_CBOR: return bytes
+    case DAG_JSON: return fromJSON(bytes)
+    case DAG_PB: return encode(dagPb.decode(bytes))
+    case RAW: return encode(bytes)
+    default: return undefined
+  }
 }
 
 /** Adds a block to `found`, and checks its digest and its content. */
@@ -65,7 +88,7 @@ function add (found, { cid, bytes, offset }) {
   if (right === false) found.wrong.push(index)
   if (right === undefined) found.unknown.push(index)
   try {
-    for (const link of linksOf(cid, bytes)) found.linked.set(keyOf(link), link)
+    for (const link of linksOf(cid.code, bytes)) found.linked.set(keyOf(link), link)
     if (cid.code === DAG_CBOR && !isCanonical(bytes)) found.unordered.push(index)
   } catch (error) {
     if (!(error instanceof KombiladError)) throw error
@@ -75,22 +98,23 @@ function add (found, { cid, bytes, offset }) {
 
 const empty = (file, turn) => ({ file, turn, cids: [], offsets: [], lengths: [], index: new Map(), linked: new Map(), wrong: [], unknown: [], unordered: [], unreadable: [], missing: [], roots: [] })
 
-/**
- * Returns whether the package threw the error, for example for a file that does not begin with the
- * header of a CAR.
- */
-const isNoCar = (error) => error instanceof KombiladError
+/** Returns whether the package threw the error, for example because the input is invalid. */
+const isOfPackage = (error) => error instanceof KombiladError
 
-async function read (file, turn) {
+/** Reads a file. `wanted` is the CID, as a string, that the page will show, or undefined. */
+async function read (file, turn, wanted) {
   const found = empty(file, turn)
   open = found
   let iterator
   try {
     iterator = await CarBlockIterator.fromIterable(chunksOf(file))
   } catch (error) {
-    if (!isNoCar(error)) throw error
-    if (/\.car$/i.test(file.name)) return postMessage({ type: 'failed', turn, name: file.name, what: 'This is no CAR.', error: told(error), bytes: await around(file, error.offset) })
-    return readBlock(found)
+    if (!isOfPackage(error)) throw error
+    if (/\.car$/i.test(file.name)) {
+      postMessage({ type: 'failed', turn, name: file.name, what: 'This is not a CAR.', error: told(error), bytes: await around(file, error.offset) })
+      if (file.size > LONGEST_BLOCK) return
+    }
+    return readBlock(found, wanted)
   }
   found.version = iterator.version
   found.roots = await iterator.getRoots()
@@ -107,7 +131,7 @@ async function read (file, turn) {
       }
     }
   } catch (error) {
-    if (!isNoCar(error)) throw error
+    if (!isOfPackage(error)) throw error
     failure = { ...told(error), bytes: await around(file, error.offset) }
   }
   for (const [key, link] of found.linked) if (!found.index.has(key)) found.missing.push(link)
@@ -116,14 +140,61 @@ async function read (file, turn) {
   postMessage({ type: 'car', turn, name: file.name, size: file.size, version: found.version, roots: found.roots.slice(0, ROOTS).map(linkOf), otherRoots: Math.max(0, found.roots.length - ROOTS), counts: countsOf(found), failure })
 }
 
-async function readBlock (found) {
+/** Returns the error of bytes that are not a block of the codec, and undefined if they are. */
+function errorOf (code, bytes) {
+  try {
+    linksOf(code, bytes)
+    return undefined
+  } catch (error) {
+    if (!isOfPackage(error)) throw error
+    return told(error)
+  }
+}
+
+/** Returns the CID of a text, or undefined if the text is not a CID. */
+function cidOf (text) {
+  try {
+    return CID.parse(text)
+  } catch (error) {
+    if (!isOfPackage(error)) throw error
+    return undefined
+  }
+}
+
+/** Returns the codec with which the bytes have the CID, or undefined if there is none. */
+function codecOfCid (text, bytes) {
+  const cid = cidOf(text)
+  return cid && CHOICES.includes(cid.code) && CID.ofBlock(cid.code, bytes).equals(cid) ? cid.code : undefined
+}
+
+/**
+ * Reads a file as a block of the codec of the CID `wanted`, or else of the first codec of which it
+ * is a block. Any bytes are a block of the codec raw, so only the user can choose it.
+ */
+async function readBlock (found, wanted) {
   const { file, turn } = found
-  if (file.size > LONGEST_BLOCK) return postMessage({ type: 'failed', turn, name: file.name, what: 'This is no CAR, and too long for a block.' })
+  const { name, size } = file
+  if (size > LONGEST_BLOCK) return postMessage({ type: 'failed', turn, name, what: `This is not a CAR, and has more than the ${LONGEST_BLOCK >> 20} MiB that this page reads as a block.` })
   const bytes = new Uint8Array(await file.arrayBuffer())
   found.own = true
-  add(found, { cid: CID.ofBlock(DAG_CBOR, bytes), bytes, offset: 0 })
+  const wantedCode = wanted && codecOfCid(wanted, bytes)
+  if (wantedCode) return take(found, wantedCode, bytes)
+  const errors = []
+  for (const code of CHOICES) {
+    const error = code === RAW ? undefined : errorOf(code, bytes)
+    if (error === undefined && code !== RAW) return take(found, code, bytes)
+    errors.push({ code, error })
+  }
+  postMessage({ type: 'choice', turn, name, size, errors })
+}
+
+/** Takes the file for a block of this codec. */
+function take (found, code, bytes, view) {
+  const { file, turn } = found
+  Object.assign(found, empty(file, turn), { own: true })
+  add(found, { cid: CID.ofBlock(code, bytes), bytes, offset: 0 })
   for (const [, link] of found.linked) found.missing.push(link)
-  postMessage({ type: 'block-file', turn, name: file.name, size: file.size })
+  postMessage({ type: 'block-file', turn, name: file.name, size: file.size, code, view })
 }
 
 /** Returns up to 512 bytes of the file around `offset`, or undefined if there is no offset. */
@@ -137,7 +208,7 @@ const lists = { wrong: 'wrong', unknown: 'unknown', unordered: 'unordered', unre
 const countsOf = (found) => ({ all: found.cids.length, ...Object.fromEntries(Object.keys(lists).map((name) => [name, found[name].length])) })
 
 /** Returns a CID as a string, and the index of its block if the file has it. */
-function linkOf (cid) { return { text: cid.toString(), index: open.index.get(keyOf(cid)) } }
+const linkOf = (cid) => ({ text: cid.toString(), index: open.index.get(keyOf(cid)) })
 
 function rowsOf (which, from, count) {
   const list = which === 'all' ? undefined : open[which]
@@ -164,8 +235,8 @@ function rowsOf (which, from, count) {
   return rows
 }
 
-/** Returns whether a sorted list has the number. */
-function has (list, number) {
+/** Returns the index of the first item of a sorted list that is not less than the number. */
+function placeIn (list, number) {
   let low = 0
   let high = list.length
   while (low < high) {
@@ -173,8 +244,11 @@ function has (list, number) {
     if (list[middle] < number) low = middle + 1
     else high = middle
   }
-  return list[low] === number
+  return low
 }
+
+/** Returns whether a sorted list has the number. */
+const has = (list, number) => list[placeIn(list, number)] === number
 
 async function bytesOf ({ file, offsets, lengths }, index) {
   return new Uint8Array(await file.slice(offsets[index], offsets[index] + lengths[index]).arrayBuffer())
@@ -207,7 +281,7 @@ async function graphOf (found) {
     const { index, depth, unreadable } = nodes[at]
     if (index === undefined || unreadable) continue
     const seen = new Set()
-    for (const link of linksOf(found.cids[index], await bytesOf(found, index))) {
+    for (const link of linksOf(found.cids[index].code, await bytesOf(found, index))) {
       const to = numberOf(link, depth + 1)
       if (to === undefined || seen.has(to)) continue
       seen.add(to)
@@ -266,42 +340,169 @@ function shownTape (bytes) {
   }
 }
 
-async function blockOf (index) {
+/** Posts a block. `view` is returned to the page, which knows by it how to show the block. */
+async function blockOf (index, view) {
   const { cids, offsets, turn } = open
   const bytes = await bytesOf(open, index)
   const cid = cids[index]
-  const answer = { type: 'block', turn, index, offset: offsets[index], bytes, cid: partsOf(cid), codec: cid.code, right: verify(cid, bytes), own: open.own === true, links: [] }
+  const { code } = cid
+  const answer = { type: 'block', turn, index, view, offset: offsets[index], isFirst: open.index.get(keyOf(cid)) === index, bytes, code, cid: partsOf(cid), hasJson: CHOICES.includes(code), right: verify(cid, bytes), own: open.own === true, links: [] }
   try {
-    if (cid.code === DAG_CBOR) answer.canonical = isCanonical(bytes)
-    if (cid.code === DAG_CBOR) answer.tape = shownTape(bytes)
-    if (cid.code === DAG_PB) answer.tape = packed(nodeTape(bytes))
-    if (answer.tape) answer.links = linksOf(cid, bytes).map(linkOf)
+    if (code === DAG_CBOR) answer.canonical = isCanonical(bytes)
+    if (code === DAG_CBOR) answer.tape = shownTape(bytes)
+    if (code === DAG_PB) answer.tape = packed(nodeTape(bytes))
+    if (code === DAG_JSON) {
+      // The offsets of the values are those in the DAG-CBOR block of the text.
+      answer.content = asCbor(code, bytes)
+      answer.tape = shownTape(answer.content)
+    }
+    if (answer.tape) answer.links = linksOf(code, bytes).map(linkOf)
+    answer.hasValues = code !== RAW && answer.hasJson
   } catch (error) {
-    if (!isNoCar(error)) throw error
+    if (!isOfPackage(error)) throw error
     answer.tape = undefined
     answer.error = told(error)
   }
   const { kinds, lengths, values } = answer.tape ?? {}
-  postMessage(answer, [bytes, kinds, lengths, values].filter((it) => it !== undefined).map(({ buffer }) => buffer))
+  postMessage(answer, [bytes, answer.content, kinds, lengths, values].filter((it) => it !== undefined).map(({ buffer }) => buffer))
+}
+
+/**
+ * Finds the block with the CID of a fragment, `CID` or `CID@OFFSET`, and posts it. Posts the parts
+ * of the CID if the file does not have it.
+ */
+async function find (fragment, view) {
+  const [text, offset] = fragment.split('@')
+  if (open.own) {
+    const bytes = new Uint8Array(await open.file.arrayBuffer())
+    const code = codecOfCid(text, bytes)
+    if (code !== undefined) return take(open, code, bytes, view)
+  }
+  const index = indexOf(text, offset)
+  if (index === undefined) showParts(text, { isAbsent: true })
+  else await blockOf(index, view)
+}
+
+/** Returns the index of the block with this CID, at this offset if several have it. */
+function indexOf (text, offset) {
+  const cid = cidOf(text)
+  if (!cid || !open.cids) return undefined
+  const at = offset === undefined ? -1 : placeIn(open.offsets, Number(offset))
+  return open.cids[at]?.equals(cid) ? at : open.index.get(keyOf(cid))
+}
+
+/** Posts the parts of a CID, or the error of the text. `more` is added to the message. */
+function showParts (text, more) {
+  try {
+    const cid = CID.parse(text)
+    postMessage({ type: 'cid', text, cid: partsOf(cid), index: open.index?.get(keyOf(cid)), ...more })
+  } catch (error) {
+    if (!isOfPackage(error)) throw error
+    postMessage({ type: 'cid', text, error: told(error) })
+  }
+}
+
+// ---- What is copied and saved
+
+/**
+ * Returns the DAG-JSON of a block, or of the value from `begins` up to `ends` in the DAG-CBOR block
+ * of its value: as a Blob if `isWhole`, and otherwise the first characters of it.
+ */
+async function jsonOf (index, [begins, ends], isWhole) {
+  try {
+    const text = toJSON(asCbor(open.cids[index].code, await bytesOf(open, index)).subarray(begins, ends))
+    return isWhole ? { blob: new Blob([text], { type: 'application/json' }) } : { text: text.slice(0, SHOWN), length: text.length }
+  } catch (error) {
+    if (!isOfPackage(error)) throw error
+    return { error: told(error) }
+  }
+}
+
+/** Returns the CIDs of a list as a Blob, with a line for each. */
+async function cidsOf (which) {
+  const { cids } = open
+  const list = which === 'all' ? cids : open[which]
+  const parts = []
+  for (let begins = 0; begins < list.length; begins += CIDS) {
+    parts.push(list.slice(begins, begins + CIDS).map((it) => `${typeof it === 'number' ? cids[it] : it}\n`).join(''))
+    await pause()
+  }
+  return { blob: new Blob(parts, { type: 'text/plain' }) }
+}
+
+/** Lets the worker answer other messages. */
+const pause = () => new Promise((resolve) => setTimeout(resolve))
+
+// ---- Search
+
+/** Returns the index of the block that contains these bytes of the file, or undefined. */
+function blockAt ({ offsets, lengths }, begins, length) {
+  const index = placeIn(offsets, begins + 1) - 1
+  return index >= 0 && begins + length <= offsets[index] + lengths[index] ? index : undefined
+}
+
+/**
+ * Posts the first HITS places in CIDs and blocks of the file that match. The search ends early if
+ * `open.search` is no longer `number`.
+ */
+async function search (found, text, number) {
+  const { file, turn, cids } = found
+  found.search = number
+  const cid = cidOf(text)
+  const pattern = patternOf(text, cid?.bytes)
+  const hits = []
+  let last = performance.now()
+  let done = 0
+  const isStopped = () => open !== found || found.search !== number
+  const report = async () => {
+    if (performance.now() - last < EVERY) return
+    last = performance.now()
+    postMessage({ type: 'searching', turn, number, done, all: file.size, hits: hits.length })
+    await pause()
+  }
+  const part = cid ? `${cid}`.toLowerCase() : /^[a-z0-9]+$/i.test(text) && text.length >= SHORTEST_CID ? text.toLowerCase() : undefined
+  for (let index = 0; part && index < cids.length && hits.length < HITS && !isStopped(); index++) {
+    const name = cids[index].toString()
+    if (name.toLowerCase().includes(part)) hits.push({ text: name, index })
+    if (index % CIDS === 0) await report()
+  }
+  for (; done < file.size && hits.length < HITS && !isStopped(); done += CHUNK) {
+    const bytes = new Uint8Array(await file.slice(done, done + CHUNK + pattern.longest - 1).arrayBuffer())
+    const string = stringOf(bytes)
+    pattern.expression.lastIndex = 0
+    for (let hit; hits.length < HITS && (hit = pattern.expression.exec(string)) !== null && hit.index < CHUNK;) {
+      const { index: at, 0: { length } } = hit
+      const index = blockAt(found, done + at, length)
+      if (index !== undefined) hits.push({ text: cids[index].toString(), index, at: done + at - found.offsets[index], length, snippet: snippetOf(bytes, at, length) })
+    }
+    await report()
+  }
+  postMessage({ type: 'found', turn, number, hits, done: Math.min(done, file.size), all: file.size, isFull: hits.length === HITS })
+}
+
+// ---- Messages
+
+/** The work for each type of message. */
+const works = {
+  open: ({ file, turn, wanted }) => read(file, turn, wanted),
+  rows: ({ which, from, count }) => postMessage({ type: 'rows', turn: open.turn, rows: rowsOf(which, from, count) }),
+  graph: () => graphOf(open),
+  block: ({ index, view }) => blockOf(index, view),
+  find: ({ text, view }) => find(text, view),
+  codec: async ({ code, view }) => take(open, code, new Uint8Array(await open.file.arrayBuffer()), view),
+  cid: ({ text, more }) => showParts(text, more),
+  search: ({ text, number }) => search(open, text, number),
+  stop: () => { open.search = undefined },
+  json: async ({ id, index, range, isWhole }) => postMessage({ type: 'reply', id, ...await jsonOf(index, range, isWhole) }),
+  cids: async ({ id, which }) => postMessage({ type: 'reply', id, ...await cidsOf(which) })
 }
 
 onmessage = async ({ data }) => {
   try {
-    if (data.type === 'open') await read(data.file, data.turn)
-    if (data.type === 'rows') postMessage({ type: 'rows', turn: open.turn, rows: rowsOf(data.which, data.from, data.count) })
-    if (data.type === 'graph') await graphOf(open)
-    if (data.type === 'block') await blockOf(data.index)
-    if (data.type === 'cid') {
-      try {
-        const cid = CID.parse(data.text)
-        postMessage({ type: 'cid', cid: partsOf(cid), index: open.index?.get(keyOf(cid)) })
-      } catch (error) {
-        if (!isNoCar(error)) throw error
-        postMessage({ type: 'cid', text: data.text, error: told(error) })
-      }
-    }
+    await works[data.type](data)
   } catch (error) {
-    postMessage({ type: 'failed', turn: open.turn, what: `The page failed: ${error.message}` })
+    if (data.id !== undefined) postMessage({ type: 'reply', id: data.id, error: told(error) })
+    else postMessage({ type: 'failed', turn: data.turn ?? open.turn, what: `The page failed: ${error.message}` })
   }
 }
 postMessage({ type: 'ready' })

@@ -27,7 +27,7 @@ export async function serve (folder) {
 /** Opens a page in a new Chromium. */
 export async function browse (url, width = 1280, height = 1000) {
   const profile = await mkdtemp(join(tmpdir(), 'kombilad-'))
-  const words = ['--headless=new', '--no-sandbox', '--disable-gpu', '--disable-dev-shm-usage', '--no-first-run', '--remote-debugging-pipe', `--user-data-dir=${profile}`, `--window-size=${width},${height}`]
+  const words = ['--headless=new', '--no-sandbox', '--disable-gpu', '--disable-dev-shm-usage', '--no-first-run', '--disable-features=BackForwardCache', '--remote-debugging-pipe', `--user-data-dir=${profile}`, `--window-size=${width},${height}`]
   const browser = spawn('chromium', words, { stdio: ['ignore', 'ignore', 'ignore', 'pipe', 'pipe'] })
   const [, , , input, output] = browser.stdio
   const waiting = new Map()
@@ -39,9 +39,9 @@ export async function browse (url, width = 1280, height = 1000) {
     for (let end; (end = kept.indexOf('\0')) >= 0; kept = kept.slice(end + 1)) {
       const message = JSON.parse(kept.slice(0, end))
       if (message.id) {
-        const { resolve, reject } = waiting.get(message.id)
+        const { method, resolve, reject } = waiting.get(message.id)
         waiting.delete(message.id)
-        if (message.error) reject(new Error(message.error.message))
+        if (message.error) reject(new Error(`${method}: ${message.error.message}`))
         else resolve(message.result)
       } else if (message.method === 'Runtime.exceptionThrown') {
         problems.push(message.params.exceptionDetails.exception?.description ?? message.params.exceptionDetails.text)
@@ -51,7 +51,7 @@ export async function browse (url, width = 1280, height = 1000) {
     }
   })
   const send = (method, params = {}, sessionId) => new Promise((resolve, reject) => {
-    waiting.set(++last, { resolve, reject })
+    waiting.set(++last, { method, resolve, reject })
     input.write(JSON.stringify({ id: last, method, params, sessionId }) + '\0')
   })
   const { targetId } = await send('Target.createTarget', { url: 'about:blank' })
@@ -59,19 +59,28 @@ export async function browse (url, width = 1280, height = 1000) {
   const call = (method, params) => send(method, params, sessionId)
   for (const name of ['Page', 'Runtime', 'DOM', 'Log', 'Accessibility']) await call(`${name}.enable`)
   await call('Emulation.setDeviceMetricsOverride', { width, height, deviceScaleFactor: 1, mobile: false })
-  await call('Page.navigate', { url })
+  // The page may copy, and what it saves goes to the folder.
+  const downloads = join(profile, 'downloads')
+  await send('Browser.grantPermissions', { permissions: ['clipboardReadWrite', 'clipboardSanitizedWrite'] })
+  await send('Browser.setDownloadBehavior', { behavior: 'allow', downloadPath: downloads })
+  await call('Emulation.setFocusEmulationEnabled', { enabled: true })
 
-  /** Returns the value of an expression in the page. Throws if the expression throws. */
+  /**
+   * Returns the value of an expression in the page, which runs like the work for a click. Throws if
+   * the expression throws.
+   */
   async function value (expression) {
-    const { result, exceptionDetails } = await call('Runtime.evaluate', { expression, awaitPromise: true, returnByValue: true })
+    const { result, exceptionDetails } = await call('Runtime.evaluate', { expression, awaitPromise: true, returnByValue: true, userGesture: true })
     if (exceptionDetails) throw new Error(`${expression}: ${exceptionDetails.exception?.description ?? exceptionDetails.text}`)
     return result.value
   }
 
+  await call('Page.navigate', { url })
   return {
     call,
     value,
     problems,
+    downloads,
     async until (expression, seconds = 30) {
       for (const end = Date.now() + seconds * 1000; Date.now() < end; await new Promise((resolve) => setTimeout(resolve, 50))) {
         if (await value(expression).catch(() => false)) return

@@ -3,7 +3,7 @@
 //     node inspector.mjs INSPECTOR FOLDER [SCREENSHOTS]
 import assert from 'node:assert/strict'
 import { createHash } from 'node:crypto'
-import { appendFileSync, mkdirSync, writeFileSync } from 'node:fs'
+import { appendFileSync, existsSync, mkdirSync, readFileSync, writeFileSync } from 'node:fs'
 import { resolve } from 'node:path'
 import { pathToFileURL } from 'node:url'
 import { browse, serve } from './chromium.mjs'
@@ -42,6 +42,7 @@ const node = Buffer.concat([
   field(2, field(1, cidOf(0x55, gone))), field(1, Buffer.from([8, 1]))
 ])
 const directory = Buffer.concat([header(cidOf(0x70, node)), ...[[0x70, node], [0x55, leaf], [0x70, Buffer.from([0x0a])]].map(([codec, bytes]) => framed(cidOf(codec, bytes), bytes))])
+const HTML = '<img src=x onerror=alert(1)>'
 const long = 'a name that is longer than a line of a narrow window, without a place to break '.replaceAll(' ', '_').repeat(3)
 const write = (name, bytes) => {
   writeFileSync(`${folder}/${name}`, bytes)
@@ -55,6 +56,9 @@ const files = {
   directory: write('directory.car', directory),
   roots: write(`${long.slice(0, 200)}.car`, Buffer.concat([header(...Array.from({ length: 500 }, (_, at) => cidOf(0x55, Buffer.from(String(at))))), framed(cidOf(0x71, map([long, text(long)])), map([long, text(long)]))])),
   integers: write('integers.cbor', Buffer.concat([Buffer.from([0x9a, 0, 0x0f, 0x42, 0x40]), Buffer.alloc(1e6, 7)])),
+  photo: write('photo.jpg', Buffer.from('ffd8ffe000104a46494600010100000100010000ffd9', 'hex')),
+  json: write('value.json', Buffer.from(' {"b":"the content of a text","a":[{"/":"bafkqaaa"},1.5,{"/":{"bytes":"AQID"}}]}\n')),
+  markup: write('<img src=x onerror=alert(1)>.cbor', map([HTML, list(text(HTML), link(cidOf(0x55, leaf)))])),
   large: `${folder}/large.car`
 }
 
@@ -92,8 +96,14 @@ const part = async (name, id, height) => {
   await window(1280)
 }
 const said = (id) => page.value(`document.getElementById('${id}').innerText`)
-const fact = (id, term) => page.value(`[...document.querySelectorAll('#${id} dt')].find((it) => it.textContent === ${JSON.stringify(term)})?.nextElementSibling.innerText`)
+const fact = (id, term) => page.value(`[...document.querySelectorAll('#${id} dt')].find((it) => it.textContent === ${JSON.stringify(term)})?.nextElementSibling.innerText.replace(/ Copy$/, '')`)
 const chosen = () => page.value("document.activeElement.getAttribute('aria-label')")
+const json = async () => {
+  await page.value("document.getElementById('json-text').textContent = ''; document.getElementById('json').open = false")
+  await page.value("document.querySelector('#json summary').click()")
+  await page.until("document.getElementById('json-text').textContent !== ''")
+  return page.value("document.getElementById('json-text').textContent")
+}
 const dark = (scheme) => page.call('Emulation.setEmulatedMedia', { features: [{ name: 'prefers-color-scheme', value: scheme }] })
 try {
   await page.until("document.body.dataset.ready === 'true'")
@@ -157,9 +167,10 @@ try {
   await page.value("document.querySelector('#tree [aria-level=\"3\"]:last-child > .row').click()")
   assert.equal(await page.value("document.querySelectorAll('#tree [aria-level=\"3\"]').length"), 401)
   await page.value("[...document.querySelectorAll('#tree [aria-level=\"2\"] > .row')].find((it) => it.textContent.includes('scores')).click()")
-  assert.equal(await fact('parts', 'codec'), '0x71 (dag-cbor)')
-  assert.equal(await fact('parts', 'digest'), `${createHash('sha256').update(sorted).digest('hex')} (32 bytes)`)
-  assert.equal(await fact('parts', 'base16'), 'f' + cidOf(0x71, sorted).toString('hex'))
+  await page.value("document.querySelector('#block-cid summary').click()")
+  assert.equal(await fact('block-parts', 'codec'), '0x71 (dag-cbor)')
+  assert.equal(await fact('block-parts', 'digest'), `${createHash('sha256').update(sorted).digest('hex')} (32 bytes)`)
+  assert.equal(await fact('block-parts', 'base16'), 'f' + cidOf(0x71, sorted).toString('hex'))
   await dark('dark')
   await picture('inspector-block-dark')
   await dark('light')
@@ -177,6 +188,8 @@ try {
   await page.choose('#file', files.block)
   await page.until("document.getElementById('facts').innerText.includes('post.cbor') && document.activeElement.getAttribute('aria-label') === 'map map of 5'")
   await page.choose('#file', files.wrong)
+  await page.until("!document.getElementById('choice').hidden")
+  await page.value("document.querySelector('#choices button').click()")
   await page.until("document.getElementById('error').innerText.includes('BLOCK_NOT_SHORTEST')")
   assert.equal(await page.value("document.querySelector('#hex mark.at').textContent"), '18')
   assert.match(await said('hex-range'), /the error is at byte 182$/)
@@ -226,6 +239,146 @@ try {
   await page.value("(() => { const dataTransfer = new DataTransfer(); dataTransfer.items.add(new File([Uint8Array.of(0x82, 1, 0xf5)], 'dropped.cbor')); document.body.dispatchEvent(new DragEvent('drop', { dataTransfer, bubbles: true, cancelable: true })) })()")
   await page.until("document.getElementById('facts').innerText.includes('dropped.cbor') && document.activeElement.getAttribute('aria-label') === 'list list of 2'")
 
+  // The codec of a file that is neither a CAR nor a valid block is chosen, and can be changed. Each
+  // choice is an entry of the history.
+  await page.choose('#file', files.photo)
+  await page.until("document.querySelectorAll('#choices li').length === 4")
+  assert.match(await said('status'), /^photo.jpg is neither a CAR nor a valid block/)
+  assert.match(await said('choices'), /DAG-CBOR\s+BLOCK_UNSUPPORTED: .*\(at byte 0\)\s+DAG-JSON\s+JSON_UTF8: .*\s+DAG-PB\s+PB_.*\s+raw\s+any bytes/)
+  assert.deepEqual(await page.value("['summary', 'block'].map((id) => document.getElementById(id).hidden)"), [true, true])
+  await picture('inspector-choice')
+  await page.value("document.querySelector('#choices li:last-child button').click()")
+  await page.until("document.getElementById('block-title').textContent === 'Block of codec 0x55 (raw)'")
+  const photo = readFileSync(files.photo)
+  const hash = () => page.value('location.hash')
+  assert.equal(await hash(), `#b${base32(cidOf(0x55, photo))}`)
+  assert.equal(await json(), JSON.stringify({ '/': { bytes: photo.toString('base64').replace(/=+$/, '') } }))
+  await page.value("document.getElementById('codec').focus()")
+  await page.value("(() => { const codec = document.getElementById('codec'); codec.value = 0x71; codec.dispatchEvent(new Event('change')) })()")
+  await page.until("document.getElementById('error').innerText.includes('BLOCK_UNSUPPORTED')")
+  assert.equal(await page.value('document.activeElement.id'), 'codec')
+  assert.equal(await hash(), `#b${base32(cidOf(0x71, photo))}`)
+  await page.value('history.back()')
+  await page.until("document.getElementById('codec').value === '85' && document.getElementById('block-title').textContent === 'Block of codec 0x55 (raw)'")
+
+  // A file of DAG-JSON, and the values of which it consists.
+  await page.choose('#file', files.json)
+  await page.until("document.getElementById('facts').innerText.includes('value.json') && document.activeElement.getAttribute('aria-label') === 'map map of 2'")
+  assert.equal(await page.value("document.getElementById('codec').selectedOptions[0].textContent"), 'DAG-JSON')
+  assert.match(await said('tree'), /a: list of 3\s+▸?b: "the content of a text"/)
+  assert.equal(await json(), '{"a":[{"/":"bafkqaaa"},1.5,{"/":{"bytes":"AQID"}}],"b":"the content of a text"}')
+  for (const key of ['ArrowDown', 'ArrowRight', 'ArrowDown']) await page.press(key)
+  assert.equal(await chosen(), '0: link bafkqaaa (not in the file)')
+  await page.until("document.getElementById('json-text').textContent === '{\"/\":\"bafkqaaa\"}'")
+  assert.match(await said('json-said'), /^The value at a\/0: 16 characters$/)
+  await page.press('ArrowDown')
+  await page.until("document.getElementById('json-text').textContent === '1.5'")
+
+  // What is shown is copied and saved.
+  const copied = async (id, about) => {
+    await page.value(`document.getElementById('${id}').click()`)
+    await page.until(`/^Copied ${about}\\.$/.test(document.getElementById('told').textContent)`)
+    return page.value('navigator.clipboard.readText()')
+  }
+  const saved = async (id, name) => {
+    await page.value(`document.getElementById('${id}').click()`)
+    for (let time = 0; time < 200 && !existsSync(`${page.downloads}/${name}`); time++) await new Promise((resolve) => setTimeout(resolve, 50))
+    return readFileSync(`${page.downloads}/${name}`)
+  }
+  assert.equal(await copied('copy-json', 'the DAG-JSON'), '1.5')
+  await page.choose('#file', files.directory)
+  await page.until("document.getElementById('facts').innerText.includes('directory.car') && document.querySelectorAll('#list li').length === 3")
+  assert.equal(await copied('copy-cids', '3 CIDs'), [[0x70, node], [0x55, leaf], [0x70, Buffer.from([0x0a])]].map(([codec, bytes]) => `b${base32(cidOf(codec, bytes))}\n`).join(''))
+  await page.value("document.querySelector('#list .link').click()")
+  await page.until("document.activeElement.getAttribute('aria-label') === 'map map of 2'")
+  assert.equal(await copied('copy-cid', 'the CID'), `b${base32(cidOf(0x70, node))}`)
+  assert.equal(await copied('copy-hex', '\\d+ bytes in hexadecimal'), node.toString('hex'))
+  const links = [`{"Hash":{"/":"b${base32(cidOf(0x55, leaf))}"},"Name":"leaf.txt","Tsize":21}`, `{"Hash":{"/":"b${base32(cidOf(0x55, gone))}"}}`]
+  assert.equal(await json(), `{"Data":{"/":{"bytes":"CAE"}},"Links":[${links}]}`)
+  assert.deepEqual(await saved('save-block', `b${base32(cidOf(0x70, node))}.pb`), node)
+  assert.equal(String(await saved('save-json', `b${base32(cidOf(0x70, node))}.json`)), `{"Data":{"/":{"bytes":"CAE"}},"Links":[${links}]}`)
+  for (const key of ['ArrowDown', 'ArrowDown', 'ArrowRight', 'ArrowRight', 'ArrowDown']) await page.press(key)
+  await page.until(`document.getElementById('json-text').textContent === ${JSON.stringify(links[1])}`)
+  await page.press('ArrowUp')
+  await page.until(`document.getElementById('json-text').textContent === ${JSON.stringify(links[0])}`)
+
+  // A search finds text, keys, bytes and CIDs, and a hit opens its block at the hit.
+  const find = async (what) => {
+    await page.value(`(() => { document.getElementById('sought').value = ${JSON.stringify(what)}; document.querySelector('#search button').click() })()`)
+    await page.until("document.getElementById('stop').hidden")
+    return page.value("[...document.querySelectorAll('#found li')].map((it) => it.innerText.replace(/\\s+/g, ' '))")
+  }
+  await page.choose('#file', files.car)
+  await page.until("document.querySelectorAll('#list li').length === 7 && document.querySelectorAll('#drawing [role=button]').length === 4")
+  const [names, at] = [[top, sorted, post].map((bytes) => `b${base32(cidOf(0x71, bytes))}`), (bytes, part) => bytes.indexOf(part)]
+  const hits = await find('GRÜßE aus zürich')
+  assert.deepEqual(hits, [])
+  assert.deepEqual((await find('GRüßE AUS')).map((it) => it.split(' ').slice(0, 3).join(' ')), [`${names[1]} byte ${at(sorted, 'Grüße')}`, `${names[2]} byte ${at(post, 'Grüße')}`])
+  assert.equal(await page.value("document.querySelector('#found mark').textContent"), 'Grüße aus')
+  assert.equal(await said('found-said'), '2 hits.')
+  await picture('inspector-search')
+  assert.deepEqual((await find('0x' + cidOf(0x55, leaf).toString('hex'))).length, 3)
+  assert.deepEqual((await find(names[1])).map((it) => it.split(' ').slice(0, 3).join(' ')), [`${names[1]} its CID`, `${names[0]} byte ${at(top, cidOf(0x71, sorted))}`])
+  assert.deepEqual(await find(names[1].slice(-10, -2)), [`${names[1]} its CID`])
+  await find('zürich')
+  await page.value("document.querySelector('#found .link').click()")
+  await page.until("document.activeElement.getAttribute('aria-label') === 'text: string \"Grüße aus Zürich\"'")
+  assert.equal(await page.value("[...document.querySelectorAll('#hex mark')].map((it) => it.textContent).filter((it) => it.length === 2).join('')"), Buffer.from('Zürich').toString('hex'))
+
+  // Back leads to the block before and to the file, forward to the block, and the focus comes along.
+  assert.equal(await hash(), `#${names[1]}`)
+  await page.press('ArrowUp')
+  await page.value("document.querySelector('#facts .link').click()")
+  await page.until(`location.hash === '#${names[0]}'`)
+  await page.value("document.getElementById('back').click()")
+  await page.until("document.activeElement.getAttribute('aria-label') === 'text: string \"Grüße aus Zürich\"'")
+  await page.value('history.back()')
+  await page.until("location.hash === '' && document.getElementById('block').hidden")
+  assert.equal(await page.value("document.activeElement.closest('#found') !== null"), true)
+  await page.value('history.forward()')
+  await page.until(`location.hash === '#${names[1]}' && !document.getElementById('block').hidden`)
+
+  const leave = async () => {
+    await page.call('Page.navigate', { url: 'about:blank' })
+    await page.until("document.readyState === 'complete' && location.href === 'about:blank'")
+  }
+  // The page shows the same block when the user comes back to it, and when it is loaded again and
+  // its file is opened.
+  const isSame = "document.activeElement.getAttribute('aria-label') === 'text: string \"Grüße aus Zürich\"' && !document.getElementById('back').hidden"
+  const { currentIndex, entries } = await page.call('Page.getNavigationHistory')
+  await leave()
+  await page.call('Page.navigateToHistoryEntry', { entryId: entries[currentIndex].id })
+  await page.until(isSame)
+  await page.value('void setTimeout(() => location.reload(), 100)')
+  await page.until(`document.getElementById('status').textContent === 'Open the file that has the block ${names[1]}.'`)
+  await page.choose('#file', files.car)
+  await page.until(isSame)
+  // A link shows the parts of its CID until the file is opened. Several blocks can have one CID.
+  const other = `${names[1]}@${car.indexOf(sorted)}`
+  await leave()
+  await page.call('Page.navigate', { url: `${server.url}#${other}` })
+  await page.until("document.body.dataset.ready === 'true' && document.getElementById('parts').innerText.includes('0x71 (dag-cbor)')")
+  assert.equal(await said('status'), `Open the file that has the block ${names[1]}.`)
+  await page.choose('#file', files.car)
+  await page.until(`document.activeElement.getAttribute('aria-label') === 'map map of 5' && location.hash === '#${names[1]}'`)
+  assert.equal(await page.value("document.getElementById('cid').hidden"), true)
+
+  // The parts of a CID are below its field. Closing them gives the focus back.
+  await page.value("[...document.querySelectorAll('#tree .row')].find((it) => it.textContent.includes('missing')).click()")
+  await page.press('Enter')
+  await page.until("document.activeElement.id === 'cid-title'")
+  assert.equal(await page.value("document.getElementById('open').nextElementSibling.id"), 'cid')
+  assert.equal(await page.value("document.getElementById('text').value"), `b${base32(cidOf(0x71, gone))}`)
+  await page.value("document.getElementById('cid-close').click()")
+  assert.match(await chosen(), /^missing: link/)
+
+  // Nothing in a file becomes an element of the page.
+  await page.choose('#file', files.markup)
+  await page.until("document.getElementById('facts').innerText.includes('onerror') && document.activeElement.getAttribute('aria-label') === 'map map of 1'")
+  assert.equal((await find('onerror')).length, 2)
+  assert.match(await json(), /^{"<img/)
+  assert.equal(await page.value("document.querySelectorAll('img').length"), 0)
+
   // A CAR that ends too early.
   await page.choose('#file', files.cut)
   await page.until("document.getElementById('failure').innerText.includes('CAR_UNEXPECTED_END')")
@@ -241,15 +394,15 @@ try {
     if (!ignored && focusable && role.value !== 'RootWebArea') assert.ok(name?.value, `a ${role.value} without a name`)
   }
 
-  // The Tab key reaches the input for files, the CID, the roots, the graph and the list, in this
-  // order.
+  // The Tab key reaches the input for files, the CID, the roots, the search, the graph and the
+  // list, in this order.
   await page.value('document.activeElement.blur(), scrollTo(0, 0)')
   const path = []
-  for (let step = 0; step < 16; step++) {
+  for (let step = 0; step < 20; step++) {
     await page.press('Tab')
     path.push(await page.value("document.activeElement.id || document.activeElement.closest('form, section')?.id"))
   }
-  assert.deepEqual(path.filter((it, at) => it !== path[at - 1]), ['file', 'text', 'open', 'summary', 'graph', 'which', 'blocks'])
+  assert.deepEqual(path.filter((it, at) => it !== path[at - 1]), ['file', 'text', 'open', 'summary', 'sought', 'search', 'graph', 'which', 'copy-cids', 'save-cids', 'blocks'])
 
   // A large CAR: the page continues to respond while the worker reads it.
   writeLarge()
@@ -264,6 +417,18 @@ try {
   assert.ok(gap < 2000, `the page stood still for ${gap} ms`)
   await page.value("document.getElementById('after').click()")
   await page.until("document.getElementById('range').innerText.startsWith('101 to 200')")
+  // A search and a copy of the large CAR: the page continues to respond.
+  await page.value("(() => { window.gap = 0; let last = performance.now(); window.timer = setInterval(() => { const now = performance.now(); window.gap = Math.max(window.gap, now - last); last = now }, 10) })()")
+  const sought = performance.now()
+  assert.deepEqual(await find('what is not in any block'), [])
+  const searched = ((performance.now() - sought) / 1000).toFixed(1)
+  assert.equal((await find('a record')).length, 1000)
+  assert.equal(await said('found-said'), 'The first 1,000 hits. The rest of the file is not searched.')
+  await page.value("document.getElementById('copy-cids').click()")
+  await page.until("/^(Copied|[0-9,]+ bytes are too long)/.test(document.getElementById('told').textContent)")
+  const searchGap = await page.value('clearInterval(window.timer), window.gap')
+  assert.ok(searchGap < 2000, `the page stood still for ${searchGap} ms`)
+  console.log(`inspector: a search of ${MEGABYTES} MB in ${searched} s, in which the page stood still for ${Math.round(searchGap)} ms at most`)
   console.log(`inspector: a CAR of ${MEGABYTES} MB and ${await fact('facts', 'blocks')} blocks in ${seconds} s, in which the page stood still for ${Math.round(gap)} ms at most`)
   assert.deepEqual(page.problems, [])
 } finally {
