@@ -3,6 +3,7 @@ import { showTree } from './tree.js'
 import { showBytes } from './hex.js'
 import { showGraph } from './graph.js'
 import { LONGEST_COPY, copyText, save } from './copy.js'
+import { keep, kept } from './kept.js'
 
 const ROWS = 100
 const TOLD = 4000 // the number of milliseconds for which the page shows what it has done
@@ -186,9 +187,11 @@ function entitle () {
 
 // ---- Opening
 
-/** Opens a file that the user has chosen. */
-function open (file) {
+/** Opens a file that the user has chosen, of which the browser may have a handle. */
+function open (file, handle) {
   if (!file) return
+  show('again', false)
+  keep(handle)
   const isFirst = current === 0
   current = files.size + 1
   files.set(current, { file })
@@ -220,28 +223,64 @@ function showWanted () {
   if (fragment()) restore()
 }
 
-/** Opens the file that the browser has kept, or shows what the address names. */
-function begin () {
-  const [kept] = element('file').files
-  if (kept && current === 0) open(kept)
-  else if (fragment() && current === 0) restore()
+/** Opens the file of a handle. */
+async function openHandle (handle) {
+  try {
+    open(await handle.getFile(), handle)
+  } catch (error) {
+    showFailure({ what: `${handle.name} can't be read: ${error.message}` })
+  }
 }
 
-// The input keeps its file, which a browser can restore when the user comes back to the page.
+/** Opens the file that the browser has kept, or shows what the address names. */
+async function begin () {
+  const { files: [restored] } = element('file')
+  if (restored) return open(restored)
+  const handle = await kept()
+  // The user can be faster.
+  if (current !== 0) return
+  if (handle && await handle.queryPermission() === 'granted') return openHandle(handle)
+  if (fragment()) restore()
+  if (!handle) return
+  const button = element('again')
+  button.textContent = `Open ${handle.name} again`
+  button.onclick = async () => { if (await handle.requestPermission() === 'granted') openHandle(handle) }
+  show('again', true)
+}
+
+/** Whether the browser's own dialog is used, which gives no handle. */
+let isPlain = window.showOpenFilePicker === undefined
+
+element('file').addEventListener('click', async (event) => {
+  const { target } = event
+  // The input keeps its file, and a second choice of this file is a change too.
+  target.value = ''
+  if (isPlain) return
+  event.preventDefault()
+  try {
+    const [handle] = await window.showOpenFilePicker()
+    openHandle(handle)
+  } catch (error) {
+    if (error.name === 'AbortError') return
+    isPlain = true
+    target.click()
+  }
+})
 element('file').addEventListener('change', ({ target }) => open(target.files[0]))
-element('file').addEventListener('click', ({ target }) => { target.value = '' })
 addEventListener('dragover', (event) => {
   event.preventDefault()
   document.body.classList.add('over')
 })
 addEventListener('dragleave', () => document.body.classList.remove('over'))
-addEventListener('drop', (event) => {
+addEventListener('drop', async (event) => {
   event.preventDefault()
   document.body.classList.remove('over')
-  const { files: dropped } = event.dataTransfer
-  if (dropped.length === 0) return
+  const { files: dropped, items: [item] } = event.dataTransfer
+  const [file] = dropped
+  if (!file) return
   element('file').files = dropped
-  open(dropped[0])
+  const handle = await item.getAsFileSystemHandle?.().catch(() => undefined)
+  open(file, handle?.kind === 'file' ? handle : undefined)
 })
 element('open').addEventListener('submit', (event) => {
   event.preventDefault()

@@ -53,7 +53,7 @@ function sizeOf ({ kinds, lengths, values, names }, at) {
 }
 
 /** Returns where the value of the entry `at` begins and ends in its DAG-CBOR block. */
-function rangeOf (tape, at) {
+export function rangeOf (tape, at) {
   let begins = 0
   for (let each = 0; each < at; each++) begins += sizeOf(tape, each)
   let ends = begins

@@ -178,7 +178,7 @@ try {
   await page.until("document.activeElement.getAttribute('aria-label') === 'map map of 2'")
 
   // A valid and an invalid CID as text.
-  const ask = (cid) => page.value(`(() => { document.getElementById('text').value = '${cid}'; document.querySelector('#open button').click() })()`)
+  const ask = (cid) => page.value(`(() => { document.getElementById('text').value = '${cid}'; document.querySelector('#open [type=submit]').click() })()`)
   await ask('QmdfTbBqBPQ7VNxZEYEj14VmRuZBkqFbiwReogJgS1zR1n')
   await page.until("document.getElementById('parts').innerText.includes('0x70 (dag-pb)')")
   await ask('bafkqaa1')
@@ -274,6 +274,25 @@ try {
   await page.press('ArrowDown')
   await page.until("document.getElementById('json-text').textContent === '1.5'")
 
+  // The range of each value in its block, for heads of each length.
+  assert.deepEqual(await page.value(`(async () => {
+    const { rangeOf } = await import('/tree.js')
+    const { CID, encode, tape, toJSON } = await import('/index.js')
+    const sizes = [0, 23, 24, 255, 256, 65535, 65536]
+    const items = [null, true, false, 1.5, CID.parse('bafkqaaa'), CID.ofBlock(0x55, new Uint8Array(1)), [[], {}], { a: [1, { b: -1 }], bb: 'x' }]
+    for (const size of [...sizes, 4294967295, 4294967296, 18446744073709551615n]) items.push(size, -1n - BigInt(size))
+    for (const size of sizes) items.push('x'.repeat(size), new Uint8Array(size), new Array(size).fill(7))
+    const block = encode(items)
+    const entries = tape(block)
+    const packed = { kinds: entries.map(({ kind }) => kind), lengths: entries.map(({ length }) => length), values: entries.map(({ value }) => BigInt(value)), names: new Map() }
+    let at = 1
+    return items.filter((item) => {
+      const [begins, ends] = rangeOf(packed, at)
+      at += entries[at].kind === 9 || entries[at].kind === 10 ? entries[at].length : 1
+      return toJSON(block.subarray(begins, ends)) !== toJSON(encode(item))
+    }).length + (at === entries.length ? '' : ' and others')
+  })()`), '0')
+
   // What is shown is copied and saved.
   const copied = async (id, about) => {
     await page.value(`document.getElementById('${id}').click()`)
@@ -353,8 +372,25 @@ try {
   await page.until(`document.getElementById('status').textContent === 'Open the file that has the block ${names[1]}.'`)
   await page.choose('#file', files.car)
   await page.until(isSame)
+  // Where the browser has handles of files, the page opens the file again by itself. The handle here
+  // is of the browser's own files, of which nobody is asked for a permission.
+  await page.value(`(async () => {
+    const handle = await (await navigator.storage.getDirectory()).getFileHandle('kept.car', { create: true })
+    const writer = await handle.createWritable()
+    await writer.write(Uint8Array.from(atob('${car.toString('base64')}'), (letter) => letter.charCodeAt(0)))
+    await writer.close()
+    window.showOpenFilePicker = async () => [handle]
+    document.getElementById('file').click()
+  })()`)
+  await page.until("document.getElementById('facts').innerText.includes('kept.car') && document.querySelectorAll('#list li').length === 7")
+  await page.value("document.querySelector('#list li:nth-child(2) .link').click()")
+  await page.until("document.activeElement.getAttribute('aria-label') === 'map map of 5'")
+  await page.value('void setTimeout(() => location.reload(), 100)')
+  await page.until("document.readyState === 'complete' && performance.now() < 10000 && document.getElementById('facts').innerText.includes('kept.car') && document.activeElement.getAttribute('aria-label') === 'map map of 5'")
+  assert.equal(await hash(), `#${names[1]}`)
   // A link shows the parts of its CID until the file is opened. Several blocks can have one CID.
   const other = `${names[1]}@${car.indexOf(sorted)}`
+  await page.value("indexedDB.deleteDatabase('inspector')")
   await leave()
   await page.call('Page.navigate', { url: `${server.url}#${other}` })
   await page.until("document.body.dataset.ready === 'true' && document.getElementById('parts').innerText.includes('0x71 (dag-cbor)')")
