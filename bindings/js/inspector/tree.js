@@ -1,6 +1,7 @@
 // Shows the values of a block as a tree of the tape's entries. The items of a folded list or map
 // are not created.
 const MANY = 200
+const LEVELS = 100 // the maximum number of levels that are unfolded to show a hit
 const PAGES = 10 // the maximum number of times MANY items that are created to show a hit
 const LONGEST = 300
 
@@ -259,7 +260,7 @@ export function showTree (root, { tape, bytes, links }, { select, follow }) {
     const wanted = entryAt(place)
     if (wanted === undefined) return
     let node = top
-    while (node.at.entry !== wanted) {
+    for (let level = 0; level < LEVELS && node.at.entry !== wanted; level++) {
       unfold(node, true)
       const group = node.lastElementChild
       const isAround = ({ at: { entry: begins } }) => begins <= wanted && wanted < begins + spanOf(tape, begins)

@@ -114,7 +114,7 @@ try {
   await page.until("document.querySelectorAll('#list li').length === 7")
   assert.deepEqual(await Promise.all(['blocks', 'wrong digests', 'other hashes', 'not of their codec', 'keys out of order', 'missing'].map((term) => fact('facts', term))), ['7', '1', '1', '1', '1', '1'])
   assert.equal(await fact('facts', 'format'), 'CAR version 1')
-  await part('inspector-car', 'graph', 634)
+  await part('inspector-car', 'graph', 676)
   await page.value("(() => { const which = document.getElementById('which'); which.value = 'wrong'; which.dispatchEvent(new Event('change')) })()")
   await page.until("document.querySelectorAll('#list li').length === 1")
   assert.match(await said('list'), /wrong digest/)
@@ -161,7 +161,7 @@ try {
   assert.match(await said('tree'), /missing: bafy\w+ \(not in the file\)/)
   for (const key of ['ArrowDown', 'ArrowDown', 'ArrowDown']) await page.press(key)
   assert.equal(await chosen(), 'text: string "Grüße aus Zürich"')
-  await part('inspector-block', 'block', 569)
+  await part('inspector-block', 'block', 643)
   await page.value("[...document.querySelectorAll('#tree [aria-level=\"2\"] > .row')].find((it) => it.textContent.includes('scores')).click()")
   assert.equal(await page.value("document.querySelectorAll('#tree [aria-level=\"3\"]').length"), 201)
   await page.value("document.querySelector('#tree [aria-level=\"3\"]:last-child > .row').click()")
@@ -171,6 +171,7 @@ try {
   assert.equal(await fact('block-parts', 'codec'), '0x71 (dag-cbor)')
   assert.equal(await fact('block-parts', 'digest'), `${createHash('sha256').update(sorted).digest('hex')} (32 bytes)`)
   assert.equal(await fact('block-parts', 'base16'), 'f' + cidOf(0x71, sorted).toString('hex'))
+  await page.value("document.querySelector('#block-cid summary').click()")
   await dark('dark')
   await picture('inspector-block-dark')
   await dark('light')
@@ -193,7 +194,7 @@ try {
   await page.until("document.getElementById('error').innerText.includes('BLOCK_NOT_SHORTEST')")
   assert.equal(await page.value("document.querySelector('#hex mark.at').textContent"), '18')
   assert.match(await said('hex-range'), /the error is at byte 182$/)
-  await part('inspector-error', 'block', 590)
+  await part('inspector-error', 'block', 664)
 
   // A DAG-PB node: a link whose block is in the file and a link whose block isn't, and the bytes of
   // the data. Then a block that is not a DAG-PB node.
@@ -325,7 +326,7 @@ try {
   const find = async (what) => {
     await page.value(`(() => { document.getElementById('sought').value = ${JSON.stringify(what)}; document.querySelector('#search button').click() })()`)
     await page.until("document.getElementById('stop').hidden")
-    return page.value("[...document.querySelectorAll('#found li')].map((it) => it.innerText.replace(/\\s+/g, ' '))")
+    return page.value("[...document.querySelectorAll('#found li')].map((it) => [...it.children].map(({ textContent }) => textContent).join(' '))")
   }
   await page.choose('#file', files.car)
   await page.until("document.querySelectorAll('#list li').length === 7 && document.querySelectorAll('#drawing [role=button]').length === 4")
