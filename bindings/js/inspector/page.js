@@ -190,6 +190,7 @@ function entitle () {
 /** Opens a file that the user has chosen, of which the browser may have a handle. */
 function open (file, handle) {
   if (!file) return
+  if (document.activeElement === element('again')) element('file').focus()
   show('again', false)
   keep(handle)
   const isFirst = current === 0
@@ -208,7 +209,7 @@ function read (id) {
   turn++
   shown = opener = undefined
   for (const each of ['choice', 'summary', 'graph', 'blocks', 'block', 'cid', 'found', 'stop']) show(each, false)
-  for (const each of ['failure', 'found-said']) element(each).replaceChildren()
+  for (const each of ['failure', 'found-said', 'searching']) element(each).replaceChildren()
   element('sought').value = ''
   element('progress').removeAttribute('value')
   element('read').textContent = ''
@@ -220,7 +221,7 @@ function read (id) {
 
 /** Shows the block that the history names, after the file is read. */
 function showWanted () {
-  if (fragment()) restore()
+  if (fragment() || history.state?.file !== current) restore()
 }
 
 /** Opens the file of a handle. */
@@ -321,7 +322,9 @@ element('stop').addEventListener('click', () => {
 
 function showFound ({ hits, done, all, isFull }) {
   const count = number.format(hits.length)
+  if (document.activeElement === element('stop')) element('sought').focus()
   show('stop', false)
+  element('searching').textContent = ''
   show('found', hits.length > 0)
   element('found-said').textContent = isFull ? `The first ${count} hits. The rest of the file is not searched.`
     : `${hits.length ? count : 'No'} ${hits.length === 1 ? 'hit' : 'hits'}${done < all ? `, up to byte ${number.format(done)} of ${number.format(all)}` : ''}.`
@@ -466,7 +469,6 @@ function showBlock (block) {
   const { view = {}, bytes, cid } = block
   shown = { ...block, length: bytes.length, path: [], range: () => [], marked: view.mark ?? [0, 0] }
   const name = block.isFirst ? cid.text : `${cid.text}@${block.offset}`
-  if (view.entry === 'kept' && fragment() && fragment() !== name) say(`The block ${fragment()} is not in this file.`)
   enter(view.entry === 'new', name, { mark: view.mark })
   entitle()
   show('block', true)
@@ -500,6 +502,7 @@ function showBlock (block) {
   show('no-tree', block.tape === undefined)
   element('no-tree').textContent = block.tape ? '' : block.error ? 'No values: the block is rejected.' : block.hasValues ? 'The block has more values than can be shown here.' : 'Blocks of this codec have no values here.'
   showParts(element('block-parts'), cid)
+  for (const id of ['json-said', 'json-text']) element(id).replaceChildren()
   element('block-title').textContent = `Block of codec ${cid.codec}`
   show('json', block.hasJson && !block.error)
   showJson()
@@ -571,10 +574,10 @@ const answers = {
     element('graph-said').textContent = `${isPart ? `The ${nodes.length} blocks nearest to ${from}` : `What links lead to from ${from}`}: a column for each step. Arrow keys go along the links; Enter opens a block.`
     showGraph(element('drawing'), { nodes, edges }, (node) => node.index === undefined ? askParts(node.text) : visit(node.index))
   },
-  'block-file' ({ name, size, code, view = { entry: 'kept', mark: history.state?.mark } }) {
+  'block-file' ({ name, size, code, isOther, view = { entry: 'kept', mark: history.state?.mark } }) {
     show('reading', false)
     show('choice', false)
-    say(`${name} is read.`)
+    say(isOther ? `${name} is read. It is not the block ${fragment()}.` : `${name} is read.`)
     definition(element('facts'), [['name', name], ['size', `${number.format(size)} bytes`], ['format', 'a block; the CID is made of it']])
     show('summary', true)
     show('codec-bar', true)
@@ -593,7 +596,8 @@ const answers = {
   rows ({ rows }) { showRows(rows) },
   block (block) { showBlock(block) },
   searching ({ number: of, done, all, hits }) {
-    if (of === searches) element('found-said').textContent = `Searched ${number.format(Math.floor(done / 1e6))} of ${number.format(Math.ceil(all / 1e6))} MB: ${number.format(hits)} hits.`
+    // Not in the status, which screen readers read aloud.
+    if (of === searches) element('searching').textContent = `Searched ${number.format(Math.floor(done / 1e6))} of ${number.format(Math.ceil(all / 1e6))} MB: ${number.format(hits)} hits.`
   },
   found (message) { if (message.number === searches) showFound(message) },
   reply ({ id, ...answer }) {

@@ -182,19 +182,19 @@ async function readBlock (found, wanted) {
   const errors = []
   for (const code of CHOICES) {
     const error = code === RAW ? undefined : errorOf(code, bytes)
-    if (error === undefined && code !== RAW) return take(found, code, bytes)
+    if (error === undefined && code !== RAW) return take(found, code, bytes, { isOther: wanted !== undefined })
     errors.push({ code, error })
   }
   postMessage({ type: 'choice', turn, name, size, errors })
 }
 
-/** Takes the file for a block of this codec. */
-function take (found, code, bytes, view) {
+/** Takes the file for a block of this codec. `more` is added to the message. */
+function take (found, code, bytes, more) {
   const { file, turn } = found
   Object.assign(found, empty(file, turn), { own: true })
   add(found, { cid: CID.ofBlock(code, bytes), bytes, offset: 0 })
   for (const [, link] of found.linked) found.missing.push(link)
-  postMessage({ type: 'block-file', turn, name: file.name, size: file.size, code, view })
+  postMessage({ type: 'block-file', turn, name: file.name, size: file.size, code, ...more })
 }
 
 /** Returns up to 512 bytes of the file around `offset`, or undefined if there is no offset. */
@@ -376,7 +376,7 @@ async function find (fragment, view) {
   if (open.own) {
     const bytes = new Uint8Array(await open.file.arrayBuffer())
     const code = codecOfCid(text, bytes)
-    if (code !== undefined) return take(open, code, bytes, view)
+    if (code !== undefined) return take(open, code, bytes, { view })
   }
   const index = indexOf(text, offset)
   if (index === undefined) showParts(text, { isAbsent: true })
@@ -489,7 +489,7 @@ const works = {
   graph: () => graphOf(open),
   block: ({ index, view }) => blockOf(index, view),
   find: ({ text, view }) => find(text, view),
-  codec: async ({ code, view }) => take(open, code, new Uint8Array(await open.file.arrayBuffer()), view),
+  codec: async ({ code, view }) => take(open, code, new Uint8Array(await open.file.arrayBuffer()), { view }),
   cid: ({ text, more }) => showParts(text, more),
   search: ({ text, number }) => search(open, text, number),
   stop: () => { open.search = undefined },

@@ -58,6 +58,7 @@ const files = {
   integers: write('integers.cbor', Buffer.concat([Buffer.from([0x9a, 0, 0x0f, 0x42, 0x40]), Buffer.alloc(1e6, 7)])),
   photo: write('photo.jpg', Buffer.from('ffd8ffe000104a46494600010100000100010000ffd9', 'hex')),
   json: write('value.json', Buffer.from(' {"b":"the content of a text","a":[{"/":"bafkqaaa"},1.5,{"/":{"bytes":"AQID"}}]}\n')),
+  twice: write('twice.car', Buffer.concat([header(), ...[sorted, sorted].map((bytes) => framed(cidOf(0x71, bytes), bytes))])),
   markup: write('<img src=x onerror=alert(1)>.cbor', map([HTML, list(text(HTML), link(cidOf(0x55, leaf)))])),
   large: `${folder}/large.car`
 }
@@ -386,8 +387,8 @@ try {
   await page.until("document.getElementById('facts').innerText.includes('kept.car') && document.querySelectorAll('#list li').length === 7")
   await page.value("document.querySelector('#list li:nth-child(2) .link').click()")
   await page.until("document.activeElement.getAttribute('aria-label') === 'map map of 5'")
-  await page.value('void setTimeout(() => location.reload(), 100)')
-  await page.until("document.readyState === 'complete' && performance.now() < 10000 && document.getElementById('facts').innerText.includes('kept.car') && document.activeElement.getAttribute('aria-label') === 'map map of 5'")
+  await page.value('window.isOld = true, void setTimeout(() => location.reload(), 100)')
+  await page.until("window.isOld === undefined && document.getElementById('facts').innerText.includes('kept.car') && document.activeElement.getAttribute('aria-label') === 'map map of 5'")
   assert.equal(await hash(), `#${names[1]}`)
   // A link shows the parts of its CID until the file is opened. Several blocks can have one CID.
   const other = `${names[1]}@${car.indexOf(sorted)}`
@@ -399,6 +400,7 @@ try {
   await page.choose('#file', files.car)
   await page.until(`document.activeElement.getAttribute('aria-label') === 'map map of 5' && location.hash === '#${names[1]}'`)
   assert.equal(await page.value("document.getElementById('cid').hidden"), true)
+  assert.equal(await said('status'), 'tree.car is read.')
 
   // The parts of a CID are below its field. Closing them gives the focus back.
   await page.value("[...document.querySelectorAll('#tree .row')].find((it) => it.textContent.includes('missing')).click()")
@@ -415,6 +417,22 @@ try {
   assert.equal((await find('onerror')).length, 2)
   assert.match(await json(), /^{"<img/)
   assert.equal(await page.value("document.querySelectorAll('img').length"), 0)
+
+  // Back also leads to the file before. The second of two blocks with one CID has its offset in the
+  // address.
+  await page.value('history.back()')
+  await page.until(`document.getElementById('facts').innerText.includes('tree.car') && document.activeElement.getAttribute('aria-label') === 'map map of 5' && location.hash === '#${names[1]}'`)
+  await page.choose('#file', files.twice)
+  await page.until("document.getElementById('facts').innerText.includes('twice.car') && document.querySelectorAll('#list li').length === 2")
+  assert.equal(await hash(), '')
+  for (const [row, fragment] of [[1, names[1]], [2, `${names[1]}@${readFileSync(files.twice).lastIndexOf(sorted)}`]]) {
+    await page.value(`document.querySelector('#list li:nth-child(${row}) .link').click()`)
+    await page.until(`location.hash === '#${fragment}'`)
+  }
+  await page.value('history.back()')
+  await page.until(`location.hash === '#${names[1]}'`)
+  await page.value('history.forward()')
+  await page.until("location.hash.includes('@') && history.state.depth === 2")
 
   // A CAR that ends too early.
   await page.choose('#file', files.cut)
