@@ -81,7 +81,7 @@ export async function browse (url, width = 1280, height = 1000) {
     value,
     problems,
     downloads,
-    async until (expression, seconds = 30) {
+    async until (expression, seconds = 120) {
       for (const end = Date.now() + seconds * 1000; Date.now() < end; await new Promise((resolve) => setTimeout(resolve, 50))) {
         if (await value(expression).catch(() => false)) return
       }
