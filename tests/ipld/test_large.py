@@ -4,7 +4,7 @@ import re
 import resource
 
 from .blocks import LOST, PART
-from .formats import block, car, cbor, raw, varint, DAG_CBOR
+from .formats import DAG_CBOR, RAW, block, car, cbor, cid_of, raw, varint
 from .program import ProgramTest
 from .rows import CHECK_FAILED, ERROR, Row, fails, lines
 
@@ -91,6 +91,16 @@ class LargeTest(ProgramTest):
 
 
 class MemoryTest(ProgramTest):
+    def test_the_cid_of_a_large_raw_block(self):
+        data = b"".join(it.data for it in LARGE)
+        path = self.folder / "large"
+        path.write_bytes(data)
+        printed = lines(cid_of(RAW, data))
+        self.check(Row("cid -c raw large", printed), preexec_fn=little_memory)
+        with path.open("rb") as given:
+            self.check(Row("cid -c raw -", printed), stdin=given, preexec_fn=little_memory)
+        self.check(Row("cid -c raw /dev/stdin", printed), input=data, preexec_fn=little_memory)
+
     def test_copies_take_little_memory(self):
         large = car([], LARGE)
         path = self.folder / "large.car"

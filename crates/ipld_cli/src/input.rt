@@ -20,6 +20,28 @@ pub enum Input {
     File(File),
 }
 
+impl Input {
+    /// Opens a file, or standard input if the name is `-`.
+    pub fn open(rt: &HostRuntime, name: &str) -> io::Result<Input> {
+        if name == "-" {
+            Ok(Input::Standard(rt.reader()))
+        } else {
+            Ok(Input::File(fs::open(rt, name)?))
+        }
+    }
+
+    // Returns the size in bytes, if that is known. Standard input and pipes have none.
+    fn size(&self) -> Option<u64> {
+        let Input::File(file) = self else {
+            return None;
+        };
+        match file.metadata() {
+            Ok(metadata) if metadata.is_file() => Some(metadata.len()),
+            _ => None,
+        }
+    }
+}
+
 impl Read for Input {
     fn read(&mut self, buf: &mut [u8]) -> io::Result<usize> {
         match self {
@@ -75,20 +97,6 @@ pub fn shows_progress(rt: &HostRuntime) -> bool {
     rt.stderr().is_terminal()
 }
 
-// Opens a file or standard input, and returns its size in bytes, if that is known.
-fn open_input(rt: &HostRuntime, file: &str) -> io::Result<(Input, Option<u64>)> {
-    if file == "-" {
-        return Ok((Input::Standard(rt.reader()), None));
-    }
-    let opened = fs::open(rt, file)?;
-    // A pipe has no size.
-    let total = match opened.metadata() {
-        Ok(metadata) if metadata.is_file() => Some(metadata.len()),
-        _ => None,
-    };
-    Ok((Input::File(opened), total))
-}
-
 /// Opens a CAR whose sections have at most `limit` bytes, and shows the progress of reading if
 /// `is_shown` is true. Reports the error if the file can't be read or doesn't begin with a CAR
 /// header.
@@ -98,11 +106,11 @@ pub fn open_car<'a>(
     limit: u64,
     is_shown: bool,
 ) -> Result<OpenCar<'a>, Outcome> {
-    let (input, total) = match open_input(rt, file) {
-        Ok(opened) => opened,
+    let input = match Input::open(rt, file) {
+        Ok(input) => input,
         Err(error) => return Err(report_unreadable(rt, file, &error)),
     };
-    let shown = ProgressLine::new(rt, file, total, is_shown);
+    let shown = ProgressLine::new(rt, file, input.size(), is_shown);
     let mut reader = match BufReader::with_capacity(
         rt.alloc(),
         BUFFER,

@@ -37,6 +37,7 @@ mod output;
 mod payload;
 mod per_word;
 mod progress;
+mod raw_cid;
 mod spool;
 mod summary;
 mod writer;
@@ -66,5 +67,6 @@ pub use output::{
     sync_folder, write, write_output, writes_to_input,
 };
 pub use per_word::{PerWord, reads_twice, run_over, run_to_end};
+pub use raw_cid::raw_cid_of_file;
 pub use summary::Summary;
 pub use writer::{UntilClosed, end_writer};

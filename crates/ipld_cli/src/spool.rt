@@ -1,7 +1,8 @@
 //! Copies of inputs that can be read only once.
 
+use crate::input::Input;
 use std::fs::{self, File, OpenOptions};
-use std::io::{self, Error, ErrorKind, Read};
+use std::io::{self, Error, ErrorKind};
 use std::os::unix::fs::OpenOptionsExt;
 use std::{env, process};
 
@@ -15,16 +16,9 @@ const NAMES: u32 = 1000;
 ///
 /// The system's error if the input can't be read or the file can't be written.
 pub fn spooled(rt: &HostRuntime, file: &str) -> io::Result<File> {
-    if file == "-" {
-        copy_of(rt, &mut rt.reader())
-    } else {
-        copy_of(rt, &mut fs::open(rt, file)?)
-    }
-}
-
-fn copy_of<R: Read>(rt: &HostRuntime, input: &mut R) -> io::Result<File> {
+    let mut input = Input::open(rt, file)?;
     let mut copy = nameless_file(rt)?;
-    io::copy(input, &mut copy)?;
+    io::copy(&mut input, &mut copy)?;
     Ok(copy)
 }
 

@@ -7,8 +7,8 @@ use ipld_block::{BlockCodec, check, cid_of};
 use ipld_cid::{Cid, DAG_PB, Version};
 use ipld_cid_text::{Base, to_string_of_base, usual_text};
 use ipld_cli::{
-    NoCid, Outcome, PerWord, json_lines, parse_cid, parse_cid_argument, read_file, report,
-    report_unreadable, run_over,
+    NoCid, Outcome, PerWord, json_lines, parse_cid, parse_cid_argument, raw_cid_of_file, read_file,
+    report, report_unreadable, run_over,
 };
 use ipld_show::{ShowError, write_cid_parts};
 use std::alloc::Global;
@@ -167,8 +167,8 @@ fn print_lines<W: Write>(
     Ok(worst)
 }
 
-// Prints the CID of a file's block.
-fn print_file<W: Write>(
+// Prints the CID of the block that a file's bytes are.
+fn print_block<W: Write>(
     rt: &HostRuntime,
     options: &CidOptions,
     file: &str,
@@ -180,6 +180,23 @@ fn print_file<W: Write>(
     }
     let cid = cid_of(options.codec.code(), bytes);
     print_one(rt, options, file, Some(file), &cid, writer)
+}
+
+// Prints the CID of a file's block. Returns the error, and prints nothing, if the file can't be
+// read.
+fn print_file<W: Write>(
+    rt: &HostRuntime,
+    options: &CidOptions,
+    file: &str,
+    writer: &mut W,
+) -> io::Result<Result<Outcome, ShowError>> {
+    // All bytes are a raw block, so they are not kept to be checked.
+    if options.codec == BlockCodec::Raw {
+        let cid = raw_cid_of_file(rt, file)?;
+        return Ok(print_one(rt, options, file, Some(file), &cid, writer));
+    }
+    let bytes = read_file(rt, file)?;
+    Ok(print_block(rt, options, file, &bytes, writer))
 }
 
 // Reports that a word is neither a file that can be read nor a CID.
@@ -216,8 +233,8 @@ fn print_word<W: Write>(
         Ok(cid) => return print_one(rt, options, word, None, &cid, writer),
         Err(error) => error,
     };
-    match read_file(rt, word) {
-        Ok(bytes) => print_file(rt, options, word, &bytes, writer),
+    match print_file(rt, options, word, writer) {
+        Ok(printed) => printed,
         Err(error) => {
             let why = NoCid::new(word, no_cid);
             Ok(report_no_file(rt, word, &error, &why))
