@@ -19,6 +19,12 @@ pub fn codec_of(matches: &ArgMatches<'_>) -> BlockCodec {
         .unwrap_or(BlockCodec::DagCbor)
 }
 
+/// Returns whether `--version` asks for a CAR of version 2, which has an index. Version 1 is the
+/// default.
+pub fn writes_index(matches: &ArgMatches<'_>) -> bool {
+    matches.get_str("version") == Some("2")
+}
+
 /// Returns whether `--codec` is given.
 pub fn names_codec(matches: &ArgMatches<'_>) -> bool {
     matches.value_source("codec") == Some(ValueSource::CommandLine)

@@ -1,6 +1,6 @@
 //! The command that creates a CAR file.
 
-use crate::arguments::{codec_of, limit_of, names_codec, read_text, size_of};
+use crate::arguments::{codec_of, limit_of, names_codec, read_text, size_of, writes_index};
 use crate::car_commands::split::{Form, Part, Split, outputs_of, split_blocks};
 use clap::ArgMatches;
 use ipld_block::BlockCodec;
@@ -311,7 +311,7 @@ impl CreateOptions {
                 is_v0: matches.get_flag("v0"),
             },
             most: size_of(rt, matches, "split")?,
-            has_index: matches.get_str("version") == Some("2"),
+            has_index: writes_index(matches),
             force: matches.get_flag("force"),
         })
     }

@@ -190,12 +190,12 @@ fn extract(
 ) -> Outcome {
     let mut requested = requested;
     let indexed = extract_indexed(rt, target, limit, &mut requested);
-    let outcome = extract_found(rt, target, limit, &mut requested, places);
-    match outcome {
-        Ok(outcome) => indexed
-            .worse(outcome)
-            .worse(report_lacking_blocks(rt, target.file, &requested)),
-        Err(outcome) => indexed.worse(outcome),
+    let search = extract_found(rt, target, limit, &mut requested, places);
+    let outcome = indexed.worse(search.outcome);
+    if search.is_complete {
+        outcome.worse(report_lacking_blocks(rt, target.file, &requested))
+    } else {
+        outcome
     }
 }
 
@@ -223,21 +223,47 @@ fn extract_indexed(
     outcome
 }
 
-// Writes the blocks that are in the file, the first of each CID. An error is one of the CAR.
+// The end of a search for blocks.
+#[derive(Clone, Copy)]
+struct Search {
+    outcome: Outcome,
+    // Whether the CAR was read up to its end, or up to the last of the blocks.
+    is_complete: bool,
+}
+
+impl Search {
+    // Returns the end of a search that found all blocks or read the whole CAR.
+    fn complete(outcome: Outcome) -> Search {
+        Search {
+            outcome,
+            is_complete: true,
+        }
+    }
+
+    // Returns the end of a search that an error stopped, which was reported.
+    fn stopped(outcome: Outcome) -> Search {
+        Search {
+            outcome,
+            is_complete: false,
+        }
+    }
+}
+
+// Writes the blocks that are in the file, the first of each CID.
 fn extract_found(
     rt: &HostRuntime,
     target: Target<'_, '_>,
     limit: u64,
     requested: &mut Vec<RequestedBlock<'_>>,
     places: &Places,
-) -> Result<Outcome, Outcome> {
+) -> Search {
     let left = requested.iter().filter(|block| !block.is_found).count();
     if left == 0 {
-        return Ok(Outcome::Done);
+        return Search::complete(Outcome::Done);
     }
     match open_car(rt, target.file, limit, shows_progress(rt)) {
         Ok(opened) => extract_from(rt, target, opened, requested, places, left),
-        Err(outcome) => Err(outcome),
+        Err(outcome) => Search::stopped(outcome),
     }
 }
 
@@ -249,23 +275,20 @@ fn extract_from(
     requested: &mut Vec<RequestedBlock<'_>>,
     places: &Places,
     count: usize,
-) -> Result<Outcome, Outcome> {
+) -> Search {
     let (mut opened, mut left) = (opened, count);
     let mut section = Section::new(rt.alloc());
     let mut outcome = Outcome::Done;
     for _ in 0..MOST_SECTIONS {
         if left == 0 {
-            return Ok(outcome);
+            return Search::complete(outcome);
         }
         match opened.car.read_section(&mut section) {
             Ok(true) => {}
-            Ok(false) => return Ok(outcome),
+            Ok(false) => return Search::complete(outcome),
             Err(error) => {
-                return Err(outcome.worse(report_car_error(
-                    rt,
-                    target.file,
-                    &CarFileError::from(error),
-                )));
+                let error = CarFileError::from(error);
+                return Search::stopped(outcome.worse(report_car_error(rt, target.file, &error)));
             }
         }
         if let Some(text) = take_requested(requested, places, section.cid()) {
@@ -273,7 +296,7 @@ fn extract_from(
             outcome = outcome.worse(write_extracted(rt, target, &text, &section));
         }
     }
-    Err(Outcome::Failed)
+    Search::stopped(Outcome::Failed)
 }
 
 // Returns the text of a requested CID that was not found yet, and marks it as found.

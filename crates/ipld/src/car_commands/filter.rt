@@ -1,6 +1,6 @@
 //! The command that copies some blocks of a CAR to a new one.
 
-use crate::arguments::{cid_texts, limit_of};
+use crate::arguments::{cid_texts, limit_of, writes_index};
 use crate::car_commands::create::{CreateOptions, add_cid, create_car};
 use clap::ArgMatches;
 use ipld_cli::{CollectOptions, Outcome, Source, report_wrong_arguments};
@@ -43,7 +43,7 @@ fn filter_options(
             is_v0: false,
         },
         most: None,
-        has_index: matches.get_str("version") == Some("2"),
+        has_index: writes_index(matches),
         force: matches.get_flag("force"),
     })
 }
