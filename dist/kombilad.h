@@ -157,7 +157,7 @@ enum kombilad_status {
     KOMBILAD_CAR_SHORT_PAYLOAD = 104,
 
     /* A block isn't verified. */
-    /* the hash function of the CID is not SHA2-256, SHA2-512 or identity */
+    /* the hash function of the CID is not SHA2-256, SHA2-512, BLAKE2b-256 or identity */
     KOMBILAD_UNKNOWN_HASH = 112,
     /* the block has another digest */
     KOMBILAD_WRONG_DIGEST = 113,
@@ -555,7 +555,7 @@ uint32_t kombilad_car_next_part(const uint8_t *bytes, size_t len, uint32_t is_al
                                 uint64_t *more, uint64_t *offset);
 
 /* Compares the digest of a block with that of a CID. The hash function may be SHA2-256, SHA2-512,
- * or identity, whose digest is the block itself. Does not allocate.
+ * BLAKE2b-256, or identity, whose digest is the block itself. Does not allocate.
  *
  * Statuses: OK, KOMBILAD_UNKNOWN_HASH, KOMBILAD_WRONG_DIGEST, KOMBILAD_CID_*. */
 uint32_t kombilad_verify(const uint8_t *cid, size_t cid_len, const uint8_t *block, size_t len);

@@ -121,7 +121,8 @@ FAULTS = [
     ),
     (
         BLOCK,
-        "if (key === '__proto__') put(map, key, value)\n      else map[key] = value",
+        "if ((isFew || this.mayInherit(key)) && hasOwn(INHERITED, key)) define(map, key, value)\n"
+        "      else map[key] = value",
         "map[key] = value",
     ),
     (
