@@ -39,8 +39,8 @@ rm "$tests/cases"
 
 module=$(gzip -9c "$out/wasm/kombilad.wasm" | wc -c)
 package=$(wc -c < "$out/kombilad-$version.tgz")
-[ "$module" -le 147456 ] || { said "the module takes $module bytes by gzip, more than 144 KiB"; exit 1; }
-[ "$package" -le 229376 ] || { said "the package has $package bytes, more than 224 KiB"; exit 1; }
+[ "$module" -le 151552 ] || { said "the module takes $module bytes by gzip, more than 148 KiB"; exit 1; }
+[ "$package" -le 233472 ] || { said "the package has $package bytes, more than 228 KiB"; exit 1; }
 said "the package has $package bytes, of which its module takes $module by gzip"
 
 # ---- The package, as it installs

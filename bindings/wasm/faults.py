@@ -69,6 +69,11 @@ FAULTS = [
     (PB, "tape, most, core.neededAt, core.offsetAt)", "tape, most, core.offsetAt, core.neededAt)"),
     (CID, "length, core.cidAt, core.neededAt)", "length, core.cidAt, core.offsetAt)"),
     (CID, "(code, core.room, size, core.cidAt)", "(code, core.room, size + 1, core.cidAt)"),
+    (
+        CID,
+        "kombilad_verify(at, cid.length, core.room, size)",
+        "kombilad_verify(at, cid.length, core.room, size - 1)",
+    ),
     (CID, "code < 1n << 64n", "code <= 1n << 64n"),
     (CID, "number > 127n; number >>= 7n", "number > 128n; number >>= 7n"),
     # The JavaScript.
@@ -174,7 +179,8 @@ FAULTS = [
     (CID, "    this['/'] = this.bytes\n", ""),
     (CID, "      if (code !== DAG_PB) throw ofName('WRONG_VERSION')\n", ""),
     (CID, "if (!hasBytes && value[OLD] !== true) return null", "if (!hasBytes) return null"),
-    (CID, "if (code === 0) return equal(digest, bytesOf(bytes))", "if (code === 0) return true"),
+    (CID, "return status === 0\n", "return status !== 0\n"),
+    (CID, "const UNKNOWN_HASH = 112", "const UNKNOWN_HASH = 113"),
     (TEXT, "let same = at\n", "let same = end\n"),
     (TEXT, "if (!isAscii(bytes, at, end)) return", "if (false) return"),
     (TEXT, "if (key.length === length) keys[place]", "keys[place]"),

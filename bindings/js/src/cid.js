@@ -316,13 +316,22 @@ export const sha256 = {
   encode: (bytes) => CID.ofBlock(0x55, bytes).multihash.digest
 }
 
+/** The statuses of a digest that is not verified. */
+const UNKNOWN_HASH = 112
+const WRONG_DIGEST = 113
+
+function isBlockOf (core, bytes, cid) {
+  const size = sizeOf(bytes)
+  const at = place(core, bytes, size, cid.length)
+  core.bytes.set(cid, at)
+  const status = core.calls.kombilad_verify(at, cid.length, core.room, size)
+  if (status === UNKNOWN_HASH) return undefined
+  if (status !== 0 && status !== WRONG_DIGEST) throw ofStatus(status)
+  return status === 0
+}
+
 /**
  * Returns whether the block matches the digest of the CID. Returns undefined if the hash function
- * is neither SHA2-256 nor identity.
+ * is not SHA2-256, SHA2-512, BLAKE2b-256 or identity.
  */
-export function verify (cid, bytes) {
-  const { code, digest } = ownCid(cid).multihash
-  if (code === 0) return equal(digest, bytesOf(bytes))
-  if (code === 0x12) return equal(digest, sha256.encode(bytes))
-  return undefined
-}
+export function verify (cid, bytes) { return run(isBlockOf, inputOf(bytes), new Uint8Array(bytesOf(ownCid(cid).bytes))) }

@@ -113,7 +113,7 @@ export const sha256: {
 
 /**
  * Returns whether the block matches the digest of the CID. Returns undefined if the hash function
- * is neither SHA2-256 nor identity.
+ * is not SHA2-256, SHA2-512, BLAKE2b-256 or identity.
  */
 export function verify(cid: CID, bytes: Bytes): boolean | undefined
 

@@ -148,7 +148,14 @@ describe('CID', () => {
     assert.equal(verify(CID.decode(hex('01550002abcd')), hex('abcd')), true)
     assert.equal(verify(CID.decode(hex('01550002abcd')), hex('abce')), false)
     assert.equal(verify(CID.decode(hex('01550002abcd')), hex('abcdef')), false)
-    assert.equal(verify(CID.decode(hex('01551300')), new Uint8Array()), undefined)
+    const sha512 = 'cf83e1357eefb8bdf1542850d66d8007d620e4050b5715dc83f4a921d36ce9ce47d0d13c5d85f2b0ff8318d2877eec2f63b931bd47417a81a538327af927da3e'
+    assert.equal(verify(CID.decode(hex(`01551340${sha512}`)), new Uint8Array()), true)
+    assert.equal(verify(CID.decode(hex(`01551340${sha512}`)), new Uint8Array(1)), false)
+    const blake2b = 'bddd813c634239723171ef3fee98579b94964e3bb1cb3e427262c8c068d52319'
+    assert.equal(verify(CID.decode(hex(`0155a0e40220${blake2b}`)), Buffer.from('abc')), true)
+    assert.equal(verify(CID.decode(hex(`0155a0e40220${blake2b}`)), Buffer.from('abd')), false)
+    assert.equal(verify(CID.decode(hex('01551300')), new Uint8Array()), false)
+    assert.equal(verify(CID.decode(hex('01551100')), new Uint8Array()), undefined, 'SHA1 is not computed')
     assert.equal(verify(CID.decode(hex('01551202e3b0')), new Uint8Array()), false, 'a part of a digest is none')
     assert.equal(verify(CID.ofBlock(0x71, new Uint8Array(100000)), Buffer.alloc(100000)), true)
     fails(() => verify(EMPTY_RAW, new Uint8Array()), 'INPUT')
