@@ -10,11 +10,12 @@ use Rattle.dag_pb.specs.declared.reader.NodeField.{NodeField}
 use Rattle.dag_pb.specs.declared.reader.NodeField.TheVariants.{Link, Data}
 use Rattle.dag_pb.specs.declared.reader.Stage.{Stage}
 use Rattle.dag_pb.specs.declared.reader.Stage.TheVariants.{Nothing}
-use Rattle.dag_pb.specs.Errors.{◌>>=◌, error_in}
+use Rattle.pb_wire.specs.Steps.{◌>>=◌}
+use Rattle.dag_pb.specs.Errors.{error_in}
 use Rattle.dag_pb.specs.Node.{LinkParts, NodeParts, IsNode}
 use Rattle.dag_pb.specs.NodeReading.{Field, link, read_part, empty_node, with_field, joined, hashes, read_fields, in_block, read_node, links_found}
 use Rattle.dag_pb.specs.Views.{parts_of_link, part_of, IsLinkField, IsOutOfMemory}
-use Rattle.dag_pb.proofs.Wires.{bind_ok, same_ok}
+use Rattle.pb_wire.proofs.Steps.{bind_ok, same_ok}
 use Rattle.dag_pb.proofs.FieldSteps.{ends, goes_on, stops_at}
 use Rattle.dag_pb.proofs.NodeLaws.{node_sound, node_complete}
 

@@ -1,16 +1,18 @@
 -- The fields of a node, read one after the other.
-use Rattle.std.proofs.Common.{◌≡◌, ℕ, zero, suc, ◌+◌, ◌-◌, ◌*◌, ◌<◌, ◌≤◌, Bool, true, false, cond, ltb, eqb, List, [], ◌∷◌, length, take, drop, Option, Some, None, Result, Ok, Err, inl, inr, refl, ap, ◌∙◌, arith, length-drop}
-use Rattle.std.proofs.lemmas.Bool.{cases_lt, lt-ltb, le-ltb}
+use Rattle.std.proofs.Common.{◌≡◌, ℕ, zero, suc, ◌-◌, ◌<◌, ◌≤◌, Bool, true, false, cond, eqb, List, [], ◌∷◌, length, Option, Some, None, Result, Ok, Err, refl, ap, ◌∙◌, arith}
+use Rattle.pb_wire.specs.declared.error.WireError.{WireError}
 use Rattle.dag_pb.specs.declared.error.PbErrorKind.{PbErrorKind}
-use Rattle.dag_pb.specs.declared.error.PbErrorKind.TheVariants.{VarintTooLarge, UnknownField}
+use Rattle.dag_pb.specs.declared.error.PbErrorKind.TheVariants.{UnknownField}
 use Rattle.dag_pb.specs.declared.error.Fault.{Fault}
 use Rattle.dag_pb.specs.declared.reader.Stage.{Stage}
-use Rattle.dag_pb.specs.Errors.{◌>>=◌, at, before}
+use Rattle.pb_wire.specs.Steps.{◌>>=◌}
+use Rattle.dag_pb.specs.Errors.{at, of_wire, before}
 use Rattle.dag_pb.specs.Node.{LinkParts, NodeParts}
-use Rattle.dag_pb.specs.WireReading.{exceeds, read_from, read_varint, split, read_content}
+use Rattle.pb_wire.specs.Reading.{read_from, read_varint, read_content}
 use Rattle.dag_pb.specs.LinkReading.{read_link}
 use Rattle.dag_pb.specs.NodeReading.{Field, link, content, after_link, after_data, link_field, data_field, link_part, data_part, keyed, read_part, empty_node, with_field, run, read_fields}
-use Rattle.dag_pb.proofs.Wires.{bind_ok, unless_ok, same_ok}
+use Rattle.pb_wire.proofs.Steps.{bind_ok, same_ok, same_then}
+use Rattle.pb_wire.proofs.Shorter.{varint_shorter, content_shorter}
 
 -- ---- what follows a field is shorter
 
@@ -18,48 +20,14 @@ pub at_ok : {A : Type 0} (left : ℕ) (r : Result A PbErrorKind) (x : A) → at 
 at_ok left (Ok y) x e = cc
 at_ok left (Err k) x e = absurd cc
 
+-- the value that reading the wire format returned
+pub at_wire_ok : {A : Type 0} (left : ℕ) (r : Result A WireError) (x : A) → at left (of_wire r) ≡ Ok x → r ≡ Ok x
+at_wire_ok left (Ok y) x e = cc
+at_wire_ok left (Err d) x e = absurd cc
+
 pub before_ok : {A : Type 0} (more : ℕ) (r : Result A Fault) (x : A) → before more r ≡ Ok x → r ≡ Ok x
 before_ok more (Ok y) x e = cc
 before_ok more (Err k) x e = absurd cc
-
--- the second parts of equal pairs are as long
-same_length : {A : Type 0} (a b : A) (x y : List ℕ) → ◌≡◌ {A = Result (A × List ℕ) PbErrorKind} (Ok (a, x)) (Ok (b, y)) → length x ≡ length y
-same_length {A} a b x y e = same_ok (λ (p : A × List ℕ). length x ≡ length p.1) (a, x) (b, y) e refl
-
-varint_shorter : (place n : ℕ) (bytes rest : List ℕ) → read_from place bytes ≡ Ok (n, rest) → length rest < length bytes
-varint_shorter place n [] rest read = absurd cc
-varint_shorter place n (b ∷ bytes) rest read =
-    let sound = unless_ok (exceeds place b) VarintTooLarge (cond (ltb b 128) (Ok (b, bytes)) (read_from (suc place) bytes >>= λ high. Ok ((b - 128) + 128 * high.0, high.1))) (n, rest) read in
-    elim (cases_lt b 128) [
-      | inl small ↦
-          let is = rw (lt-ltb b 128 small) at sound.1 in
-          let same = same_length b n bytes rest is in
-          omega arith
-      | inr large ↦
-          let is = rw (le-ltb b 128 large) at sound.1 in
-          let high = bind_ok (read_from (suc place) bytes) (λ high. Ok ((b - 128) + 128 * high.0, high.1)) (n, rest) is in
-          let same = same_length ((b - 128) + 128 * high.0.0) n high.0.1 rest high.2 in
-          let less = varint_shorter (suc place) high.0.0 bytes high.0.1 high.1 in
-          omega arith
-    ]
-
-split_shorter : (size : ℕ) (bytes c rest : List ℕ) → split size bytes ≡ Ok (c, rest) → length rest ≤ length bytes
-split_shorter size bytes c rest e =
-    elim (cases_lt (length bytes) size) [
-      | inl short ↦ let is = rw (lt-ltb (length bytes) size short) at e in absurd cc
-      | inr enough ↦
-          let is = rw (le-ltb (length bytes) size enough) at e in
-          let same = same_length (take size bytes) c (drop size bytes) rest is in
-          omega (arith, length-drop size bytes)
-    ]
-
-content_shorter : (bytes c rest : List ℕ) → read_content bytes ≡ Ok (c, rest) → length rest < length bytes
-unfolding read_content read_varint
-content_shorter bytes c rest e =
-    let size = bind_ok (read_from 0 bytes) (λ size. split size.0 size.1) (c, rest) e in
-    let less = varint_shorter 0 size.0.0 bytes size.0.1 size.1 in
-    let no_more = split_shorter size.0.0 size.0.1 c rest size.2 in
-    omega arith
 
 -- the third parts of equal triples are as long
 same_rest : (a b : Field) (s t : Stage) (x y : List ℕ) → ◌≡◌ {A = Result (Field × Stage × List ℕ) Fault} (Ok (a, s, x)) (Ok (b, t, y)) → length x ≡ length y
@@ -71,10 +39,10 @@ same_pair a b x y e = same_ok (λ (p : LinkParts × List ℕ). length x ≡ leng
 link_field_shorter : (left : ℕ) (bytes : List ℕ) (l : LinkParts) (rest : List ℕ) → link_field left bytes ≡ Ok (l, rest) → length rest < length bytes
 unfolding link_field
 link_field_shorter left bytes l rest e =
-    let found = bind_ok (at left (read_content bytes)) (λ found. before (length found.1) (read_link found.0) >>= λ l. Ok (l, found.1)) (l, rest) e in
+    let found = bind_ok (at left (of_wire (read_content bytes))) (λ found. before (length found.1) (read_link found.0) >>= λ l. Ok (l, found.1)) (l, rest) e in
     let inner = bind_ok (before (length found.0.1) (read_link found.0.0)) (λ l. Ok (l, found.0.1)) (l, rest) found.2 in
     let same = same_pair inner.0 l found.0.1 rest inner.2 in
-    let less = content_shorter bytes found.0.0 found.0.1 (at_ok left (read_content bytes) found.0 found.1) in
+    let less = content_shorter bytes found.0.0 found.0.1 (at_wire_ok left (read_content bytes) found.0 found.1) in
     omega arith
 
 link_part_shorter : (left : ℕ) (bytes : List ℕ) (next : Option Stage) (f : Field) (s : Stage) (rest : List ℕ) → link_part left bytes next ≡ Ok (f, s, rest) → length rest < length bytes
@@ -89,9 +57,9 @@ data_part_shorter : (left : ℕ) (bytes : List ℕ) (next : Option Stage) (f : F
 unfolding data_field
 data_part_shorter left bytes None f s rest e = absurd cc
 data_part_shorter left bytes (Some next) f s rest e =
-    let found = bind_ok (at left (read_content bytes)) (λ found. Ok (content found.0, next, found.1)) (f, s, rest) e in
+    let found = bind_ok (at left (of_wire (read_content bytes))) (λ found. Ok (content found.0, next, found.1)) (f, s, rest) e in
     let same = same_rest (content found.0.0) f next s found.0.1 rest found.2 in
-    let less = content_shorter bytes found.0.0 found.0.1 (at_ok left (read_content bytes) found.0 found.1) in
+    let less = content_shorter bytes found.0.0 found.0.1 (at_wire_ok left (read_content bytes) found.0 found.1) in
     omega arith
 
 -- a choice by two tests, whatever they say
@@ -111,17 +79,12 @@ keyed_shorter stage left key bytes f s rest =
 pub part_shorter : (stage : Stage) (bytes : List ℕ) (part : Field × Stage × List ℕ) → read_part stage bytes ≡ Ok part → length part.2 < length bytes
 unfolding read_part read_varint
 part_shorter stage bytes part e =
-    let key = bind_ok (at (length bytes) (read_from 0 bytes)) (λ key. keyed stage (length bytes) key.0 key.1) part e in
-    let less = varint_shorter 0 key.0.0 bytes key.0.1 (at_ok (length bytes) (read_from 0 bytes) key.0 key.1) in
+    let key = bind_ok (at (length bytes) (of_wire (read_from 0 bytes))) (λ key. keyed stage (length bytes) key.0 key.1) part e in
+    let less = varint_shorter 0 key.0.0 bytes key.0.1 (at_wire_ok (length bytes) (read_from 0 bytes) key.0 key.1) in
     let more = keyed_shorter stage (length bytes) key.0.0 key.0.1 part.0 part.1 part.2 key.2 in
     omega arith
 
 -- ---- one field, and then the others
-
--- the rest of the reading depends on nothing but what a step returned
-same_then : {A B E : Type 0} (r : Result A E) (f g : A → Result B E) → ((x : A) → r ≡ Ok x → f x ≡ g x) → (r >>= f) ≡ (r >>= g)
-same_then (Ok x) f g same = same x refl
-same_then (Err e) f g same = refl
 
 -- enough fields are enough
 run_enough : (fields more : ℕ) (stage : Stage) (bytes : List ℕ) → length bytes ≤ fields → length bytes ≤ more → run fields stage bytes ≡ run more stage bytes

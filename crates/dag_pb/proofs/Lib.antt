@@ -1,10 +1,8 @@
-mod VarintLoop
 mod Names
-mod Wires
-mod WireFields
 mod FieldSteps
 mod LinkLaws
 mod NodeLaws
 mod Collecting
 mod Places
 mod Spanning
+mod Written

@@ -5,7 +5,7 @@ use Rattle.std.specs.Str.{IsUtf8, is_utf8}
 use Rattle.std.proofs.lemmas.Str.{IsUtf8-from_is_utf8, is_utf8-from_IsUtf8}
 use Rattle.dag_pb.specs.declared.error.PbErrorKind.TheVariants.{Utf8}
 use Rattle.dag_pb.specs.LinkReading.{text_in}
-use Rattle.dag_pb.proofs.Wires.{same_ok}
+use Rattle.pb_wire.proofs.Steps.{same_ok}
 
 pub text_read : (content text : List ℕ) → text ≡ content → IsUtf8 content → text_in content ≡ Ok text
 unfolding text_in

@@ -1,5 +1,5 @@
 -- Nodes: what is read is encoded, and what is encoded is read.
-use Rattle.std.proofs.Common.{◌≡◌, ℕ, zero, suc, ◌+◌, ◌*◌, ◌<◌, ◌≤◌, List, [], ◌∷◌, ◌++◌, length, Option, Some, None, Result, Ok, Err, inl, inr, refl, sym, ap, subst, ◌∙◌, arith, append_assoc, length-append}
+use Rattle.std.proofs.Common.{◌≡◌, ℕ, zero, suc, ◌+◌, ◌≤◌, List, [], ◌∷◌, ◌++◌, length, Option, Some, None, Result, Ok, Err, inl, inr, refl, sym, ap, subst, ◌∙◌, arith, append_assoc}
 use Rattle.std.proofs.lemmas.Bool.{cases_eq}
 use Rattle.std.proofs.lemmas.List.{append-nil}
 use Rattle.ipld_cid.specs.Multihash.{IsBytes}
@@ -7,16 +7,18 @@ use Rattle.dag_pb.specs.declared.error.PbErrorKind.TheVariants.{UnknownField}
 use Rattle.dag_pb.specs.declared.error.Fault.{Fault}
 use Rattle.dag_pb.specs.declared.reader.Stage.{Stage}
 use Rattle.dag_pb.specs.declared.reader.Stage.TheVariants.{Nothing, Links, Data, LinksAndData}
-use Rattle.dag_pb.specs.Errors.{◌>>=◌, at, before}
-use Rattle.dag_pb.specs.Wire.{IsVarint, IsContent}
-use Rattle.dag_pb.specs.Node.{LinkParts, NodeParts, IsLink, BeginsWithLink, IsLinks, IsData, IsNode}
-use Rattle.dag_pb.specs.WireReading.{read_varint, read_content}
+use Rattle.pb_wire.specs.Steps.{◌>>=◌}
+use Rattle.dag_pb.specs.Errors.{at, of_wire, before}
+use Rattle.pb_wire.specs.Wire.{IsVarint, IsContent, IsContentOf}
+use Rattle.dag_pb.specs.Node.{LinkParts, NodeParts, IsLink, BeginsWithLink, IsLinks, IsNode}
+use Rattle.pb_wire.specs.Reading.{read_varint, read_content}
 use Rattle.dag_pb.specs.LinkReading.{read_link}
 use Rattle.dag_pb.specs.NodeReading.{Field, link, content, after_link, after_data, link_field, data_field, link_part, data_part, keyed, read_part, empty_node, first_some, with_field, run, read_fields, in_block, read_node}
-use Rattle.dag_pb.proofs.Wires.{bind_ok, same_ok, Front, varint_sound, varint_complete}
-use Rattle.dag_pb.proofs.WireFields.{content_sound, content_complete, has_byte, other_key}
-use Rattle.dag_pb.proofs.FieldSteps.{at_ok, before_ok, ends, goes_on, part_shorter}
-use Rattle.dag_pb.proofs.LinkLaws.{ContentFront, content_field, link_sound, link_complete}
+use Rattle.pb_wire.proofs.Steps.{bind_ok, same_ok}
+use Rattle.pb_wire.proofs.Varints.{Front, varint_sound, varint_complete}
+use Rattle.pb_wire.proofs.Fields.{content_sound, content_complete, other_key, ContentFront, content_front, content_opened, content_has_byte}
+use Rattle.dag_pb.proofs.FieldSteps.{at_wire_ok, before_ok, ends, goes_on, part_shorter}
+use Rattle.dag_pb.proofs.LinkLaws.{link_sound, link_complete}
 
 -- ---- one field that was read
 
@@ -42,11 +44,11 @@ unfolding link_field
 link_part_sound stage left bytes after None f next rest is front e = absurd cc
 link_part_sound stage left bytes after (Some stage') f next rest is front e =
     let found = bind_ok (link_field left after) (λ found. Ok (link found.0, stage', found.1)) (f, next, rest) e in
-    let sized_in = bind_ok (at left (read_content after)) (λ found. before (length found.1) (read_link found.0) >>= λ l. Ok (l, found.1)) found.0 found.1 in
+    let sized_in = bind_ok (at left (of_wire (read_content after))) (λ found. before (length found.1) (read_link found.0) >>= λ l. Ok (l, found.1)) found.0 found.1 in
     let read = bind_ok (before (length sized_in.0.1) (read_link sized_in.0.0)) (λ l. Ok (l, sized_in.0.1)) found.0 sized_in.2 in
-    let sized = content_sound after sized_in.0.0 sized_in.0.1 front.rest_fits (at_ok left (read_content after) sized_in.0 sized_in.1) in
+    let sized = content_sound after sized_in.0.0 sized_in.0.1 front.rest_fits (at_wire_ok left (read_content after) sized_in.0 sized_in.1) in
     let message = link_sound sized_in.0.0 read.0 sized.content_fits (before_ok (length sized_in.0.1) (read_link sized_in.0.0) read.0 read.1) in
-    let field = content_field 2 bytes after sized_in.0.0 sized_in.0.1 front sized in
+    let field = content_front 2 bytes after sized_in.0.0 sized_in.0.1 front sized in
     let here : LinkFront stage bytes read.0 stage' sized_in.0.1 = record {
       allowed = is;
       begins = record { message = sized_in.0.0; field = field.taken; message_encoded = message; field_encoded = field.is; encoded = field.parts };
@@ -60,9 +62,9 @@ data_part_sound : (stage : Stage) (left : ℕ) (bytes after : List ℕ) (allowed
 unfolding data_field
 data_part_sound stage left bytes after None f next rest is front e = absurd cc
 data_part_sound stage left bytes after (Some stage') f next rest is front e =
-    let found = bind_ok (at left (read_content after)) (λ found. Ok (content found.0, stage', found.1)) (f, next, rest) e in
-    let sized = content_sound after found.0.0 found.0.1 front.rest_fits (at_ok left (read_content after) found.0 found.1) in
-    let here : DataFront stage bytes found.0.0 stage' found.0.1 = record { allowed = is; front = content_field 1 bytes after found.0.0 found.0.1 front sized } in
+    let found = bind_ok (at left (of_wire (read_content after))) (λ found. Ok (content found.0, stage', found.1)) (f, next, rest) e in
+    let sized = content_sound after found.0.0 found.0.1 front.rest_fits (at_wire_ok left (read_content after) found.0 found.1) in
+    let here : DataFront stage bytes found.0.0 stage' found.0.1 = record { allowed = is; front = content_front 1 bytes after found.0.0 found.0.1 front sized } in
     same_ok (λ (p : Field × Stage × List ℕ). PartFront stage bytes p.0 p.1 p.2) (content found.0.0, stage', found.0.1) (f, next, rest) found.2 here
 
 -- a key that a node doesn't have
@@ -88,8 +90,8 @@ keyed_sound stage left key bytes after f next rest front e =
 pub part_sound : (stage : Stage) (bytes : List ℕ) (f : Field) (next : Stage) (rest : List ℕ) → IsBytes bytes → read_part stage bytes ≡ Ok (f, next, rest) → PartFront stage bytes f next rest
 unfolding read_part
 part_sound stage bytes f next rest whole e =
-    let key = bind_ok (at (length bytes) (read_varint bytes)) (λ key. keyed stage (length bytes) key.0 key.1) (f, next, rest) e in
-    let front = varint_sound key.0.0 bytes key.0.1 whole (at_ok (length bytes) (read_varint bytes) key.0 key.1) in
+    let key = bind_ok (at (length bytes) (of_wire (read_varint bytes))) (λ key. keyed stage (length bytes) key.0 key.1) (f, next, rest) e in
+    let front = varint_sound key.0.0 bytes key.0.1 whole (at_wire_ok (length bytes) (read_varint bytes) key.0 key.1) in
     keyed_sound stage (length bytes) key.0.0 bytes key.0.1 f next rest front key.2
 
 -- ---- all fields that were read
@@ -99,7 +101,7 @@ record LinksThenData (n : NodeParts) (bytes : List ℕ) : Type 0 where
   links : List ℕ
   content : List ℕ
   links_encoded : IsLinks n.links links
-  content_encoded : IsData n.content content
+  content_encoded : IsContentOf 1 n.content content
   encoded : bytes ≡ links ++ content
 
 -- what may be left after what came
@@ -150,7 +152,7 @@ left_data Nothing Data d m bytes field rest e is parts others = record {
   links = rest;
   content = field;
   links_encoded = others.0;
-  content_encoded = subst (λ (o : Option (List ℕ)). IsData (first_some o (Some d)) field) (sym others.1) is;
+  content_encoded = subst (λ (o : Option (List ℕ)). IsContentOf 1 (first_some o (Some d)) field) (sym others.1) is;
   encoded = inr parts;
 }
 left_data Nothing LinksAndData d m bytes field rest e is parts others = absurd cc
@@ -195,29 +197,18 @@ node_sound bytes n whole e = run_sound (length bytes) Nothing bytes n whole (ome
 
 -- ---- what is encoded is read
 
--- a field of a content has a byte
-field_has_byte : (field : ℕ) (c taken rest : List ℕ) → IsContent field c taken → 0 < length (taken ++ rest)
-field_has_byte field c taken rest is =
-    let key = has_byte (8 * field + 2) is.key is.key_encoded in
-    let all : length taken ≡ length (is.key ++ (is.size ++ c)) = ap length is.encoded in
-    omega (arith, length-append taken rest, length-append is.key (is.size ++ c))
-
--- the field of a content, its key apart
-opened : (field : ℕ) (c taken rest : List ℕ) (is : IsContent field c taken) → taken ++ rest ≡ is.key ++ (is.size ++ (c ++ rest))
-opened field c taken rest is = ap (λ (x : List ℕ). x ++ rest) is.encoded ∙ simp append_assoc
-
 link_read : (stage next : Stage) (l : LinkParts) (message field rest : List ℕ) → after_link stage ≡ Some next → IsLink l message → IsContent 2 message field
     → read_part stage (field ++ rest) ≡ Ok (link l, next, rest)
 unfolding read_part link_field
 link_read stage next l message field rest allowed is_link is =
-    ap (read_part stage) (opened 2 message field rest is)
+    ap (read_part stage) (content_opened 2 message field rest is)
     ∙ rw (varint_complete 18 is.key (is.size ++ (message ++ rest)) is.key_encoded, allowed, content_complete message is.size rest is.size_encoded, link_complete message l is_link) refl
 
 data_read : (stage next : Stage) (d field rest : List ℕ) → after_data stage ≡ Some next → IsContent 1 d field
     → read_part stage (field ++ rest) ≡ Ok (content d, next, rest)
 unfolding read_part data_field
 data_read stage next d field rest allowed is =
-    ap (read_part stage) (opened 1 d field rest is)
+    ap (read_part stage) (content_opened 1 d field rest is)
     ∙ rw (varint_complete 10 is.key (is.size ++ (d ++ rest)) is.key_encoded, allowed, content_complete d is.size rest is.size_encoded) refl
 
 -- a link and then what else is read
@@ -226,7 +217,7 @@ link_then : (stage next : Stage) (l : LinkParts) (bytes rest more : List ℕ) (n
 link_then stage next l bytes rest more n allowed begins others =
     let whole : bytes ++ more ≡ begins.field ++ (rest ++ more) = ap (λ (x : List ℕ). x ++ more) begins.encoded ∙ simp append_assoc in
     ap (read_fields stage) whole
-    ∙ goes_on stage (begins.field ++ (rest ++ more)) (link l) next (rest ++ more) (field_has_byte 2 begins.message begins.field (rest ++ more) begins.field_encoded)
+    ∙ goes_on stage (begins.field ++ (rest ++ more)) (link l) next (rest ++ more) (content_has_byte 2 begins.message begins.field (rest ++ more) begins.field_encoded)
     (link_read stage next l begins.message begins.field (rest ++ more) allowed begins.message_encoded begins.field_encoded)
     ∙ ap (λ (r : Result NodeParts Fault). r >>= λ node. Ok (with_field (link l) node)) others
 
@@ -238,15 +229,15 @@ links_then (l ∷ links) stage bytes more n again is others =
     link_then stage stage l bytes is.0 more (record { links = links ++ n.links; content = n.content }) again is.1 (links_then links stage is.0 more n again is.2 others)
 
 -- data, and nothing after them
-data_ends : (stage next : Stage) (o : Option (List ℕ)) (bytes : List ℕ) → after_data stage ≡ Some next → IsData o bytes → read_fields stage bytes ≡ Ok (record { links = []; content = o })
+data_ends : (stage next : Stage) (o : Option (List ℕ)) (bytes : List ℕ) → after_data stage ≡ Some next → IsContentOf 1 o bytes → read_fields stage bytes ≡ Ok (record { links = []; content = o })
 data_ends stage next None bytes allowed is = ap (read_fields stage) is ∙ ends stage [] refl
 data_ends stage next (Some d) bytes allowed is =
     ap (read_fields stage) (sym (append-nil bytes))
-    ∙ goes_on stage (bytes ++ []) (content d) next [] (field_has_byte 1 d bytes [] is) (data_read stage next d bytes [] allowed is)
+    ∙ goes_on stage (bytes ++ []) (content d) next [] (content_has_byte 1 d bytes [] is) (data_read stage next d bytes [] allowed is)
     ∙ ap (λ (r : Result NodeParts Fault). r >>= λ node. Ok (with_field (content d) node)) (ends next [] refl)
 
 -- links, and data after them
-links_first : (links : List LinkParts) (o : Option (List ℕ)) (bytes more : List ℕ) → IsLinks links bytes → IsData o more → read_fields Nothing (bytes ++ more) ≡ Ok (record { links = links; content = o })
+links_first : (links : List LinkParts) (o : Option (List ℕ)) (bytes more : List ℕ) → IsLinks links bytes → IsContentOf 1 o more → read_fields Nothing (bytes ++ more) ≡ Ok (record { links = links; content = o })
 links_first [] o bytes more is_links is_data = ap (λ (x : List ℕ). read_fields Nothing (x ++ more)) is_links ∙ data_ends Nothing Data o more refl is_data
 links_first (l ∷ links) o bytes more is_links is_data =
     link_then Nothing Links l bytes is_links.0 more (record { links = links ++ []; content = o }) refl is_links.1
@@ -254,11 +245,11 @@ links_first (l ∷ links) o bytes more is_links is_data =
     ∙ ap (λ (ls : List LinkParts). Ok (record { links = l ∷ ls; content = o })) (append-nil links)
 
 -- data, and links after them
-data_first : (links : List LinkParts) (o : Option (List ℕ)) (bytes more : List ℕ) → IsData o bytes → IsLinks links more → read_fields Nothing (bytes ++ more) ≡ Ok (record { links = links; content = o })
+data_first : (links : List LinkParts) (o : Option (List ℕ)) (bytes more : List ℕ) → IsContentOf 1 o bytes → IsLinks links more → read_fields Nothing (bytes ++ more) ≡ Ok (record { links = links; content = o })
 data_first links None bytes more is_data is_links =
     ap (λ (x : List ℕ). read_fields Nothing (x ++ more)) is_data ∙ ap (read_fields Nothing) (sym (append-nil more)) ∙ links_first links None more [] is_links refl
 data_first links (Some d) bytes more is_data is_links =
-    goes_on Nothing (bytes ++ more) (content d) Data more (field_has_byte 1 d bytes more is_data) (data_read Nothing Data d bytes more refl is_data)
+    goes_on Nothing (bytes ++ more) (content d) Data more (content_has_byte 1 d bytes more is_data) (data_read Nothing Data d bytes more refl is_data)
     ∙ ap (λ (r : Result NodeParts Fault). r >>= λ node. Ok (with_field (content d) node))
     (ap (read_fields Data) (sym (append-nil more)) ∙ links_then links Data more [] empty_node refl is_links (ends Data [] refl))
     ∙ ap (λ (ls : List LinkParts). Ok (record { links = ls; content = Some d })) (append-nil links)

@@ -14,24 +14,27 @@ use Rattle.dag_pb.specs.declared.reader.Stage.{Stage}
 use Rattle.dag_pb.specs.declared.spans.PbSpan.{PbSpan}
 use Rattle.dag_pb.specs.declared.spans.PbLinkSpans.{PbLinkSpans}
 use Rattle.dag_pb.specs.declared.spans.PbNodeSpans.{PbNodeSpans}
-use Rattle.dag_pb.specs.Errors.{◌>>=◌}
-use Rattle.dag_pb.specs.Wire.{IsVarint, IsContent}
+use Rattle.pb_wire.specs.Steps.{◌>>=◌}
+use Rattle.pb_wire.specs.Wire.{IsVarint, IsContent}
 use Rattle.dag_pb.specs.Node.{LinkParts, NodeParts, IsName}
-use Rattle.dag_pb.specs.LinkReading.{read_hash, read_name, read_tsize, read_end}
+use Rattle.dag_pb.specs.LinkReading.{read_hash, read_name, read_end}
+use Rattle.pb_wire.specs.Reading.{number_field}
 use Rattle.dag_pb.specs.NodeReading.{Field, link, content, with_field, first_some, joined, empty_node}
 use Rattle.dag_pb.specs.Views.{parts_of_link, part_of}
 use Rattle.dag_pb.specs.Spans.{StandsAt, MayStandAt, LinkStandsAt, LinksStandAt, NodeStandsAt, EndsAt, MayEndAt, LinkIsAt, SpannedField, spanned_link, spanned_data, FieldIsAt, FieldsAreAt, links_among, link_spans_among, data_among, last_or, span_before, spans_of_link, LinkEndsBefore, BeginsBehindKey, BeginsWithField, Spans}
-use Rattle.dag_pb.proofs.LinkLaws.{hash_sound, name_sound, tsize_sound, end_sound, link_parts}
+use Rattle.dag_pb.proofs.LinkLaws.{hash_sound, name_sound, end_sound, link_parts}
+use Rattle.pb_wire.proofs.Fields.{field_parts}
+use Rattle.pb_wire.proofs.Optional.{number_sound}
 
 -- ---- what was read
 
 -- a link, all of whose message was read
 pub link_ends : (bytes at_name at_tsize at_end : List ℕ) (l : LinkParts) → IsBytes bytes → read_hash bytes ≡ Ok (l.hash, at_name) → read_name at_name ≡ Ok (l.name, at_tsize)
-    → read_tsize at_tsize ≡ Ok (l.tsize, at_end) → read_end at_end ≡ Ok tt → LinkEndsBefore (length at_name) (length at_tsize) 0 l bytes
+    → number_field 24 at_tsize ≡ Ok (l.tsize, at_end) → read_end at_end ≡ Ok tt → LinkEndsBefore (length at_name) (length at_tsize) 0 l bytes
 link_ends bytes at_name at_tsize at_end l whole hash name tsize end =
     let h = hash_sound bytes l.hash at_name whole hash in
     let n = name_sound at_name l.name at_tsize h.front.rest_fits name in
-    let t = tsize_sound at_tsize l.tsize at_end n.rest_fits tsize in
+    let t = number_sound 3 at_tsize l.tsize at_end n.rest_fits tsize in
     let none = end_sound at_end end in
     let last : at_tsize ≡ t.taken = t.parts ∙ ap (λ (x : List ℕ). t.taken ++ x) none ∙ append-nil t.taken in
     record {
@@ -64,22 +67,19 @@ link_more hash name l message rest is = record {
   behind_name = omega (arith, is.behind_name);
 }
 
-field_parts : (key size c rest : List ℕ) → key ++ (size ++ (c ++ rest)) ≡ (key ++ (size ++ c)) ++ rest
-field_parts key size c rest = sym (simp append_assoc)
-
 -- a key before the length and the content
 with_key : (number : ℕ) (key bytes after rest : List ℕ) (f : NodeField) → IsVarint number key → bytes ≡ key ++ after → BeginsBehindKey number f after rest → BeginsWithField f bytes rest
 with_key number key bytes after rest (Link l) encoded parts is = (
   is.2,
   key ++ (is.1 ++ is.2),
   record { key = key; size = is.1; key_encoded = subst (λ (n : ℕ). IsVarint n key) is.0 encoded; size_encoded = is.3; encoded = refl },
-  parts ∙ ap (λ (x : List ℕ). key ++ x) is.4 ∙ field_parts key is.1 is.2 rest,
+  parts ∙ ap (λ (x : List ℕ). key ++ x) is.4 ∙ sym (field_parts key is.1 is.2 rest),
   is.5,
 )
 with_key number key bytes after rest (Data d) encoded parts is = (
   key ++ (is.1 ++ d.now),
   record { key = key; size = is.1; key_encoded = subst (λ (n : ℕ). IsVarint n key) is.0 encoded; size_encoded = is.2; encoded = refl },
-  parts ∙ ap (λ (x : List ℕ). key ++ x) is.3 ∙ field_parts key is.1 d.now rest,
+  parts ∙ ap (λ (x : List ℕ). key ++ x) is.3 ∙ sym (field_parts key is.1 d.now rest),
 )
 
 -- of a field that was found

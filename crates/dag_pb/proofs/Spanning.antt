@@ -8,7 +8,7 @@ use Rattle.dag_pb.specs.Node.{NodeParts, IsNode}
 use Rattle.dag_pb.specs.NodeReading.{read_node}
 use Rattle.dag_pb.specs.Spans.{NodeStandsAt, AreSpansOf}
 use Rattle.dag_pb.specs.Views.{IsOutOfMemory}
-use Rattle.dag_pb.proofs.Wires.{same_ok}
+use Rattle.pb_wire.proofs.Steps.{same_ok}
 use Rattle.dag_pb.proofs.NodeLaws.{node_sound, node_complete}
 use Rattle.dag_pb.proofs.Collecting.{node_offset}
 

@@ -2,6 +2,8 @@
 use Rattle.std.specs.Prelude.{ℕ, List, ◌++◌, ◌/◌, ◌%◌, codes}
 use Rattle.std.specs.Fmt.{decimal}
 use Rattle.ipld_cid.specs.Error as cid
+use Rattle.dag_pb.specs.declared.encode_error.PbEncodeError.{PbEncodeError}
+use Rattle.dag_pb.specs.declared.encode_error.PbEncodeError.TheVariants as encode
 use Rattle.dag_pb.specs.declared.error.PbError.{PbError}
 use Rattle.dag_pb.specs.declared.error.PbErrorKind.{PbErrorKind}
 use Rattle.dag_pb.specs.declared.error.PbErrorKind.TheVariants.{Memory, End, VarintTooLarge, UnknownField, FieldOrder, NoHash, Cid, Utf8}
@@ -31,3 +33,13 @@ kind_sentence Utf8 = codes "the name of a link is not UTF-8"
 -- the sentence of an error, with its offset
 abbrev pub sentence_of : PbError → List ℕ
 sentence_of error = kind_sentence error.kind ++ (codes " at byte " ++ decimal error.offset)
+
+-- the name of an error of writing
+abbrev pub encode_name_of : PbEncodeError → List ℕ
+encode_name_of encode.Memory = codes "Memory"
+encode_name_of (encode.LinkOrder index) = codes "LinkOrder"
+
+-- the sentence of an error of writing
+abbrev pub encode_sentence : PbEncodeError → List ℕ
+encode_sentence encode.Memory = codes "out of memory"
+encode_sentence (encode.LinkOrder index) = codes "the links are not sorted by name: the first out of order has the index " ++ decimal index

@@ -1,6 +1,10 @@
--- The offsets of errors.
+-- The errors of the wire format, and the offsets of errors.
 use Rattle.std.specs.Prelude.{ℕ, ◌-◌, ◌+◌, Result, Ok, Err}
+use Rattle.pb_wire.specs.declared.error.WireError.{WireError}
+use Rattle.pb_wire.specs.declared.error.WireError.TheVariants as wire
+use Rattle.pb_wire.specs.Steps.{with_error}
 use Rattle.dag_pb.specs.declared.error.PbErrorKind.{PbErrorKind}
+use Rattle.dag_pb.specs.declared.error.PbErrorKind.TheVariants.{End, VarintTooLarge}
 use Rattle.dag_pb.specs.declared.error.PbError.{PbError}
 use Rattle.dag_pb.specs.declared.error.Fault.{Fault}
 
@@ -9,11 +13,14 @@ use Rattle.dag_pb.specs.declared.error.Fault.{Fault}
 abbrev pub error_in : ℕ → Fault → PbError
 error_in len fault = record { kind = fault.kind; offset = len - fault.left }
 
--- the second step after the first, or the first error
-infixl 10 ◌>>=◌
-abbrev pub ◌>>=◌ : {A B E : Type 0} → Result A E → (A → Result B E) → Result B E
-(Ok x) >>= f = f x
-(Err e) >>= f = Err e
+-- the kind of an error of the wire format
+abbrev pub kind_of : WireError → PbErrorKind
+kind_of wire.End = End
+kind_of wire.VarintTooLarge = VarintTooLarge
+
+-- the result of reading the wire format, with the kind of its error
+abbrev pub of_wire : {A : Type 0} → Result A WireError → Result A PbErrorKind
+of_wire read = with_error kind_of read
 
 -- the result, with `left`, the number of bytes left at the beginning of the field, in its error
 abbrev pub at : {A : Type 0} → ℕ → Result A PbErrorKind → Result A Fault

@@ -1,10 +1,9 @@
-pub mod Wire
 pub mod Node
 pub mod ErrorNames
 pub mod Errors
-pub mod WireReading
 pub mod LinkReading
 pub mod NodeReading
+pub mod Writing
 pub mod Views
 pub mod Spans
 pub mod Codec

@@ -5,7 +5,7 @@
 use Rattle.std.specs.Prelude.{◌≡◌, ◌⊎◌, ℕ, List, [], ◌∷◌, ◌++◌, Option, Some, None, IsUtf8}
 use Rattle.ipld_cid.specs.Cid.{Link}
 use Rattle.ipld_cid.specs.Bytes.{IsCid}
-use Rattle.dag_pb.specs.Wire.{IsNumber, IsContent}
+use Rattle.pb_wire.specs.Wire.{IsContent, IsNumberOf, IsContentOf}
 
 -- a link of a node
 pub record LinkParts : Type 0 where
@@ -23,11 +23,6 @@ abbrev pub IsName : Option (List ℕ) → List ℕ → Type 0
 IsName None bytes = bytes ≡ []
 IsName (Some name) bytes = IsUtf8 name × IsContent 2 name bytes
 
--- True if the bytes are the field Tsize, or are empty without a size.
-abbrev pub IsTsize : Option ℕ → List ℕ → Type 0
-IsTsize None bytes = bytes ≡ []
-IsTsize (Some n) bytes = IsNumber 3 n bytes
-
 -- True if the bytes are the message `PBLink` of this link.
 pub record IsLink (link : LinkParts) (bytes : List ℕ) : Type 0 where
   pub cid : List ℕ
@@ -37,7 +32,7 @@ pub record IsLink (link : LinkParts) (bytes : List ℕ) : Type 0 where
   pub cid_encoded : IsCid 64 cid link.hash
   pub hash_encoded : IsContent 1 cid hash
   pub name_encoded : IsName link.name name
-  pub tsize_encoded : IsTsize link.tsize tsize
+  pub tsize_encoded : IsNumberOf 3 link.tsize tsize
   pub encoded : bytes ≡ hash ++ (name ++ tsize)
 
 -- True if the bytes begin with a field Links of this link, and `rest` follows.
@@ -53,15 +48,10 @@ abbrev pub IsLinks : List LinkParts → List ℕ → Type 0
 IsLinks [] bytes = bytes ≡ []
 IsLinks (link ∷ links) bytes = (rest : List ℕ) × BeginsWithLink link bytes rest × IsLinks links rest
 
--- True if the bytes are the field Data, or are empty without data.
-abbrev pub IsData : Option (List ℕ) → List ℕ → Type 0
-IsData None bytes = bytes ≡ []
-IsData (Some content) bytes = IsContent 1 content bytes
-
 -- True if the bytes are the message `PBNode` of this node (DAG-PB specification, Protocol Buffers).
 pub record IsNode (node : NodeParts) (bytes : List ℕ) : Type 0 where
   pub links : List ℕ
   pub content : List ℕ
   pub links_encoded : IsLinks node.links links
-  pub content_encoded : IsData node.content content
+  pub content_encoded : IsContentOf 1 node.content content
   pub encoded : (bytes ≡ links ++ content) ⊎ (bytes ≡ content ++ links)

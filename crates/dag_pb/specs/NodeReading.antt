@@ -6,9 +6,10 @@ use Rattle.dag_pb.specs.declared.error.PbError.{PbError}
 use Rattle.dag_pb.specs.declared.error.Fault.{Fault}
 use Rattle.dag_pb.specs.declared.reader.Stage.{Stage}
 use Rattle.dag_pb.specs.declared.reader.Stage.TheVariants.{Nothing, Links, Data, LinksAndData}
-use Rattle.dag_pb.specs.Errors.{◌>>=◌, at, before, error_in}
+use Rattle.pb_wire.specs.Steps.{◌>>=◌}
+use Rattle.pb_wire.specs.Reading.{read_varint, read_content}
+use Rattle.dag_pb.specs.Errors.{at, of_wire, before, error_in}
 use Rattle.dag_pb.specs.Node.{LinkParts, NodeParts}
-use Rattle.dag_pb.specs.WireReading.{read_varint, read_content}
 use Rattle.dag_pb.specs.LinkReading.{read_link}
 
 -- a field of a node
@@ -33,12 +34,12 @@ after_data LinksAndData = None
 -- the link after its length, and the bytes after it; `left` bytes are left at the beginning of the
 -- field
 unfoldable pub link_field : ℕ → List ℕ → Result (LinkParts × List ℕ) Fault
-link_field left bytes = at left (read_content bytes) >>= λ found. before (length found.1) (read_link found.0) >>= λ l. Ok (l, found.1)
+link_field left bytes = at left (of_wire (read_content bytes)) >>= λ found. before (length found.1) (read_link found.0) >>= λ l. Ok (l, found.1)
 
 -- the data after its length, and the bytes after it; `left` bytes are left at the beginning of the
 -- field
 unfoldable pub data_field : ℕ → List ℕ → Result (List ℕ × List ℕ) Fault
-data_field left bytes = at left (read_content bytes)
+data_field left bytes = at left (of_wire (read_content bytes))
 
 -- the link after its key, if a link may come there, and otherwise an error
 abbrev pub link_part : ℕ → List ℕ → Option Stage → Result (Field × Stage × List ℕ) Fault
@@ -59,7 +60,7 @@ keyed stage left key bytes =
 
 -- the next field, the stage after it, and the bytes that follow
 unfoldable pub read_part : Stage → List ℕ → Result (Field × Stage × List ℕ) Fault
-read_part stage bytes = at (length bytes) (read_varint bytes) >>= λ key. keyed stage (length bytes) key.0 key.1
+read_part stage bytes = at (length bytes) (of_wire (read_varint bytes)) >>= λ key. keyed stage (length bytes) key.0 key.1
 
 -- a node without links and data
 abbrev pub empty_node : NodeParts

@@ -8,8 +8,8 @@ use Rattle.dag_pb.specs.declared.reader.NodeField.TheVariants.{Link, Data}
 use Rattle.dag_pb.specs.declared.spans.PbSpan.{PbSpan}
 use Rattle.dag_pb.specs.declared.spans.PbLinkSpans.{PbLinkSpans}
 use Rattle.dag_pb.specs.declared.spans.PbNodeSpans.{PbNodeSpans}
-use Rattle.dag_pb.specs.Wire.{IsVarint, IsContent}
-use Rattle.dag_pb.specs.Node.{LinkParts, NodeParts, IsName, IsTsize}
+use Rattle.pb_wire.specs.Wire.{IsVarint, IsContent, IsNumberOf}
+use Rattle.dag_pb.specs.Node.{LinkParts, NodeParts, IsName}
 use Rattle.dag_pb.specs.Views.{parts_of_link}
 
 -- True if the span of the bytes is this content.
@@ -71,7 +71,7 @@ pub record LinkIsAt (start : ℕ) (l : LinkParts) (message : List ℕ) (spans : 
   pub cid_encoded : IsCid 64 cid l.hash
   pub hash_encoded : IsContent 1 cid hash
   pub name_encoded : IsName l.name name
-  pub tsize_encoded : IsTsize l.tsize tsize
+  pub tsize_encoded : IsNumberOf 3 l.tsize tsize
   pub encoded : message ≡ hash ++ (name ++ tsize)
   pub hash_at : EndsAt (start + length hash) cid spans.hash
   pub short : length cid ≤ 86
@@ -140,7 +140,7 @@ pub record LinkEndsBefore (hash_behind name_behind behind : ℕ) (l : LinkParts)
   pub cid_encoded : IsCid 64 cid l.hash
   pub hash_encoded : IsContent 1 cid hash
   pub name_encoded : IsName l.name name
-  pub tsize_encoded : IsTsize l.tsize tsize
+  pub tsize_encoded : IsNumberOf 3 l.tsize tsize
   pub encoded : message ≡ hash ++ (name ++ tsize)
   pub behind_hash : hash_behind ≡ length name + length tsize + behind
   pub behind_name : name_behind ≡ length tsize + behind

@@ -3,9 +3,10 @@
 ghost use Rattle.std.specs.Prelude.{◌≡◌};
 ghost use Rattle.dag_pb.specs.declared.error.PbErrorKind.TheVariants.{Memory};
 ghost use Rattle.dag_pb.specs.ErrorNames.{name_of};
-ghost use Rattle.dag_pb.specs.Errors.{error_in};
+ghost use Rattle.dag_pb.specs.Errors.{error_in, kind_of};
 
 use ipld_cid::{CidError, write_number};
+use pb_wire::WireError;
 use std::alloc::AllocError;
 use std::{error, fmt};
 
@@ -81,6 +82,20 @@ impl fmt::Display for PbErrorKind {
     }
 }
 
+impl From<WireError> for PbErrorKind {
+    ghost use Rattle.std.specs.Prelude.{◌≡◌};
+    ghost use Rattle.dag_pb.specs.Errors.{kind_of};
+
+    ghost from_gives = { λ error kind. kind ≡ kind_of error };
+
+    fn from(error: WireError) -> Self {
+        match error {
+            WireError::End => PbErrorKind::End,
+            WireError::VarintTooLarge => PbErrorKind::VarintTooLarge,
+        }
+    }
+}
+
 /// An error of reading a block of DAG-PB, with its offset. It is the first error from the left.
 ///
 /// Its `Display` is the sentence of the kind, then ` at byte ` and the offset.
@@ -134,6 +149,17 @@ pub(crate) struct Fault {
 }
 
 impl Fault {
+    // Returns the fault of a field that isn't in the wire format.
+    #[inline(always)]
+    pub(crate) fn of_wire(error: WireError, left: usize) -> Fault
+        ensures { result ≡ record { kind = kind_of error; left = left } }
+    {
+        Fault {
+            kind: PbErrorKind::from(error),
+            left,
+        }
+    }
+
     // Returns the error of a block of `len` bytes.
     #[inline(always)]
     pub(crate) fn in_block(self, len: usize) -> PbError

@@ -2,7 +2,7 @@
 //! and folders in IPFS are kept in such blocks.
 //!
 //! ```rust
-//! use dag_pb::{links_of_block, node_spans, read_node};
+//! use dag_pb::{encode_node, links_of_block, node_spans, read_node};
 //!
 //! // The links alone, in the order of the block.
 //! let links = links_of_block(alloc, &block)?;
@@ -10,6 +10,8 @@
 //! let node = read_node(alloc, &block)?;
 //! // Where all of these stand in the block.
 //! let spans = node_spans(alloc, &block)?;
+//! // The block of a node whose links are sorted by name.
+//! let block = encode_node(alloc, &node)?;
 //! ```
 //!
 //! Reading is as strict as the specification. It rejects fields other than those of a node and of a
@@ -20,16 +22,21 @@
 #![tactic(auto)]
 
 mod codec;
+mod encode_error;
 mod error;
 pub mod laws;
 mod link;
 mod node;
 mod reader;
 mod spans;
-mod wire;
+#[cfg(test)]
+mod tests;
+mod writer;
 
 pub use codec::DagPbCodec;
+pub use encode_error::PbEncodeError;
 pub use error::{PbError, PbErrorKind};
 pub use link::PbLink;
 pub use node::{PbNode, links_of_block, read_node};
 pub use spans::{PbLinkSpans, PbNodeSpans, PbSpan, node_spans};
+pub use writer::encode_node;

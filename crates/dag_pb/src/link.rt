@@ -7,16 +7,16 @@ ghost use Rattle.dag_pb.specs.Spans.{LinkEndsBefore};
 ghost use Rattle.dag_pb.specs.Views.{parts_of_link};
 
 use crate::error::{Fault, PbErrorKind};
-use crate::wire::{read_content, read_varint, strip_key};
 use ipld_cid::Cid;
+use pb_wire::{content_field, number_field, read_varint};
 use simdutf8::basic::from_utf8;
 
 // The keys of the fields of a link.
-const HASH: u64 = 10;
+pub(crate) const HASH: u64 = 10;
 
-const NAME: u64 = 18;
+pub(crate) const NAME: u64 = 18;
 
-const TSIZE: u64 = 24;
+pub(crate) const TSIZE: u64 = 24;
 
 /// A link of a node of DAG-PB. Its name is borrowed from the block.
 #[derive(Clone, Copy)]
@@ -47,10 +47,11 @@ fn read_hash(bytes: &[u8]) -> Result<(Cid, &[u8]), PbErrorKind>
         (λ error. reading.read_hash bytes.now ≡ Err error) }
     ensures shorter { IfOk result (λ found. length found.1.now ≤ length bytes.now) }
 {
-    let Some(after) = strip_key(HASH, bytes)? else {
-        return Err(PbErrorKind::NoHash);
+    let (found, rest) = content_field(HASH, bytes)?;
+    let content = match found {
+        Some(content) => content,
+        None => return Err(PbErrorKind::NoHash),
     };
-    let (content, rest) = read_content(after)?;
     match Cid::try_from(content) {
         Ok(cid) => Ok((cid, rest)),
         Err(error) => Err(PbErrorKind::Cid(error)),
@@ -80,28 +81,12 @@ fn read_name(bytes: &[u8]) -> Result<(Option<&str>, &[u8]), PbErrorKind>
         (λ error. reading.read_name bytes.now ≡ Err error) }
     ensures shorter { IfOk result (λ found. length found.1.now ≤ length bytes.now) }
 {
-    let Some(after) = strip_key(NAME, bytes)? else {
-        return Ok((None, bytes));
-    };
-    let (content, rest) = read_content(after)?;
-    let name = read_text(content)?;
-    Ok((Some(name), rest))
-}
-
-// Reads the size, if one comes, and returns it with the bytes after it.
-#[tactic(auto, unfolding(crate::specs::LinkReading::read_tsize))]
-#[inline(always)]
-fn read_tsize(bytes: &[u8]) -> Result<(Option<u64>, &[u8]), PbErrorKind>
-    ensures exact { MatchResult result
-        (λ found. reading.read_tsize bytes.now ≡ Ok (found.0, found.1.now))
-        (λ error. reading.read_tsize bytes.now ≡ Err error) }
-    ensures shorter { IfOk result (λ found. length found.1.now ≤ length bytes.now) }
-{
-    match strip_key(TSIZE, bytes)? {
-        None => Ok((None, bytes)),
-        Some(after) => {
-            let (tsize, rest) = read_varint(after)?;
-            Ok((Some(tsize), rest))
+    let (found, rest) = content_field(NAME, bytes)?;
+    match found {
+        None => Ok((None, rest)),
+        Some(content) => {
+            let name = read_text(content)?;
+            Ok((Some(name), rest))
         }
     }
 }
@@ -149,12 +134,9 @@ pub(crate) fn read_link(bytes: &[u8]) -> Result<PlacedLink<'_>, Fault>
             left: at_name.len(),
         }),
     };
-    let (tsize, at_end) = match read_tsize(at_tsize) {
+    let (tsize, at_end) = match number_field(TSIZE, at_tsize) {
         Ok(found) => found,
-        Err(kind) => return Err(Fault {
-            kind,
-            left: at_tsize.len(),
-        }),
+        Err(error) => return Err(Fault::of_wire(error, at_tsize.len())),
     };
     match read_end(at_end) {
         Ok(()) => Ok(PlacedLink {

@@ -7,12 +7,12 @@ ghost use Rattle.dag_pb.specs.Views.{parts_of_link, part_of};
 
 use crate::error::{Fault, PbErrorKind};
 use crate::link::{PlacedLink, read_link};
-use crate::wire::{read_content, read_varint};
+use pb_wire::{read_content, read_varint};
 
 // The keys of the fields of a node.
-const DATA: u64 = 10;
+pub(crate) const DATA: u64 = 10;
 
-const LINKS: u64 = 18;
+pub(crate) const LINKS: u64 = 18;
 
 // The fields of a node that have come so far.
 #[derive(Clone, Copy)]
@@ -72,7 +72,7 @@ fn read_link_field(left: usize, bytes: &[u8]) -> Result<(PlacedLink<'_>, &[u8]),
 {
     let (content, rest) = match read_content(bytes) {
         Ok(found) => found,
-        Err(kind) => return Err(Fault { kind, left }),
+        Err(error) => return Err(Fault::of_wire(error, left)),
     };
     match read_link(content) {
         Ok(found) => Ok((
@@ -103,7 +103,7 @@ fn read_data_field(left: usize, bytes: &[u8]) -> Result<(&[u8], &[u8]), Fault>
 {
     match read_content(bytes) {
         Ok((content, rest)) => Ok((content, rest)),
-        Err(kind) => Err(Fault { kind, left }),
+        Err(error) => Err(Fault::of_wire(error, left)),
     }
 }
 
@@ -171,7 +171,7 @@ pub(crate) fn read_part(stage: Stage, bytes: &[u8]) -> Result<(NodeField<'_>, St
     let left = bytes.len();
     let (key, rest) = match read_varint(bytes) {
         Ok(found) => found,
-        Err(kind) => return Err(Fault { kind, left }),
+        Err(error) => return Err(Fault::of_wire(error, left)),
     };
     match key {
         LINKS => take_link(stage, left, rest),

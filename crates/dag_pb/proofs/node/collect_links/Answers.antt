@@ -1,4 +1,4 @@
-use Rattle.std.proofs.Common.{◌≡◌, ◌<◌, List, [], length, ◌++◌, inr, sym, ap, ◌∙◌, arith, Ok, Err, map}
+use Rattle.std.proofs.Common.{◌≡◌, ◌<◌, List, [], length, ◌++◌, inr, sym, ap, ◌∙◌, arith, Ok, Err, map, Result}
 use Rattle.std.proofs.lemmas.List.{append-nil}
 use Rattle.ipld_cid.specs.LinkOf.{link_of}
 use Rattle.std.proofs.lemmas.Bool.Decides.{nat_tests}
@@ -6,9 +6,8 @@ use Rattle.dag_pb.specs.declared.error.PbError.{PbError}
 use Rattle.dag_pb.specs.declared.reader.Stage.TheVariants.{Nothing}
 use Rattle.ipld_cid.specs.Cid.{Link}
 use Rattle.dag_pb.specs.declared.error.Fault.{Fault}
-use Rattle.dag_pb.specs.Errors.{◌>>=◌}
+use Rattle.pb_wire.specs.Steps.{◌>>=◌}
 use Rattle.dag_pb.specs.Node.{NodeParts}
-use Rattle.std.proofs.Common.{Result}
 use Rattle.dag_pb.specs.NodeReading.{hashes, read_fields}
 use Rattle.dag_pb.specs.Views.{part_of}
 use Rattle.dag_pb.proofs.Collecting.{loop_step, loop_stops, loop_ends, loop_full, fields_read, fault_no_links, some_behind, links_are}

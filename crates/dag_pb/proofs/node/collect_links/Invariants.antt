@@ -1,7 +1,7 @@
 use Rattle.std.proofs.Common.{◌≡◌, ◌++◌, length, map, Ok}
 use Rattle.ipld_cid.specs.LinkOf.{link_of}
 use Rattle.dag_pb.specs.declared.reader.Stage.TheVariants.{Nothing}
-use Rattle.dag_pb.specs.Errors.{◌>>=◌}
+use Rattle.pb_wire.specs.Steps.{◌>>=◌}
 use Rattle.dag_pb.specs.NodeReading.{hashes, read_fields}
 use Rattle.dag_pb.proofs.node.collect_links.Given as goal
 

@@ -1,6 +1,6 @@
 use Rattle.std.proofs.Common.{◌≡◌, length, Ok}
 use Rattle.dag_pb.specs.declared.reader.Stage.TheVariants.{Nothing}
-use Rattle.dag_pb.specs.Errors.{◌>>=◌}
+use Rattle.pb_wire.specs.Steps.{◌>>=◌}
 use Rattle.dag_pb.specs.NodeReading.{joined, read_fields}
 use Rattle.dag_pb.specs.Views.{parts_of_node}
 use Rattle.dag_pb.proofs.node.collect_node.Given as goal

@@ -1,5 +1,5 @@
 use Rattle.std.proofs.Common.{refl, arith}
-use Rattle.dag_pb.proofs.WireFields.{content_sound}
+use Rattle.pb_wire.proofs.Fields.{content_sound}
 use Rattle.dag_pb.proofs.reader.read_data_field.Goals as goal
 
 pub returns-in-Ok-clause-places : goal.returns-in-Ok-clause-places

@@ -1,6 +1,6 @@
 use Rattle.std.proofs.Common.{refl, arith}
 use Rattle.dag_pb.specs.Views.{parts_of_link}
-use Rattle.dag_pb.proofs.WireFields.{content_sound}
+use Rattle.pb_wire.proofs.Fields.{content_sound}
 use Rattle.dag_pb.proofs.Places.{link_more}
 use Rattle.dag_pb.proofs.reader.read_link_field.Goals as goal
 

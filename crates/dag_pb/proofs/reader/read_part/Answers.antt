@@ -1,7 +1,7 @@
 use Rattle.std.proofs.Common.{ℕ, subst, arith}
-use Rattle.dag_pb.specs.Wire.{IsVarint}
+use Rattle.pb_wire.specs.Wire.{IsVarint}
 use Rattle.dag_pb.proofs.Places.{found_behind}
-use Rattle.dag_pb.proofs.Wires.{varint_sound}
+use Rattle.pb_wire.proofs.Varints.{varint_sound}
 use Rattle.dag_pb.proofs.reader.read_part.Goals as goal
 
 pub returns-in-18-clause-places : goal.returns-in-18-clause-places

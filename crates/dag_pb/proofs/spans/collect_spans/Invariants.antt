@@ -1,6 +1,6 @@
 use Rattle.std.proofs.Common.{◌≡◌, List, ℕ, length, ◌++◌, Ok}
 use Rattle.dag_pb.specs.declared.reader.Stage.TheVariants.{Nothing}
-use Rattle.dag_pb.specs.Errors.{◌>>=◌}
+use Rattle.pb_wire.specs.Steps.{◌>>=◌}
 use Rattle.dag_pb.specs.NodeReading.{joined, read_fields}
 use Rattle.dag_pb.specs.Spans.{SpannedField, FieldsAreAt}
 use Rattle.dag_pb.proofs.Places.{Are, node_of}

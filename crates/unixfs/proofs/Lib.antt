@@ -1,0 +1,7 @@
+mod Fields
+mod Numbers
+mod Values
+mod Times
+mod Messages
+mod Written
+mod Files
