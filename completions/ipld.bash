@@ -11,7 +11,7 @@ _ipld_has() {
         options='-h --help -V --version'
         ;;
     'ipld show')
-        options='-p --path --json --unchecked --limit -c --codec -h --help'
+        options='-p --path --json --unchecked --limit --zero-padding -c --codec -h --help'
         valued='-p --path --limit -c --codec'
         files=yes
         ;;
@@ -31,16 +31,16 @@ _ipld_has() {
         files=yes
         ;;
     'ipld car')
-        commands='list inspect roots links graph missing verify extract filter index create'
+        commands='list inspect roots links graph missing verify extract filter index salvage create'
         options='-h --help'
         ;;
     'ipld car list')
-        options='--json --limit --progress -h --help'
+        options='--json --limit --zero-padding --progress -h --help'
         valued='--limit'
         files=yes
         ;;
     'ipld car inspect')
-        options='--json --limit --progress -h --help'
+        options='--json --limit --zero-padding --progress -h --help'
         valued='--limit'
         files=yes
         ;;
@@ -50,42 +50,47 @@ _ipld_has() {
         files=yes
         ;;
     'ipld car links')
-        options='--limit --progress -h --help'
+        options='--limit --zero-padding --progress -h --help'
         valued='--limit'
         files=yes
         ;;
     'ipld car graph')
-        options='--limit --progress -h --help'
+        options='--limit --zero-padding --progress -h --help'
         valued='--limit'
         files=yes
         ;;
     'ipld car missing')
-        options='--by-cid --json --limit --progress -h --help'
+        options='--by-cid --json --limit --zero-padding --progress -h --help'
         valued='--limit'
         files=yes
         ;;
     'ipld car verify')
-        options='--known --json --limit --progress -h --help'
+        options='--known --json --limit --zero-padding --progress -h --help'
         valued='--limit'
         files=yes
         ;;
     'ipld car extract')
-        options='--all -d --directory --force --limit --unchecked -h --help'
+        options='--all -d --directory --force --limit --zero-padding --unchecked -h --help'
         valued='-d --directory --limit'
         files=yes
         ;;
     'ipld car filter')
-        options='-o --output --force --version --unchecked --limit -h --help'
+        options='-o --output --force --version --unchecked --limit --zero-padding -h --help'
         valued='-o --output --version --limit'
         files=yes
         ;;
     'ipld car index')
-        options='-o --output --force --limit -h --help'
+        options='-o --output --force --limit --zero-padding -h --help'
         valued='-o --output --limit'
         files=yes
         ;;
+    'ipld car salvage')
+        options='-o --output --force --root --json --limit -h --help'
+        valued='-o --output --root --limit'
+        files=yes
+        ;;
     'ipld car create')
-        options='--files-from -o --output --force --root --version --v0 --unchecked --split --limit -c --codec -h --help'
+        options='--files-from -o --output --force --root --version --v0 --unchecked --split --limit --zero-padding -c --codec -h --help'
         valued='--files-from -o --output --root --version --split --limit -c --codec'
         files=yes
         ;;

@@ -15,9 +15,9 @@ function __ipld_at --argument-names wanted state
             set has_argument yes
             break
         else if string match -qr -- '^-.' "$word"
-            contains -- "$command $word" 'ipld show -p' 'ipld show --path' 'ipld show --limit' 'ipld show -c' 'ipld show --codec' 'ipld links -c' 'ipld links --codec' 'ipld check -c' 'ipld check --codec' 'ipld cid -b' 'ipld cid --base' 'ipld cid -c' 'ipld cid --codec' 'ipld car list --limit' 'ipld car inspect --limit' 'ipld car roots --limit' 'ipld car links --limit' 'ipld car graph --limit' 'ipld car missing --limit' 'ipld car verify --limit' 'ipld car extract -d' 'ipld car extract --directory' 'ipld car extract --limit' 'ipld car filter -o' 'ipld car filter --output' 'ipld car filter --version' 'ipld car filter --limit' 'ipld car index -o' 'ipld car index --output' 'ipld car index --limit' 'ipld car create --files-from' 'ipld car create -o' 'ipld car create --output' 'ipld car create --root' 'ipld car create --version' 'ipld car create --split' 'ipld car create --limit' 'ipld car create -c' 'ipld car create --codec' 'ipld encode -o' 'ipld encode --output' 'ipld encode -c' 'ipld encode --codec'
+            contains -- "$command $word" 'ipld show -p' 'ipld show --path' 'ipld show --limit' 'ipld show -c' 'ipld show --codec' 'ipld links -c' 'ipld links --codec' 'ipld check -c' 'ipld check --codec' 'ipld cid -b' 'ipld cid --base' 'ipld cid -c' 'ipld cid --codec' 'ipld car list --limit' 'ipld car inspect --limit' 'ipld car roots --limit' 'ipld car links --limit' 'ipld car graph --limit' 'ipld car missing --limit' 'ipld car verify --limit' 'ipld car extract -d' 'ipld car extract --directory' 'ipld car extract --limit' 'ipld car filter -o' 'ipld car filter --output' 'ipld car filter --version' 'ipld car filter --limit' 'ipld car index -o' 'ipld car index --output' 'ipld car index --limit' 'ipld car salvage -o' 'ipld car salvage --output' 'ipld car salvage --root' 'ipld car salvage --limit' 'ipld car create --files-from' 'ipld car create -o' 'ipld car create --output' 'ipld car create --root' 'ipld car create --version' 'ipld car create --split' 'ipld car create --limit' 'ipld car create -c' 'ipld car create --codec' 'ipld encode -o' 'ipld encode --output' 'ipld encode -c' 'ipld encode --codec'
             and set is_value yes
-        else if test $has_argument = no; and contains -- "$command $word" 'ipld show' 'ipld links' 'ipld check' 'ipld cid' 'ipld car' 'ipld car list' 'ipld car inspect' 'ipld car roots' 'ipld car links' 'ipld car graph' 'ipld car missing' 'ipld car verify' 'ipld car extract' 'ipld car filter' 'ipld car index' 'ipld car create' 'ipld encode'
+        else if test $has_argument = no; and contains -- "$command $word" 'ipld show' 'ipld links' 'ipld check' 'ipld cid' 'ipld car' 'ipld car list' 'ipld car inspect' 'ipld car roots' 'ipld car links' 'ipld car graph' 'ipld car missing' 'ipld car verify' 'ipld car extract' 'ipld car filter' 'ipld car index' 'ipld car salvage' 'ipld car create' 'ipld encode'
             set command "$command $word"
         else
             set has_argument yes
@@ -40,6 +40,7 @@ complete -c ipld -n "__ipld_at 'ipld show'" -s p -l path -r -F -d 'Path to print
 complete -c ipld -n "__ipld_at 'ipld show'" -l json -d 'Print DAG-JSON on one line, e.g. for jq'
 complete -c ipld -n "__ipld_at 'ipld show'" -l unchecked -d 'Print a block of a CAR even if its digest is wrong or its hash function unsupported'
 complete -c ipld -n "__ipld_at 'ipld show'" -l limit -r -F -d 'Maximum size of a CAR section, e.g. 512K or 8M'
+complete -c ipld -n "__ipld_at 'ipld show'" -l zero-padding -d 'Allow zeros after the last section, in a file that is padded to a size'
 complete -c ipld -n "__ipld_at 'ipld show'" -s c -l codec -x -a 'dag-cbor dag-pb dag-json raw' -d 'Codec of the block'
 complete -c ipld -n "__ipld_at 'ipld show'" -s h -l help -d 'Print help'
 complete -c ipld -n "__ipld_at 'ipld links'" -F
@@ -69,16 +70,19 @@ complete -c ipld -n "__ipld_at 'ipld car' first" -a verify -d 'Verify the digest
 complete -c ipld -n "__ipld_at 'ipld car' first" -a extract -d 'Write the blocks of these CIDs'
 complete -c ipld -n "__ipld_at 'ipld car' first" -a filter -d 'Copy blocks and their descendants to a new CAR'
 complete -c ipld -n "__ipld_at 'ipld car' first" -a index -d 'Copy a CAR to version 2, with an index'
+complete -c ipld -n "__ipld_at 'ipld car' first" -a salvage -d 'Copy what is whole in a damaged CAR to a new one'
 complete -c ipld -n "__ipld_at 'ipld car' first" -a create -d 'Create a CAR from blocks and other CARs'
 complete -c ipld -n "__ipld_at 'ipld car'" -s h -l help -d 'Print help'
 complete -c ipld -n "__ipld_at 'ipld car list'" -F
 complete -c ipld -n "__ipld_at 'ipld car list'" -l json -d 'Print JSON objects, one per line'
 complete -c ipld -n "__ipld_at 'ipld car list'" -l limit -r -F -d 'Maximum size of a CAR section, e.g. 512K or 8M'
+complete -c ipld -n "__ipld_at 'ipld car list'" -l zero-padding -d 'Allow zeros after the last section, in a file that is padded to a size'
 complete -c ipld -n "__ipld_at 'ipld car list'" -l progress -d 'Print the bytes read and the time left on standard error, once a second'
 complete -c ipld -n "__ipld_at 'ipld car list'" -s h -l help -d 'Print help'
 complete -c ipld -n "__ipld_at 'ipld car inspect'" -F
 complete -c ipld -n "__ipld_at 'ipld car inspect'" -l json -d 'Print JSON objects, one per line'
 complete -c ipld -n "__ipld_at 'ipld car inspect'" -l limit -r -F -d 'Maximum size of a CAR section, e.g. 512K or 8M'
+complete -c ipld -n "__ipld_at 'ipld car inspect'" -l zero-padding -d 'Allow zeros after the last section, in a file that is padded to a size'
 complete -c ipld -n "__ipld_at 'ipld car inspect'" -l progress -d 'Print the bytes read and the time left on standard error, once a second'
 complete -c ipld -n "__ipld_at 'ipld car inspect'" -s h -l help -d 'Print help'
 complete -c ipld -n "__ipld_at 'ipld car roots'" -F
@@ -87,22 +91,26 @@ complete -c ipld -n "__ipld_at 'ipld car roots'" -l limit -r -F -d 'Maximum size
 complete -c ipld -n "__ipld_at 'ipld car roots'" -s h -l help -d 'Print help'
 complete -c ipld -n "__ipld_at 'ipld car links'" -F
 complete -c ipld -n "__ipld_at 'ipld car links'" -l limit -r -F -d 'Maximum size of a CAR section, e.g. 512K or 8M'
+complete -c ipld -n "__ipld_at 'ipld car links'" -l zero-padding -d 'Allow zeros after the last section, in a file that is padded to a size'
 complete -c ipld -n "__ipld_at 'ipld car links'" -l progress -d 'Print the bytes read and the time left on standard error, once a second'
 complete -c ipld -n "__ipld_at 'ipld car links'" -s h -l help -d 'Print help'
 complete -c ipld -n "__ipld_at 'ipld car graph'" -F
 complete -c ipld -n "__ipld_at 'ipld car graph'" -l limit -r -F -d 'Maximum size of a CAR section, e.g. 512K or 8M'
+complete -c ipld -n "__ipld_at 'ipld car graph'" -l zero-padding -d 'Allow zeros after the last section, in a file that is padded to a size'
 complete -c ipld -n "__ipld_at 'ipld car graph'" -l progress -d 'Print the bytes read and the time left on standard error, once a second'
 complete -c ipld -n "__ipld_at 'ipld car graph'" -s h -l help -d 'Print help'
 complete -c ipld -n "__ipld_at 'ipld car missing'" -F
 complete -c ipld -n "__ipld_at 'ipld car missing'" -l by-cid -d 'Compare whole CIDs, so that a block with another codec or version is missing'
 complete -c ipld -n "__ipld_at 'ipld car missing'" -l json -d 'Print JSON objects, one per line'
 complete -c ipld -n "__ipld_at 'ipld car missing'" -l limit -r -F -d 'Maximum size of a CAR section, e.g. 512K or 8M'
+complete -c ipld -n "__ipld_at 'ipld car missing'" -l zero-padding -d 'Allow zeros after the last section, in a file that is padded to a size'
 complete -c ipld -n "__ipld_at 'ipld car missing'" -l progress -d 'Print the bytes read and the time left on standard error, once a second'
 complete -c ipld -n "__ipld_at 'ipld car missing'" -s h -l help -d 'Print help'
 complete -c ipld -n "__ipld_at 'ipld car verify'" -F
 complete -c ipld -n "__ipld_at 'ipld car verify'" -l known -d 'Ignore unsupported hash functions in the exit status'
 complete -c ipld -n "__ipld_at 'ipld car verify'" -l json -d 'Print JSON objects, one per line'
 complete -c ipld -n "__ipld_at 'ipld car verify'" -l limit -r -F -d 'Maximum size of a CAR section, e.g. 512K or 8M'
+complete -c ipld -n "__ipld_at 'ipld car verify'" -l zero-padding -d 'Allow zeros after the last section, in a file that is padded to a size'
 complete -c ipld -n "__ipld_at 'ipld car verify'" -l progress -d 'Print the bytes read and the time left on standard error, once a second'
 complete -c ipld -n "__ipld_at 'ipld car verify'" -s h -l help -d 'Print help'
 complete -c ipld -n "__ipld_at 'ipld car extract'" -F
@@ -110,6 +118,7 @@ complete -c ipld -n "__ipld_at 'ipld car extract'" -l all -d 'With -d, write all
 complete -c ipld -n "__ipld_at 'ipld car extract'" -s d -l directory -x -a '(__fish_complete_directories (commandline -ct | string replace -r "^--[^=]*=" ""))' -d 'Write blocks to files in this existing folder, named by their CIDs'
 complete -c ipld -n "__ipld_at 'ipld car extract'" -l force -d 'With -d, replace existing files'
 complete -c ipld -n "__ipld_at 'ipld car extract'" -l limit -r -F -d 'Maximum size of a CAR section, e.g. 512K or 8M'
+complete -c ipld -n "__ipld_at 'ipld car extract'" -l zero-padding -d 'Allow zeros after the last section, in a file that is padded to a size'
 complete -c ipld -n "__ipld_at 'ipld car extract'" -l unchecked -d 'Write a block even if its digest is wrong or its hash function unsupported'
 complete -c ipld -n "__ipld_at 'ipld car extract'" -s h -l help -d 'Print help'
 complete -c ipld -n "__ipld_at 'ipld car filter'" -F
@@ -118,12 +127,21 @@ complete -c ipld -n "__ipld_at 'ipld car filter'" -l force -d 'Replace the file 
 complete -c ipld -n "__ipld_at 'ipld car filter'" -l version -x -a '1 2' -d 'Version of the new CAR'
 complete -c ipld -n "__ipld_at 'ipld car filter'" -l unchecked -d 'Copy blocks without a check of their digest and content'
 complete -c ipld -n "__ipld_at 'ipld car filter'" -l limit -r -F -d 'Maximum size of a CAR section, e.g. 512K or 8M'
+complete -c ipld -n "__ipld_at 'ipld car filter'" -l zero-padding -d 'Allow zeros after the last section, in a file that is padded to a size'
 complete -c ipld -n "__ipld_at 'ipld car filter'" -s h -l help -d 'Print help'
 complete -c ipld -n "__ipld_at 'ipld car index'" -F
 complete -c ipld -n "__ipld_at 'ipld car index'" -s o -l output -r -F -d 'File to create, or - for standard output'
 complete -c ipld -n "__ipld_at 'ipld car index'" -l force -d 'Replace the file if it exists'
 complete -c ipld -n "__ipld_at 'ipld car index'" -l limit -r -F -d 'Maximum size of a CAR section, e.g. 512K or 8M'
+complete -c ipld -n "__ipld_at 'ipld car index'" -l zero-padding -d 'Allow zeros after the last section, in a file that is padded to a size'
 complete -c ipld -n "__ipld_at 'ipld car index'" -s h -l help -d 'Print help'
+complete -c ipld -n "__ipld_at 'ipld car salvage'" -F
+complete -c ipld -n "__ipld_at 'ipld car salvage'" -s o -l output -r -F -d 'File to create, or - for standard output'
+complete -c ipld -n "__ipld_at 'ipld car salvage'" -l force -d 'Replace the file if it exists'
+complete -c ipld -n "__ipld_at 'ipld car salvage'" -l root -r -F -d 'A root of the new CAR'
+complete -c ipld -n "__ipld_at 'ipld car salvage'" -l json -d 'Print JSON objects, one per line'
+complete -c ipld -n "__ipld_at 'ipld car salvage'" -l limit -r -F -d 'Maximum size of a CAR section, e.g. 512K or 8M'
+complete -c ipld -n "__ipld_at 'ipld car salvage'" -s h -l help -d 'Print help'
 complete -c ipld -n "__ipld_at 'ipld car create'" -F
 complete -c ipld -n "__ipld_at 'ipld car create'" -l files-from -r -F -d 'Also include the files that LIST names, one on every line'
 complete -c ipld -n "__ipld_at 'ipld car create'" -s o -l output -r -F -d 'File to create, or - for standard output'
@@ -134,6 +152,7 @@ complete -c ipld -n "__ipld_at 'ipld car create'" -l v0 -d 'Give blocks of DAG-P
 complete -c ipld -n "__ipld_at 'ipld car create'" -l unchecked -d 'Include the blocks of CARs without a check of their digest and content'
 complete -c ipld -n "__ipld_at 'ipld car create'" -l split -r -F -d 'Create CARs of at most this size: NAME-0.car and so on for NAME.car, DIR/0.car for DIR/'
 complete -c ipld -n "__ipld_at 'ipld car create'" -l limit -r -F -d 'Maximum size of a CAR section, e.g. 512K or 8M'
+complete -c ipld -n "__ipld_at 'ipld car create'" -l zero-padding -d 'Allow zeros after the last section, in a file that is padded to a size'
 complete -c ipld -n "__ipld_at 'ipld car create'" -s c -l codec -x -a 'dag-cbor dag-pb dag-json raw' -d 'Codec of the block'
 complete -c ipld -n "__ipld_at 'ipld car create'" -s h -l help -d 'Print help'
 complete -c ipld -n "__ipld_at 'ipld encode'" -F

@@ -33,6 +33,7 @@ HOST = {
     "getentropy": (I32, [POINTER, I64]),
     "getpid": (I32, []),
     "isatty": (I32, [I32]),
+    "link": (I32, [POINTER, POINTER]),
     "lseek": (I64, [I32, I64, I32]),
     "open": (I32, [POINTER, I32, VARIADIC]),
     "pread": (I64, [I32, POINTER, I64, I64]),

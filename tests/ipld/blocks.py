@@ -108,6 +108,8 @@ THROUGH = dag_cbor([INLINE.cid])
 TOP = dag_cbor([LEAF.cid, LOST.cid, INLINE.cid])
 # A block whose codec is not supported.
 OTHER = block(JSON, b"{}")
+# One whose codec has no name.
+UNNAMED = block(0x300001, b"{}")
 TREE = [TOP, LEAF, PART, OTHER]
 CAR = car([TOP.cid], TREE)
 # The offset of its last section.

@@ -41,6 +41,7 @@ from .blocks import (
     TRAP,
     TWICE,
     TYPED,
+    UNNAMED,
     WITH_INVALID,
     WORDS,
 )
@@ -139,7 +140,8 @@ CARS = {
     "graph.car": GRAPH_CAR,
     "circle.car": car([ONE_CID], CIRCLE),
     "spiral.car": car([ONE_CID], SPIRAL),
-    "loop.car": car([ONE_CID], LOOP),
+    "unnamed.car": car([UNNAMED.cid], [UNNAMED]),
+    "loop.car": car([], LOOP),
     "nothing.car": car([NOTHING.cid], [NOTHING, PART]),
     "many_small.car": car([], NUMBERS),
     "lacks.car": car(MANY_CIDS, []),

@@ -1,9 +1,12 @@
 """Compares the files that a run leaves in a folder with those that were there before."""
 
+import ctypes
+import errno
 import os
 import pathlib
 import resource
 import signal
+import struct
 import tempfile
 
 from .blocks import HELLO
@@ -16,11 +19,35 @@ __unittest = True
 # The longest file that a program may write after `small_files`.
 SMALL = 50
 
+# A filter of system calls on x86-64, for seccomp(2): `fsync` returns EIO, and the others run. Each
+# step has a code, how many steps it skips if its condition holds and if not, and a number.
+FSYNC = 74
+STEPS = [
+    struct.pack("<HBBI", *it)
+    for it in [
+        (0x20, 0, 0, 0),  # loads the number of the call
+        (0x15, 0, 1, FSYNC),  # compares it
+        (0x06, 0, 0, 0x00050000 | errno.EIO),  # returns the error
+        (0x06, 0, 0, 0x7FFF0000),  # lets the call run
+    ]
+]
+STEPS_IN_MEMORY = ctypes.create_string_buffer(b"".join(STEPS))
+WITHOUT_SYNC = struct.pack("@HP", len(STEPS), ctypes.addressof(STEPS_IN_MEMORY))
+NO_NEW_PRIVILEGES, SECCOMP, FILTER = 38, 22, 2
+PRCTL = ctypes.CDLL(None, use_errno=True).prctl
+PRCTL.argtypes = [ctypes.c_int, ctypes.c_ulong, ctypes.c_char_p, ctypes.c_ulong, ctypes.c_ulong]
+
 
 def small_files():
     """Lets a write after the first 50 bytes of a file fail. It is called in the new process."""
     signal.signal(signal.SIGXFSZ, signal.SIG_IGN)
     resource.setrlimit(resource.RLIMIT_FSIZE, (SMALL, SMALL))
+
+
+def failing_syncs():
+    """Lets each sync of a file or a folder fail with EIO. It is called in the new process."""
+    if PRCTL(NO_NEW_PRIVILEGES, 1, None, 0, 0) or PRCTL(SECCOMP, FILTER, WITHOUT_SYNC, 0, 0):
+        raise OSError(ctypes.get_errno(), "prctl")
 
 
 def contents(folder):

@@ -8,6 +8,7 @@ import re
 import shlex
 import subprocess
 import tempfile
+import time
 import unittest
 
 from .files import FILES
@@ -109,6 +110,21 @@ class ProgramTest(unittest.TestCase):
         """Waits for the end of a program that was started. Returns its output since then."""
         out, err = running.communicate(given, timeout=SECONDS_FOR_A_RUN)
         return Run(out, err, running.returncode)
+
+    def pipe_to(self, running, path):
+        """
+        Opens a pipe for writing, once a program that was started has opened it. Fails if the program
+        ends before.
+        """
+        deadline = time.monotonic() + SECONDS_FOR_A_RUN
+        while running.poll() is None and time.monotonic() < deadline:
+            # Without a reader, the pipe can't be opened.
+            with contextlib.suppress(OSError):
+                writing = os.open(path, os.O_WRONLY | os.O_NONBLOCK)
+                os.set_blocking(writing, True)
+                return open(writing, "wb", buffering=0)
+            time.sleep(0.001)
+        return self.fail(f"the program did not open {path.name}")
 
     def compare(self, row, run):
         """Fails if a run differs from a row."""

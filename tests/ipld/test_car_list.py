@@ -34,6 +34,7 @@ class CarListTest(ProgramTest):
         blocks = [raw(varint(number)) for number in range(20_000)]
         whole = car([], blocks)
         (self.folder / "many.car").write_bytes(whole)
+        begun = time.monotonic()
         with self.started("car list --progress many.car") as running:
             time.sleep(SECONDS_TO_WAIT)
             run = self.ended(running)
@@ -47,6 +48,8 @@ class CarListTest(ProgramTest):
             re.M,
         )
         self.assertTrue(reports, run.err)
+        # There is one line in a second.
+        self.assertLessEqual(len(reports), time.monotonic() - begun)
         for read, left in (map(int, report) for report in reports):
             # The rest is read as fast as before, in a whole number of seconds.
             self.assertIn(

@@ -8,6 +8,9 @@ class CidTest(ProgramTest):
     def test_files(self):
         self.check_rows(cid.OF_FILES)
 
+    def test_a_folder(self):
+        self.check_rows(cid.NOT_READ)
+
     def test_invalid_blocks(self):
         self.check_rows(cid.INVALID)
 

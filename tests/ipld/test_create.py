@@ -55,7 +55,7 @@ class ChangedInputTest(ProgramTest):
         try:
             with self.started(f"car create -o - {source}:changing raw:pipe") as running:
                 # The pipe is opened once the first input was read.
-                with pipe.open("wb") as given:
+                with self.pipe_to(running, pipe) as given:
                     path.write_bytes(after)
                     given.write(b"last")
                 run = self.ended(running)

@@ -28,6 +28,7 @@ COMMANDS = (
     "car extract",
     "car filter",
     "car index",
+    "car salvage",
     "car create",
     "encode",
 )

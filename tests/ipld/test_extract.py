@@ -6,8 +6,8 @@ import pty
 import subprocess
 import time
 
-from .blocks import CAR, NODE, PART, TOP
-from .folders import OutputTest, small_files
+from .blocks import CAR, NODE, PART, TOP, TREE
+from .folders import OutputTest, failing_syncs, small_files
 from .formats import car
 from .program import SECONDS_FOR_A_RUN
 from .rows import DONE, ERROR, Row, car_extract, fails, outputs, system_error
@@ -48,6 +48,15 @@ class ExtractTest(OutputTest):
             preexec_fn=small_files,
         )
 
+    def test_a_sync_that_fails(self):
+        """The blocks are synced together, after the last of them."""
+        self.check_left(
+            fails("car extract --all -d . a.car", ".", system_error(errno.EIO), ERROR),
+            {str(it.cid): (NEW, it.data) for it in TREE},
+            self.new_folder(EXTRACT_FILES),
+            preexec_fn=failing_syncs,
+        )
+
     def test_the_car_is_not_overwritten(self):
         self.check_left(
             fails(
@@ -69,7 +78,7 @@ class ExtractTest(OutputTest):
             stderr=follower,
         ) as running:
             os.close(follower)
-            with open(folder / "slow.car", "wb", buffering=0) as slow:
+            with self.pipe_to(running, folder / "slow.car") as slow:
                 slow.write(CAR[:-1])
                 # A line is due after a second.
                 time.sleep(1.5)

@@ -14,6 +14,9 @@ class IndexTest(ProgramTest):
     def test_entries_that_are_wrong(self):
         self.check_rows(index.WRONG_ENTRIES)
 
+    def test_wrong_digests(self):
+        self.check_rows(index.WRONG_DIGESTS)
+
     def test_invalid_indexes(self):
         self.check_rows(index.NOT_VALID)
 

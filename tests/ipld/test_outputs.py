@@ -2,9 +2,10 @@
 
 import errno
 import os
+import select
 
-from .blocks import HELLO
-from .folders import OutputTest, contents, small_files
+from .blocks import CAR, HELLO
+from .folders import OutputTest, contents, failing_syncs, small_files
 from .rows import ERROR, Row, fails, outputs, system_error
 from .rows.outputs import EXISTS, HELLO_CAR, IS_INPUT, NEW, THERE
 
@@ -16,11 +17,17 @@ class OutputsTest(OutputTest):
     def test_files_that_are_not_created(self):
         self.check_outputs(outputs.NOT_CREATED)
 
+    def test_copies_of_a_car(self):
+        self.check_outputs(outputs.COPIED + outputs.NOT_COPIED, {"a.car": CAR})
+
     def test_inputs_are_not_overwritten(self):
         self.check_outputs(outputs.ONTO_INPUTS)
 
     def test_writes_that_fail(self):
         self.check_outputs(outputs.TOO_LARGE, preexec_fn=small_files)
+
+    def test_syncs_that_fail(self):
+        self.check_outputs(outputs.NOT_SYNCED, preexec_fn=failing_syncs)
 
     def test_devices(self):
         self.check_outputs(outputs.DEVICES)
@@ -40,7 +47,7 @@ class OutputsTest(OutputTest):
         os.mkfifo(folder / "slow")
         row = fails("car create -c raw -o new.car slow", "new.car", EXISTS, ERROR)
         with self.started(row.command, folder) as running:
-            with open(folder / "slow", "wb") as slow:
+            with self.pipe_to(running, folder / "slow") as slow:
                 (folder / "new.car").write_bytes(b"came")
                 before = contents(folder)
                 slow.write(HELLO.data)
@@ -85,6 +92,9 @@ class OutputsTest(OutputTest):
         os.mkfifo(folder / "pipe")
         row = fails("car create -c raw -o pipe much", "pipe", system_error(errno.EPIPE), ERROR)
         with self.started(row.command, folder) as running:
-            with open(folder / "pipe", "rb") as pipe:
+            # This does not wait for the program to open the pipe.
+            with open(os.open(folder / "pipe", os.O_RDONLY | os.O_NONBLOCK), "rb") as pipe:
+                while running.poll() is None and not select.select([pipe], [], [], 0.01)[0]:
+                    pass
                 pipe.read(10)
             self.compare(row, self.ended(running))

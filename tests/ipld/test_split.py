@@ -3,7 +3,7 @@
 import re
 
 from .folders import OutputTest
-from .formats import PAYLOAD_AT, car, car_indexed, index_of, raw
+from .formats import PAYLOAD_AT, car, car_indexed, cbor, index_of, raw
 from .rows import ERROR, Row, fails, message
 from .rows.outputs import EXISTS, IS_INPUT, NEW
 
@@ -80,6 +80,13 @@ class SplitTest(OutputTest):
         ):
             changed = files_of("new-", cars_of(limit, roots=roots))
             self.check_split(limit, changed, options=options)
+
+    def test_headers_within_the_limit(self):
+        """A CAR has no more roots than its header may have with this limit on sections."""
+        limit = len(cbor({"roots": CIDS[:6], "version": 1}))
+        for end, options in (6, f"--limit {limit}"), (5, f"--limit {limit - 1}"):
+            cars = [car(CIDS[:end], BLOCKS[:end]), car(CIDS[end:], BLOCKS[end:])]
+            self.check_split("1G", files_of("new-", cars), options=options)
 
     def test_indexes(self):
         for limit in (

@@ -11,7 +11,7 @@ import subprocess
 from .blocks import EMPTY, PART
 from .formats import car, cbor
 from .program import SECONDS_FOR_A_RUN, ProgramTest, arguments_of
-from .rows import CHECK_FAILED, DONE, ERROR, Row, fails, streams, system_error
+from .rows import CHECK_FAILED, DONE, ERROR, Row, fails, lines, streams, system_error
 from .rows.outputs import IS_INPUT
 
 # Standard output is closed in the new process.
@@ -73,13 +73,20 @@ class OutputFailsTest(ProgramTest):
 class UnreadTest(ProgramTest):
     """If nobody reads the output any more, the program ends without a message."""
 
+    def check_unread(self, row, **options):
+        reading, writing = os.pipe()
+        os.close(reading)
+        with open(writing, "wb") as pipe:
+            self.check(row, stdout=pipe, **options)
+
     def test_nobody_reads_the_first_byte(self):
         for row in streams.UNREAD:
             with self.subTest(ipld=row.command):
-                reading, writing = os.pipe()
-                os.close(reading)
-                with open(writing, "wb") as pipe:
-                    self.check(row, stdout=pipe)
+                self.check_unread(row)
+
+    def test_nobody_reads_the_cids_of_lines(self):
+        row = Row("cid -t -", "", re.compile("ipld: plain: .*\n"), CHECK_FAILED)
+        self.check_unread(row, input=lines("plain", *[EMPTY.cid] * 1000).encode())
 
     def test_the_reader_leaves(self):
         (self.folder / "long").write_bytes(cbor([EMPTY.cid] * 100_000))
@@ -119,6 +126,10 @@ class MessageTest(ProgramTest):
                 writing.close()
                 reading.setblocking(False)
                 self.assertEqual([it[:6] for it in messages_of(reading)], [b"ipld: "] * count)
+
+    def test_control_characters_of_values(self):
+        err = re.compile(r"error: invalid value '\\u\{1b\}' for '--limit <SIZE>': .*\n\n.*\n")
+        self.check(Row(["car", "list", "--limit=\x1b", "a.car"], "", err, ERROR))
 
     def test_control_characters_of_names(self):
         (self.folder / "a\x1b[31m\nb\x9b").write_bytes(b"\xf6")

@@ -3,12 +3,13 @@
 import contextlib
 import fcntl
 import os
+import pathlib
 import re
 import signal
 import subprocess
 import time
 
-from .blocks import HELLO
+from .blocks import CAR, HELLO
 from .folders import OutputTest, contents
 from .formats import car, raw
 from .program import SECONDS_FOR_A_RUN, Run
@@ -91,6 +92,12 @@ class TemporaryFilesTest(OutputTest):
                 output.unlink()
         self.check(row, folder)
         self.assertEqual(list(folder.glob(".new.car.ipld-*")), [])
+
+    def test_nothing_is_left_of_a_copy_of_standard_input(self):
+        with self.started("car create -o - car:-", stdin=subprocess.PIPE) as running:
+            self.compare(Row("", CAR), self.ended(running, CAR))
+        left = pathlib.Path("/tmp").glob(f"ipld-{running.pid}-*")
+        self.assertEqual(list(left), [])
 
     def test_no_name_is_free(self):
         """Another process has locked a file of each name, which has the number of the process."""

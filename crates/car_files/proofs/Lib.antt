@@ -10,4 +10,5 @@ pub mod Looking
 pub mod Saying
 pub mod Finding
 pub mod Hashing
+pub mod Placing
 pub mod Tallying

@@ -1,5 +1,5 @@
 -- Sections, read one after the other.
-use Rattle.std.proofs.Common.{◌≡◌, ℕ, ◌+◌, ◌-◌, true, false, List, [], ◌∷◌, ◌++◌, length, Option, Some, None, Ok, Err, inl, inr, refl, sym, ap, subst, ◌∙◌, arith, append_assoc, append-nil, length-append}
+use Rattle.std.proofs.Common.{◌≡◌, ℕ, ◌+◌, ◌-◌, ◌⊎◌, Bool, true, false, List, [], ◌∷◌, ◌++◌, length, Option, Some, None, Ok, Err, inl, inr, refl, sym, ap, subst, ◌∙◌, arith, append_assoc, append-nil, length-append}
 use Rattle.std.proofs.KnownBytes.{Consumes-nil, Consumes-trans}
 use Rattle.std.specs.Io.KnownBytes.{Consumes}
 use Rattle.ipld_car.specs.declared.error.CarError.{CarError}
@@ -7,6 +7,7 @@ use Rattle.ipld_car.specs.declared.error.CarErrorKind.{CarErrorKind}
 use Rattle.ipld_car.specs.declared.error.CarErrorKind.TheVariants.{UnexpectedEnd, ShortPayload, Cid}
 use Rattle.ipld_car.specs.declared.reader.CarReader.{CarReader}
 use Rattle.ipld_car.specs.Fails.{Fails}
+use Rattle.ipld_car.specs.Padding.{IsPadded}
 use Rattle.ipld_car.specs.Position.{Moves}
 use Rattle.ipld_car.specs.Reading.{ReadsSection, SectionFault}
 use Rattle.ipld_car.specs.Section.{Block, AreSections}
@@ -26,6 +27,18 @@ ends_later : (room : ℕ) (old mid new : Option (List ℕ)) (got taken : List �
 ends_later room old mid new got taken c (inl full) = inl full
 ends_later room old mid new got taken c (inr out) = inr (read_out_later old mid new got c out)
 
+padded_later : (allowed : Bool) (old mid new : Option (List ℕ)) (got : List ℕ) → Consumes old mid got → IsPadded allowed mid new → IsPadded allowed old new
+padded_later allowed None None new got c p = p
+padded_later allowed None (Some ys) new got c p = p.0
+padded_later allowed (Some xs) None new got c p = absurd c
+padded_later allowed (Some xs) (Some ys) new got c p = p
+
+-- no section follows those that were read before and now
+none_follows : (room : ℕ) (allowed : Bool) (old mid new : Option (List ℕ)) (got : List ℕ) → Consumes old mid got
+    → Ends room mid new [] ⊎ IsPadded allowed mid new → Ends room old new [] ⊎ IsPadded allowed old new
+none_follows room allowed old mid new got c (inl ends) = inl (ends_later room old mid new got [] c ends)
+none_follows room allowed old mid new got c (inr padded) = inr (padded_later allowed old mid new got c padded)
+
 fault_later : (limit room : ℕ) (old mid new : Option (List ℕ)) (got taken : List ℕ) (kind : CarErrorKind) (place : ℕ) → Consumes old mid got
     → SectionFault limit room mid new taken kind place → SectionFault limit room old new taken kind place
 fault_later limit room old mid new got taken UnexpectedEnd place c f = ((f.0.0, f.0.1, ends_later room old mid new got taken c f.0.2), f.1)
@@ -41,13 +54,13 @@ section_from before after car taken =
 
 -- a section that was read
 pub next_found : {R : Type 0} (before after : Option (List ℕ)) (old new : CarReader R) (taken : List ℕ) (block : Block) → Consumes before after taken
-    → Moves old new (length taken) → ReadsSection (section_from before after old taken) block (Ok true) → ReadsNext (read_from before after old new) block (Ok true)
+    → Moves old new (length taken) → ReadsSection old.zero_padding (section_from before after old taken) block (Ok true) → ReadsNext (read_from before after old new) block (Ok true)
 next_found before after old new taken block c m r =
     record { bytes = taken; consumed = c; sections = (taken, [], sym (append-nil taken), r.0, refl); moves = m }
 
 -- there was none
 pub next_none : {R : Type 0} (before after : Option (List ℕ)) (old new : CarReader R) (taken : List ℕ) (block : Block) → Consumes before after taken
-    → Moves old new (length taken) → ReadsSection (section_from before after old taken) block (Ok false) → ReadsNext (read_from before after old new) block (Ok false)
+    → Moves old new (length taken) → ReadsSection old.zero_padding (section_from before after old taken) block (Ok false) → ReadsNext (read_from before after old new) block (Ok false)
 next_none before after old new taken block c m r =
     let none : length taken ≡ 0 = ap length r.0 in
     let here : new.offset ≡ old.offset = let at = m.offset in omega arith in
@@ -58,7 +71,7 @@ next_none before after old new taken block c m r =
 
 -- the bytes were no section
 pub next_fails : {R : Type 0} (before after : Option (List ℕ)) (old new : CarReader R) (taken : List ℕ) (block : Block) (error : CarError) (made : CarFileError)
-    → Consumes before after taken → Moves old new (length taken) → ReadsSection (section_from before after old taken) block (Err error)
+    → Consumes before after taken → Moves old new (length taken) → ReadsSection old.zero_padding (section_from before after old taken) block (Err error)
     → IsErrorOf error made → ReadsNext (read_from before after old new) block (Err made)
 next_fails before after old new taken block error Memory c m r i = tt
 next_fails before after old new taken block error (Car same) c m r i =
@@ -85,6 +98,7 @@ moves_more old mid new a b m n = record {
   limit = n.limit ∙ m.limit;
   version = n.version ∙ m.version;
   roots = n.roots ∙ m.roots;
+  zero_padding = n.zero_padding ∙ m.zero_padding;
 }
 
 pub sections_more : (a b : List ℕ) (xs ys : List Block) → AreSections a xs → AreSections b ys → AreSections (a ++ b) (xs ++ ys)
@@ -98,7 +112,7 @@ reads_none bytes car = record {
   bytes = [];
   consumed = Consumes-nil bytes;
   sections = refl;
-  moves = record { offset = omega arith; start = refl; end = refl; limit = refl; version = refl; roots = refl };
+  moves = record { offset = omega arith; start = refl; end = refl; limit = refl; version = refl; roots = refl; zero_padding = refl };
 }
 
 -- more blocks
@@ -116,7 +130,7 @@ pub reads_all : {R : Type 0} (before between after : Option (List ℕ)) (old mid
     → ReadsAll (read_from between after mid new) [] → ReadsAll (read_from before after old new) xs
 reads_all before between after old mid new xs r s = record {
   reads = subst (Reads (read_from before after old new)) (append-nil xs) (reads_more before between after old mid new xs [] r s.reads);
-  ends = ends_later (new.end - new.offset) before between after r.bytes [] r.consumed s.ends;
+  ends = none_follows (new.end - new.offset) old.zero_padding before between after r.bytes r.consumed (rw (← r.moves.zero_padding) s.ends);
 }
 
 -- and then none: these are the blocks that were read

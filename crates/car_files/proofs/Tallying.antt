@@ -15,13 +15,16 @@ use Rattle.car_files.specs.declared.error.CarFileError.{CarFileError}
 use Rattle.car_files.specs.declared.error.CarFileError.TheVariants.{Memory, Write, Car}
 use Rattle.car_files.specs.declared.list.Form.{Form}
 use Rattle.car_files.specs.declared.list.Form.TheVariants.{Blocks, Links, Dot, Json}
+use Rattle.car_files.specs.declared.places.SectionPlaces.{SectionPlaces}
 use Rattle.car_files.specs.declared.verify.VerdictForm.{VerdictForm}
 use Rattle.car_files.specs.Listing.{ListsBlocks, Lists, ListingFault, ListsBlock}
+use Rattle.car_files.specs.Places.{Adds, places_of}
 use Rattle.car_files.specs.Reading.{Reads, ReadsNext, IsWritingError}
 use Rattle.car_files.specs.Verifying.{Tallies, nothing, right_one, wrong_one, unknown_one, Writes, Verifies, VerifyingFault}
 use Rattle.car_files.specs.Written.{Known, known, unknown as not_read, invalid, IsKnownOf, IsSaid, is_invalid, sections_len, version_number, front_text, linked_text, AreListed, no_block, block_more, begun_text, end_text, verdict_text, no_lines, no_line, line}
 use Rattle.car_files.proofs.Sections.{reads_none, reads_more, reads_all, none_later}
 use Rattle.car_files.proofs.Lengths.{begins_behind}
+use Rattle.car_files.proofs.Placing.{adds_none, adds_section}
 use Rattle.car_files.proofs.Streams.{read_from, output_to, lines_to, listed_of, verified_of}
 
 -- so many blocks were listed in this form, and so many of them are none of their codec
@@ -153,21 +156,23 @@ unlisted_car before between after old mid new form label held holds erred errs c
 unlisted_car before between after old mid new form label held holds erred errs count wrong block (Write kind) s r = absurd r
 
 -- so many blocks were seen, and so many of them are wrong or not known
-pub record TalliesSoFar {R : Type 0} (verdict : VerdictForm) (before after : Option (List ℕ)) (old new : CarReader R) (held holds : Option (List ℕ)) (count wrong unknown : ℕ) : Type 0 where
+pub record TalliesSoFar {R : Type 0} (verdict : VerdictForm) (before after : Option (List ℕ)) (old new : CarReader R) (first last : SectionPlaces) (held holds : Option (List ℕ)) (count wrong unknown : ℕ) : Type 0 where
   pub blocks : List Block
   pub reads : Reads (read_from before after old new) blocks
   pub right : ℕ
   pub tallies : Tallies blocks right wrong unknown
   pub total : right + wrong + unknown ≡ count
+  pub adds : Adds first last (places_of old.offset blocks)
   pub writes : Writes verdict old.offset blocks (output_to held holds)
 
-pub tallies_none : {R : Type 0} (verdict : VerdictForm) (bytes : Option (List ℕ)) (car : CarReader R) (held : Option (List ℕ)) → TalliesSoFar verdict bytes bytes car car held held 0 0 0
-tallies_none verdict bytes car held = record {
+pub tallies_none : {R : Type 0} (verdict : VerdictForm) (bytes : Option (List ℕ)) (car : CarReader R) (places : SectionPlaces) (held : Option (List ℕ)) → TalliesSoFar verdict bytes bytes car car places places held held 0 0 0
+tallies_none verdict bytes car places held = record {
   blocks = [];
   reads = reads_none bytes car;
   right = 0;
   tallies = nothing;
   total = refl;
+  adds = adds_none places;
   writes = record { text = []; reports = no_lines; appends = Appends-nil held };
 }
 
@@ -187,43 +192,53 @@ other_written verdict before between old mid held holding holds place blocks blo
       (subst (λ (n : ℕ). Appends holding holds (verdict_text verdict n block.cid error)) (at ∙ begins_behind before between old mid blocks r) a);
 }
 
-pub tallies_right : {R : Type 0} (verdict : VerdictForm) (before between after : Option (List ℕ)) (old mid new : CarReader R) (held holds : Option (List ℕ)) (count wrong unknown : ℕ) (block : Block)
-    → TalliesSoFar verdict before between old mid held holds count wrong unknown → ReadsNext (read_from between after mid new) block (Ok true)
-    → digest_by block.cid.code block.bytes ≡ Some block.cid.digest → TalliesSoFar verdict before after old new held holds (count + 1) wrong unknown
-tallies_right verdict before between after old mid new held holds count wrong unknown block s r d = record {
+pub tallies_right : {R : Type 0} (verdict : VerdictForm) (before between after : Option (List ℕ)) (old mid new : CarReader R) (first middle last : SectionPlaces) (held holds : Option (List ℕ)) (count wrong unknown place : ℕ) (block : Block)
+    → TalliesSoFar verdict before between old mid first middle held holds count wrong unknown → ReadsNext (read_from between after mid new) block (Ok true)
+    → place ≡ mid.offset → Adds middle last ((block.cid, place) ∷ [])
+    → digest_by block.cid.code block.bytes ≡ Some block.cid.digest → TalliesSoFar verdict before after old new first last held holds (count + 1) wrong unknown
+tallies_right verdict before between after old mid new first middle last held holds count wrong unknown place block s r at a d = record {
   blocks = s.blocks ++ block ∷ [];
   reads = reads_more before between after old mid new s.blocks (block ∷ []) s.reads r;
   right = s.right + 1;
   tallies = right_one s.blocks block s.right wrong unknown s.tallies d;
   total = let t = s.total in omega arith;
+  adds = adds_section first middle last old.offset place s.blocks block s.adds (at ∙ begins_behind before between old mid s.blocks s.reads) a;
   writes = right_written verdict old.offset s.blocks block held holds s.writes d;
 }
 
-pub tallies_wrong : {R : Type 0} (verdict : VerdictForm) (before between after : Option (List ℕ)) (old mid new : CarReader R) (held holding holds : Option (List ℕ)) (count wrong unknown place : ℕ) (block : Block)
-    → TalliesSoFar verdict before between old mid held holding count wrong unknown → ReadsNext (read_from between after mid new) block (Ok true)
-    → IsVerifyError block.cid block.bytes WrongDigest → place ≡ mid.offset → Appends holding holds (verdict_text verdict place block.cid WrongDigest)
-    → TalliesSoFar verdict before after old new held holds (count + 1) (wrong + 1) unknown
-tallies_wrong verdict before between after old mid new held holding holds count wrong unknown place block s r d at a = record {
+pub tallies_wrong : {R : Type 0} (verdict : VerdictForm) (before between after : Option (List ℕ)) (old mid new : CarReader R) (first middle last : SectionPlaces) (held holding holds : Option (List ℕ)) (count wrong unknown place : ℕ) (block : Block)
+    → TalliesSoFar verdict before between old mid first middle held holding count wrong unknown → ReadsNext (read_from between after mid new) block (Ok true)
+    → IsVerifyError block.cid block.bytes WrongDigest → place ≡ mid.offset → Adds middle last ((block.cid, place) ∷ []) → Appends holding holds (verdict_text verdict place block.cid WrongDigest)
+    → TalliesSoFar verdict before after old new first last held holds (count + 1) (wrong + 1) unknown
+tallies_wrong verdict before between after old mid new first middle last held holding holds count wrong unknown place block s r d at p a = record {
   blocks = s.blocks ++ block ∷ [];
   reads = reads_more before between after old mid new s.blocks (block ∷ []) s.reads r;
   right = s.right;
   tallies = wrong_one s.blocks block s.right wrong unknown s.tallies d;
   total = let t = s.total in omega arith;
+  adds = adds_section first middle last old.offset place s.blocks block s.adds (at ∙ begins_behind before between old mid s.blocks s.reads) p;
   writes = other_written verdict before between old mid held holding holds place s.blocks block WrongDigest s.reads at s.writes d a;
 }
 
-pub tallies_unknown : {R : Type 0} (verdict : VerdictForm) (before between after : Option (List ℕ)) (old mid new : CarReader R) (held holding holds : Option (List ℕ)) (count wrong unknown code place : ℕ) (block : Block)
-    → TalliesSoFar verdict before between old mid held holding count wrong unknown → ReadsNext (read_from between after mid new) block (Ok true)
-    → IsVerifyError block.cid block.bytes (UnknownHash code) → place ≡ mid.offset → Appends holding holds (verdict_text verdict place block.cid (UnknownHash code))
-    → TalliesSoFar verdict before after old new held holds (count + 1) wrong (unknown + 1)
-tallies_unknown verdict before between after old mid new held holding holds count wrong unknown code place block s r d at a = record {
+pub tallies_unknown : {R : Type 0} (verdict : VerdictForm) (before between after : Option (List ℕ)) (old mid new : CarReader R) (first middle last : SectionPlaces) (held holding holds : Option (List ℕ)) (count wrong unknown code place : ℕ) (block : Block)
+    → TalliesSoFar verdict before between old mid first middle held holding count wrong unknown → ReadsNext (read_from between after mid new) block (Ok true)
+    → IsVerifyError block.cid block.bytes (UnknownHash code) → place ≡ mid.offset → Adds middle last ((block.cid, place) ∷ []) → Appends holding holds (verdict_text verdict place block.cid (UnknownHash code))
+    → TalliesSoFar verdict before after old new first last held holds (count + 1) wrong (unknown + 1)
+tallies_unknown verdict before between after old mid new first middle last held holding holds count wrong unknown code place block s r d at p a = record {
   blocks = s.blocks ++ block ∷ [];
   reads = reads_more before between after old mid new s.blocks (block ∷ []) s.reads r;
   right = s.right;
   tallies = unknown_one s.blocks block s.right wrong unknown s.tallies d.1;
   total = let t = s.total in omega arith;
+  adds = adds_section first middle last old.offset place s.blocks block s.adds (at ∙ begins_behind before between old mid s.blocks s.reads) p;
   writes = other_written verdict before between old mid held holding holds place s.blocks block (UnknownHash code) s.reads at s.writes d a;
 }
+
+-- the digest of the block, by its parts
+pub right_block : (block : Block) (cid : Link) (bytes : List ℕ) → cid ≡ block.cid → bytes ≡ block.bytes → digest_by cid.code bytes ≡ Some cid.digest
+    → digest_by block.cid.code block.bytes ≡ Some block.cid.digest
+right_block block cid bytes c b d =
+    subst (λ (l : Link). digest_by l.code block.bytes ≡ Some l.digest) c (subst (λ (xs : List ℕ). digest_by cid.code xs ≡ Some cid.digest) b d)
 
 -- the error of the block, by its parts
 pub error_of : (block : Block) (cid : Link) (bytes : List ℕ) (error kind : VerifyError) → cid ≡ block.cid → bytes ≡ block.bytes → error ≡ kind
@@ -237,21 +252,22 @@ pub line_of : (verdict : VerdictForm) (held holds : Option (List ℕ)) (place : 
 line_of verdict held holds place block cid error kind c k a =
     subst (λ (e : VerifyError). Appends held holds (verdict_text verdict place block.cid e)) k (subst (λ (l : Link). Appends held holds (verdict_text verdict place l error)) c a)
 
-pub tallies_all : {R : Type 0} (verdict : VerdictForm) (before between after : Option (List ℕ)) (old mid new : CarReader R) (held holds : Option (List ℕ)) (count wrong unknown right : ℕ) (block : Block)
-    → TalliesSoFar verdict before between old mid held holds count wrong unknown → ReadsNext (read_from between after mid new) block (Ok false) → right ≡ count - wrong - unknown
-    → Verifies verdict (read_from before after old new) (output_to held holds) (verified_of right wrong unknown)
-tallies_all verdict before between after old mid new held holds count wrong unknown right block s r is = record {
+pub tallies_all : {R : Type 0} (verdict : VerdictForm) (before between after : Option (List ℕ)) (old mid new : CarReader R) (first last : SectionPlaces) (held holds : Option (List ℕ)) (count wrong unknown right : ℕ) (block : Block)
+    → TalliesSoFar verdict before between old mid first last held holds count wrong unknown → ReadsNext (read_from between after mid new) block (Ok false) → right ≡ count - wrong - unknown
+    → Verifies verdict (read_from before after old new) first last (output_to held holds) (verified_of right wrong unknown)
+tallies_all verdict before between after old mid new first last held holds count wrong unknown right block s r is = record {
   blocks = s.blocks;
   reads = reads_all before between after old mid new s.blocks s.reads r;
   tallies = subst (λ n. Tallies s.blocks n wrong unknown) (let t = s.total in let is_right : s.right ≡ right = omega arith in is_right) s.tallies;
+  adds = s.adds;
   writes = s.writes;
 }
 
-pub unverified_car : {R : Type 0} (verdict : VerdictForm) (before between after : Option (List ℕ)) (old mid new : CarReader R) (held holds : Option (List ℕ)) (count wrong unknown : ℕ) (block : Block) (error : CarFileError)
-    → TalliesSoFar verdict before between old mid held holds count wrong unknown → ReadsNext (read_from between after mid new) block (Err error) → VerifyingFault verdict (read_from before after old new) (output_to held holds) error
-unverified_car verdict before between after old mid new held holds count wrong unknown block (Write kind) s r = absurd r
-unverified_car verdict before between after old mid new held holds count wrong unknown block Memory s r = tt
-unverified_car verdict before between after old mid new held holds count wrong unknown block (Car error) s r =
+pub unverified_car : {R : Type 0} (verdict : VerdictForm) (before between after : Option (List ℕ)) (old mid new : CarReader R) (first last : SectionPlaces) (held holds : Option (List ℕ)) (count wrong unknown : ℕ) (block : Block) (error : CarFileError)
+    → TalliesSoFar verdict before between old mid first last held holds count wrong unknown → ReadsNext (read_from between after mid new) block (Err error) → VerifyingFault verdict (read_from before after old new) (output_to held holds) error
+unverified_car verdict before between after old mid new first last held holds count wrong unknown block (Write kind) s r = absurd r
+unverified_car verdict before between after old mid new first last held holds count wrong unknown block Memory s r = tt
+unverified_car verdict before between after old mid new first last held holds count wrong unknown block (Car error) s r =
     let later = none_later before between after old mid new s.blocks error s.reads r.0 r.1 in
     (later.0, subst (λ (bs : List Block). Writes verdict old.offset bs (output_to held holds)) (sym later.1) s.writes)
 

@@ -10,6 +10,7 @@ pub mod Reading
 pub mod Missing
 pub mod Finding
 pub mod Written
+pub mod Places
 pub mod Views
 pub mod Complaints
 pub mod Verifying

@@ -1,11 +1,12 @@
 -- The blocks of a CAR that were read, and the reasons why reading stopped.
-use Rattle.std.specs.Prelude.{◌≡◌, ◌≢◌, ◌+◌, ◌-◌, ℕ, Bool, true, false, List, [], ◌∷◌, ◌++◌, length, Result, Ok, Err}
+use Rattle.std.specs.Prelude.{◌≡◌, ◌≢◌, ◌+◌, ◌-◌, ◌⊎◌, ℕ, Bool, true, false, List, [], ◌∷◌, ◌++◌, length, Result, Ok, Err}
 use Rattle.std.specs.Io.KnownBytes.{Consumes}
 use Rattle.std.specs.declared.io.ErrorKind.{ErrorKind}
 use Rattle.std.specs.declared.io.ErrorKind.TheVariants.{OutOfMemory as NoMemory}
 use Rattle.ipld_car.specs.declared.error.CarError.{CarError}
 use Rattle.ipld_car.specs.declared.error.CarErrorKind.TheVariants.{Memory as OutOfMemory}
 use Rattle.ipld_car.specs.Fails.{Fails}
+use Rattle.ipld_car.specs.Padding.{IsPadded}
 use Rattle.ipld_car.specs.Position.{Moves}
 use Rattle.ipld_car.specs.Reading.{SectionFault}
 use Rattle.ipld_car.specs.Section.{Block, AreSections}
@@ -21,11 +22,11 @@ pub record Reads {R : Type 0} (read : Progress R) (blocks : List Block) : Type 0
   pub sections : AreSections bytes blocks
   pub moves : Moves read.old read.new (length bytes)
 
--- True if the sections of these blocks were taken, and nothing follows them: the reader is at its
--- end, or the payload is.
+-- True if the sections of these blocks were taken, and no section follows them: the reader is at its
+-- end, or the payload is, or zeros that are allowed come next.
 pub record ReadsAll {R : Type 0} (read : Progress R) (blocks : List Block) : Type 0 where
   pub reads : Reads read blocks
-  pub ends : Ends (read.new.end - read.new.offset) read.before read.after []
+  pub ends : Ends (read.new.end - read.new.offset) read.before read.after [] ⊎ IsPadded read.old.zero_padding read.before read.after
 
 -- True if the section after those of some blocks wasn't read because the bytes are not a section
 -- or the reader failed. The error has the reason and the offset.

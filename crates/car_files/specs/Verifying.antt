@@ -7,8 +7,10 @@ use Rattle.ipld_block.specs.declared.block_cid.error.VerifyError.TheVariants.{Wr
 use Rattle.ipld_car.specs.Section.{Block}
 use Rattle.car_files.specs.declared.error.CarFileError.{CarFileError}
 use Rattle.car_files.specs.declared.error.CarFileError.TheVariants.{Memory, Write, Car}
+use Rattle.car_files.specs.declared.places.SectionPlaces.{SectionPlaces}
 use Rattle.car_files.specs.declared.verify.VerdictForm.{VerdictForm}
 use Rattle.car_files.specs.declared.verify.Verified.{Verified}
+use Rattle.car_files.specs.Places.{Adds, places_of}
 use Rattle.car_files.specs.Streams.{Progress, Output}
 use Rattle.car_files.specs.Reading.{ReadsAll, NoSection}
 use Rattle.car_files.specs.Written.{Reports}
@@ -30,12 +32,13 @@ pub record Writes (form : VerdictForm) (begin : ℕ) (blocks : List Block) (outp
   pub reports : Reports form begin blocks text
   pub appends : Appends output.before output.after text
 
--- True if all blocks were read, `seen` counts them by their digests (`Tallies`), and the lines
--- about them were written (FIPS 180-4).
-pub record Verifies {R : Type 0} (form : VerdictForm) (read : Progress R) (output : Output) (seen : Verified) : Type 0 where
+-- True if all blocks were read, `seen` counts them by their digests (`Tallies`), the lines about
+-- them were written (FIPS 180-4), and the places of their sections were added (`Adds`).
+pub record Verifies {R : Type 0} (form : VerdictForm) (read : Progress R) (first last : SectionPlaces) (output : Output) (seen : Verified) : Type 0 where
   pub blocks : List Block
   pub reads : ReadsAll read blocks
   pub tallies : Tallies blocks seen.right seen.wrong seen.unknown
+  pub adds : Adds first last (places_of read.old.offset blocks)
   pub writes : Writes form read.old.offset blocks output
 
 -- True if the error reports a failed allocation, a failed writer, or that the next section wasn't

@@ -29,6 +29,7 @@ mod find;
 mod index;
 mod list;
 mod missing;
+mod places;
 mod reading;
 mod verify;
 
@@ -38,4 +39,5 @@ pub use find::find_block;
 pub use index::MissingBlocks;
 pub use list::{Form, Listed, write_list};
 pub use missing::{Missing, Seen, add_car, find_missing};
+pub use places::{SectionPlace, SectionPlaces};
 pub use verify::{VerdictForm, Verified, is_truncated, write_verified};

@@ -9,6 +9,7 @@ ghost use Rattle.car_files.specs.Verifying.{Verifies, VerifyingFault};
 ghost use Rattle.car_files.specs.Written.{complaint, complaint_members, is_truncated, verdict_line, verdict_object, verdict_text};
 
 use crate::error::CarFileError;
+use crate::places::SectionPlaces;
 use crate::reading::read_next;
 use ipld_block::{BLAKE2B_256, SHA2_512, VerifyError, verify, write_cid};
 use ipld_car::{CarReader, Section};
@@ -164,10 +165,10 @@ fn write_verdict<W: Write>(
 
 /// Writes a line in this form for every block whose digest isn't that of its CID, or isn't computed
 /// here. The line has the error and the offset of the section. Returns the number of blocks of each
-/// kind.
+/// kind. Adds the place of each section to `places`.
 ///
-/// It reads one section at a time, and keeps nothing of earlier ones. It allocates for the text of
-/// every CID that it writes.
+/// It reads one section at a time, and keeps nothing else of earlier ones. It allocates for the text
+/// of every CID that it writes, and for `places` if they are kept.
 ///
 /// # Errors
 ///
@@ -181,10 +182,11 @@ pub fn write_verified<R: BufRead + Drop, W: Write>(
     alloc: Global,
     car: &mut CarReader<R>,
     form: VerdictForm,
+    places: &mut SectionPlaces,
     writer: &mut W,
 ) -> Result<Verified, CarFileError>
     ensures verified { IfOk result (Verifies form
-        (progress R.remaining car.old car.new)
+        (progress R.remaining car.old car.new) places.old places.new
         (output W.contents writer.old writer.new)) }
     ensures fault { IfErr result (VerifyingFault form
         (progress R.remaining car.old car.new)
@@ -207,6 +209,10 @@ pub fn write_verified<R: BufRead + Drop, W: Write>(
             Err(error) => return Err(error),
         }
         let cid = section.cid();
+        match places.add(cid, offset) {
+            Ok(()) => {}
+            Err(_) => return Err(CarFileError::Memory),
+        }
         let error = match verify(cid, section.data()) {
             Ok(()) => continue,
             Err(error) => error,

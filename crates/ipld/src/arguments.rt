@@ -5,7 +5,7 @@ use clap::parser::ValueSource;
 use ipld_block::BlockCodec;
 use ipld_car::DEFAULT_LIMIT;
 use ipld_cli::{
-    Outcome, read_file, reads_twice, report, report_out_of_memory, report_unreadable,
+    CarOptions, Outcome, read_file, reads_twice, report, report_out_of_memory, report_unreadable,
     report_wrong_arguments,
 };
 use std::alloc::{AllocError, Global};
@@ -95,18 +95,24 @@ fn standard_input_among(rt: &HostRuntime, words: &[&str]) -> Result<String, Outc
     }
 }
 
+/// Appends the lines of a text. Empty lines are left out.
+pub fn push_lines(alloc: Global, text: &str, lines: &mut Vec<String>) -> Result<(), AllocError> {
+    for line in text.lines() {
+        if !line.is_empty() {
+            lines.push(String::from_str(alloc, line)?)?;
+        }
+    }
+    Ok(())
+}
+
 // Returns the words, with the lines of `input` in the place of `-`. Empty lines are left out.
 fn with_lines(alloc: Global, words: &[&str], input: &str) -> Result<Vec<String>, AllocError> {
     let mut all = Vec::new(alloc);
     for word in words {
-        if *word != "-" {
+        if *word == "-" {
+            push_lines(alloc, input, &mut all)?;
+        } else {
             all.push(String::from_str(alloc, word)?)?;
-            continue;
-        }
-        for line in input.lines() {
-            if !line.is_empty() {
-                all.push(String::from_str(alloc, line)?)?;
-            }
         }
     }
     Ok(all)
@@ -141,4 +147,12 @@ pub fn cid_texts(
 /// default.
 pub fn limit_of(rt: &HostRuntime, matches: &ArgMatches<'_>) -> Result<u64, Outcome> {
     Ok(size_of(rt, matches, "limit")?.unwrap_or(DEFAULT_LIMIT))
+}
+
+/// Returns the options for reading CARs: those of `--limit` and `--zero-padding`.
+pub fn car_options_of(rt: &HostRuntime, matches: &ArgMatches<'_>) -> Result<CarOptions, Outcome> {
+    Ok(CarOptions {
+        limit: limit_of(rt, matches)?,
+        zero_padding: matches.get_flag("zero-padding"),
+    })
 }

@@ -10,6 +10,7 @@ mod index;
 mod list;
 mod missing;
 mod report;
+mod salvage;
 mod split;
 mod verify;
 
@@ -19,6 +20,7 @@ use crate::car_commands::filter::run_filter;
 use crate::car_commands::index::run_index;
 use crate::car_commands::list::{run_graph, run_inspect, run_links, run_list, run_roots};
 use crate::car_commands::missing::run_missing;
+use crate::car_commands::salvage::run_salvage;
 use crate::car_commands::verify::run_verify;
 use clap::ArgMatches;
 use ipld_cli::Outcome;
@@ -44,6 +46,7 @@ fn run_command(rt: &HostRuntime, name: &str, matches: &ArgMatches<'_>) -> Outcom
         "extract" => run_extract(rt, matches),
         "filter" => run_filter(rt, matches),
         "index" => run_index(rt, matches),
+        "salvage" => run_salvage(rt, matches),
         "create" => run_create(rt, matches),
         _ => Outcome::Failed,
     }

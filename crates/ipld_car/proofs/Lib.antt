@@ -12,6 +12,7 @@ pub mod OnlyFramed
 pub mod OnlySections
 pub mod OnlyOpenings
 pub mod Payloads
+pub mod Paddings
 pub mod LengthsInMemory
 pub mod FramesInMemory
 pub mod SectionsInMemory

@@ -1,5 +1,5 @@
 -- A section that stands next in known bytes is what is read of them.
-use Rattle.std.proofs.Common.{◌≡◌, ℕ, ◌-◌, ◌<◌, ◌≤◌, Bool, true, false, List, [], ◌∷◌, ◌++◌, length, Option, Some, None, Result, Ok, Err, inr, refl, sym, ap, subst, ◌∙◌, arith, append_assoc, length-append}
+use Rattle.std.proofs.Common.{◌≡◌, ℕ, ◌-◌, ◌<◌, ◌≤◌, Bool, true, false, List, [], ◌∷◌, ◌++◌, length, Option, Some, None, Result, Ok, Err, inl, inr, refl, sym, ap, subst, ◌∙◌, arith, append_assoc, length-append}
 use Rattle.std.specs.Io.KnownBytes.{Consumes}
 use Rattle.ipld_cid.specs.Cid.{Link}
 use Rattle.ipld_cid.specs.Front.{BeginsWith, split_cid}
@@ -13,7 +13,7 @@ use Rattle.ipld_car.specs.Reading.{ReadsSection, SectionFault, UnlessReaderFails
 use Rattle.ipld_car.specs.Section.{Block, no_block, content_of, IsSection}
 use Rattle.ipld_car.specs.Taking.{Ends, IsReaderError}
 use Rattle.ipld_car.proofs.OnlyFramed.{StandsNext, same_content, long_enough, not_cut, no_framing_fault}
-use Rattle.ipld_car.proofs.SectionReading.{content_is}
+use Rattle.ipld_car.proofs.SectionReading.{content_is, not_true}
 use Rattle.ipld_car.proofs.Takings.{taking}
 
 -- a section of a block, and known bytes that begin with it, of which some were taken
@@ -26,7 +26,7 @@ no_cid : (content : List ℕ) (block : Block) → BeginsWith 64 content block.ci
 unfolding split_cid
 no_cid content block b none = let read = sym (split_complete 64 content block.cid block.bytes b) ∙ ap (split_cid 64) none in cc
 
-some_of : (content : List ℕ) (block : Block) → BeginsWith 64 content block.cid block.bytes → 0 < length content
+pub some_of : (content : List ℕ) (block : Block) → BeginsWith 64 content block.cid block.bytes → 0 < length content
 some_of [] block b = absurd (no_cid [] block b refl)
 some_of (x ∷ content) block b = omega arith
 
@@ -75,16 +75,18 @@ no_fault limit room block taken left bytes new kind place s is f = no_framing_fa
 
 -- what is returned where the section stands next
 pub only_section : (limit begin end : ℕ) (old new : Option (List ℕ)) (taken : List ℕ) (found : Block) (result : Result Bool CarError) → Consumes old new taken
-    → ReadsSection (taking limit begin end old new taken) found result → (block : Block) (bytes rest : List ℕ) → old ≡ Some (bytes ++ rest) → IsSection bytes block
+    → ReadsSection false (taking limit begin end old new taken) found result → (block : Block) (bytes rest : List ℕ) → old ≡ Some (bytes ++ rest) → IsSection bytes block
     → length (content_of block) ≤ limit → length bytes ≤ end - begin → UnlessReaderFails result (λ has. (has ≡ true) × (found ≡ block))
 only_section limit begin end None new taken found result c r block bytes rest known is few fits = absurd (let no = known in cc)
 only_section limit begin end (Some xs) None taken found result c r block bytes rest known is few fits = absurd c
 only_section limit begin end (Some xs) (Some left) taken found (Ok true) c r block bytes rest known is few fits =
     (refl, same_block limit (end - begin) block found taken left (standing limit (end - begin) block bytes rest taken left is few fits (let e : xs ≡ bytes ++ rest = cc in sym e ∙ c)) r.0)
-only_section limit begin end (Some xs) (Some left) taken found (Ok false) c r block bytes rest known is few fits =
+only_section limit begin end (Some xs) (Some left) taken found (Ok false) c (none, inr padded) block bytes rest known is few fits =
+    absurd (not_true padded.0)
+only_section limit begin end (Some xs) (Some left) taken found (Ok false) c (none, inl ends) block bytes rest known is few fits =
     let s = standing limit (end - begin) block bytes rest taken left is few fits (let e : xs ≡ bytes ++ rest = cc in sym e ∙ c) in
-    absurd (let long = long_enough limit (end - begin) s.content taken left (Some left) xs s.next refl (subst (Ends (end - begin) (Some xs) (Some left)) (sym r.0) r.1) in
-    let none : length taken ≡ 0 = ap length r.0 in let some = s.next.some in omega arith)
+    absurd (let long = long_enough limit (end - begin) s.content taken left (Some left) xs s.next refl (subst (Ends (end - begin) (Some xs) (Some left)) (sym none) ends) in
+    let empty : length taken ≡ 0 = ap length none in let some = s.next.some in omega arith)
 only_section limit begin end (Some xs) (Some left) taken found (Err error) c r block bytes rest known is few fits =
     no_fault limit (end - begin) block taken left xs (Some left) error.kind r.place
     (standing limit (end - begin) block bytes rest taken left is few fits (let e : xs ≡ bytes ++ rest = cc in sym e ∙ c)) refl r.why

@@ -7,6 +7,7 @@ use Rattle.ipld_car.specs.declared.error.CarError.{CarError}
 use Rattle.ipld_car.specs.declared.error.CarErrorKind.{CarErrorKind}
 use Rattle.ipld_car.specs.declared.error.CarErrorKind.TheVariants.{UnexpectedEnd, ShortPayload}
 use Rattle.ipld_car.specs.declared.version.CarVersion.TheVariants.{V1, V2}
+use Rattle.ipld_car.specs.Padding.{IsPadded}
 use Rattle.ipld_car.specs.Payload.{end_kind, short_kind, end_result, within_payload}
 use Rattle.ipld_car.specs.Reading.{TakingFault, SectionFault, TakesSection, ReadsSection, EndOf, EndsOf, Leaves}
 use Rattle.ipld_car.specs.Section.{Block}
@@ -25,9 +26,9 @@ first_end limit room size found old new taken _ place f = tt
 
 -- version 1 ends with the file
 pub version1_read : (limit begin end size found : ℕ) (old new : Option (List ℕ)) (taken : List ℕ) (block : Block) (result : Result Bool CarError)
-    → TakesSection (taking limit begin end old new taken) block result → ReadsSection (taking limit begin end old new taken) block result × EndsOf V1 size found result
+    → TakesSection (taking limit begin end old new taken) block result → ReadsSection false (taking limit begin end old new taken) block result × EndsOf V1 size found (IsPadded false old new) result
 version1_read limit begin end size found old new taken block (Ok true) r = (r, tt)
-version1_read limit begin end size found old new taken block (Ok false) r = (r, tt)
+version1_read limit begin end size found old new taken block (Ok false) r = ((r.0, inl r.1), tt)
 version1_read limit begin end size found old new taken block (Err error) r = (
   record { place = r.place; section = r.section; offset = r.offset; why = same_fault limit (end - begin) old new taken error.kind r.place r.why },
   first_end limit (end - begin) size found old new taken error.kind r.place r.why,
@@ -49,14 +50,14 @@ payload_fault limit room size found old new taken UnexpectedEnd place counted wi
 payload_fault limit room size found old new taken (ShortPayload expected came) place counted within f = absurd f.0
 payload_fault limit room size found old new taken _ place counted within f = (f, tt)
 
-nothing : read_varint [] ≡ Err End
+pub nothing : read_varint [] ≡ Err End
 unfolding read_varint
 nothing = refl
 
 -- no section at the end of the file, or of the payload
 none_left : (limit begin end size found offset : ℕ) (old new : Option (List ℕ)) (taken : List ℕ) (block : Block) (short : Bool) → nat_lt found size ≡ short
     → end - begin + found ≡ size + length taken → offset ≡ begin + length taken → (taken ≡ []) × Ends (end - begin) old new []
-    → ReadsSection (taking limit begin end old new taken) block (end_result short size found offset) × EndsOf V2 size found (end_result short size found offset)
+    → ReadsSection false (taking limit begin end old new taken) block (end_result short size found offset) × EndsOf V2 size found (IsPadded false old new) (end_result short size found offset)
 none_left limit begin end size found offset old new taken block true e counted at (none, inl full) =
     absurd (let less = ltb-true found size e in let l : length taken ≡ 0 = ap length none in let z : 0 ≡ end - begin = full in omega arith)
 none_left limit begin end size found offset old new taken block true e counted at (none, inr out) =
@@ -71,13 +72,13 @@ none_left limit begin end size found offset old new taken block true e counted a
       (less, refl, refl),
     )
 none_left limit begin end size found offset old new taken block false e counted at n =
-    (n, let more = ltb-false found size e in let l : length taken ≡ 0 = ap length n.0 in omega arith)
+    ((n.0, inl n.1), inl (let more = ltb-false found size e in let l : length taken ≡ 0 = ap length n.0 in omega arith))
 
 -- the payload of version 2 has its own end
 pub version2_read : (limit begin start end at : ℕ) (old new : Option (List ℕ)) (taken : List ℕ) (block : Block) (result : Result Bool CarError)
     → TakesSection (taking limit begin end old new taken) block result → length taken ≤ end - begin → start ≤ begin → begin ≤ end → at ≡ begin + length taken
-    → ReadsSection (taking limit begin end old new taken) block (within_payload (end - start) (at - start) at result)
-    × EndsOf V2 (end - start) (at - start) (within_payload (end - start) (at - start) at result)
+    → ReadsSection false (taking limit begin end old new taken) block (within_payload (end - start) (at - start) at result)
+    × EndsOf V2 (end - start) (at - start) (IsPadded false old new) (within_payload (end - start) (at - start) at result)
 version2_read limit begin start end at old new taken block (Ok true) r within behind ordered is = (r, tt)
 version2_read limit begin start end at old new taken block (Ok false) r within behind ordered is =
     none_left limit begin end (end - start) (at - start) at old new taken block (nat_lt (at - start) (end - start)) refl (omega arith) is r

@@ -106,7 +106,7 @@ named_none begin start bytes lent reason error is read none made =
       none = λ link rest b. none link rest (subst (λ xs. BeginsWith 64 xs link rest) (sym slice) b);
     })
 
-not_true : ◌≡◌ {A = Bool} false true → ⊥
+pub not_true : ◌≡◌ {A = Bool} false true → ⊥
 not_true e = cc
 
 -- what naming the block returns

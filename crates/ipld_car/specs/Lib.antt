@@ -8,6 +8,7 @@ pub mod OpeningOf
 pub mod Payload
 pub mod InMemory
 pub mod InMemoryTaking
+pub mod Padding
 pub mod Taking
 pub mod Lengths
 pub mod Framing

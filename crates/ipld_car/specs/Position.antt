@@ -17,6 +17,7 @@ pub record Moves {R : Type 0} (old new : CarReader R) (count : ℕ) : Type 0 whe
   pub limit : new.limit ≡ old.limit
   pub version : new.version ≡ old.version
   pub roots : new.roots ≡ old.roots
+  pub zero_padding : new.zero_padding ≡ old.zero_padding
 
 -- True if the part before the sections was taken, and the reader is after it and has this limit
 -- (CARv1, "Header"; CARv2).

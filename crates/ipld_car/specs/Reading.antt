@@ -1,5 +1,5 @@
 -- The bytes that reading a section takes from a reader, and its results.
-use Rattle.std.specs.Prelude.{◌≡◌, ◌+◌, ◌≤◌, ◌<◌, ℕ, Bool, true, false, List, [], length, drop, Option, Result, Ok, Err}
+use Rattle.std.specs.Prelude.{◌≡◌, ◌+◌, ◌≤◌, ◌<◌, ◌⊎◌, ℕ, Bool, true, false, List, [], length, drop, Option, Result, Ok, Err}
 use Rattle.ipld_cid.specs.Bytes.{read_cid}
 use Rattle.ipld_cid.specs.Cid.{Link}
 use Rattle.ipld_cid.specs.declared.error.CidError.{CidError}
@@ -9,6 +9,7 @@ use Rattle.ipld_car.specs.declared.error.CarErrorKind.{CarErrorKind}
 use Rattle.ipld_car.specs.declared.error.CarErrorKind.TheVariants.{Cid, ShortPayload, UnexpectedEnd}
 use Rattle.ipld_car.specs.declared.version.CarVersion.{CarVersion}
 use Rattle.ipld_car.specs.declared.version.CarVersion.TheVariants.{V1, V2}
+use Rattle.ipld_car.specs.Padding.{IsPadded}
 use Rattle.ipld_car.specs.Taking.{Take, room_of, Ends, IsReaderError}
 use Rattle.ipld_car.specs.Fails.{Fails}
 use Rattle.ipld_car.specs.Framing.{IsFramed, IsCutShort, FramingFault, fault_place}
@@ -45,11 +46,11 @@ EndOf version size found _ = Unit {0}
 
 -- True if reading can have this result in a CAR of this version (CARv2, "Data payload"). In version
 -- 2 the sections end only if all `size` bytes of the payload were read, so that `found` equals
--- `size`. If the file ends before, the error has both numbers.
-abbrev pub EndsOf : CarVersion → (size found : ℕ) → Result Bool CarError → Type 0
-EndsOf V2 size found (Ok false) = found ≡ size
-EndsOf version size found (Ok has) = Unit {0}
-EndsOf version size found (Err error) = EndOf version size found error.kind
+-- `size`, or if zeros that are allowed follow. If the file ends before, the error has both numbers.
+abbrev pub EndsOf : CarVersion → (size found : ℕ) → (is_padded : Type 0) → Result Bool CarError → Type 0
+EndsOf V2 size found is_padded (Ok false) = (found ≡ size) ⊎ is_padded
+EndsOf version size found is_padded (Ok has) = Unit {0}
+EndsOf version size found is_padded (Err error) = EndOf version size found error.kind
 
 -- the block that remains if no section was read: the CID of the last one, and no bytes
 abbrev pub emptied : Block → Block
@@ -81,12 +82,14 @@ TakesSection take block (Err error) =
     Fails take.begin (TakingFault take.limit (room_of take) take.before take.after take.taken) error
 
 -- True if the result of reading a section fits the bytes taken: `IsSection` of the block within the
--- limits, nothing at the end, or the error with its place (CARv1, "Data").
-abbrev pub ReadsSection : Take → Block → Result Bool CarError → Type 0
-ReadsSection take block (Ok true) =
+-- limits, nothing at the end or before zeros that are allowed, or the error with its place (CARv1,
+-- "Data").
+abbrev pub ReadsSection : (padding : Bool) → Take → Block → Result Bool CarError → Type 0
+ReadsSection padding take block (Ok true) =
     IsSection take.taken block × (length (content_of block) ≤ take.limit) × (length take.taken ≤ room_of take)
-ReadsSection take block (Ok false) = (take.taken ≡ []) × Ends (room_of take) take.before take.after []
-ReadsSection take block (Err error) =
+ReadsSection padding take block (Ok false) =
+    (take.taken ≡ []) × (Ends (room_of take) take.before take.after [] ⊎ IsPadded padding take.before take.after)
+ReadsSection padding take block (Err error) =
     Fails take.begin (SectionFault take.limit (room_of take) take.before take.after take.taken) error
 
 -- True if `P` is true of the returned value, or if an allocation or the reader failed.

@@ -1,9 +1,23 @@
 //! Bytes of a reader, appended to those that were taken before.
 
-ghost use Rattle.ipld_car.specs.Taking.{TakesSome, Fills};
+ghost use Rattle.std.specs.Prelude.{◌≡◌, MatchOption};
+ghost use Rattle.std.specs.IoError.{error_kind};
+ghost use Rattle.std.specs.declared.io.ErrorKind.TheVariants.{Interrupted};
+ghost use Rattle.ipld_car.specs.Taking.{TakesSome, Fills, IsReaderError};
 
 use crate::error::CarErrorKind;
 use std::io::{BufRead, Error, ErrorKind};
+
+// Returns the error of a reader, or `None` if it was interrupted, so that the read is tried again.
+pub(crate) fn reader_error(error: Error) -> Option<CarErrorKind>
+    ensures { MatchOption result (error_kind error ≡ Interrupted) IsReaderError }
+{
+    match error.kind() {
+        ErrorKind::Interrupted => None,
+        ErrorKind::OutOfMemory => Some(CarErrorKind::Memory),
+        _ => Some(CarErrorKind::Read(error)),
+    }
+}
 
 // Takes at most `most` bytes of those that the reader has buffered. Returns how many, or `None` at
 // the reader's end. An interrupted read takes 0 bytes.
@@ -29,10 +43,9 @@ fn take_buffered<R: BufRead>(
             count
         }
         Err(error) => {
-            return match error.kind() {
-                ErrorKind::Interrupted => Ok(Some(0)),
-                ErrorKind::OutOfMemory => Err(CarErrorKind::Memory),
-                _ => Err(CarErrorKind::Read(error)),
+            return match reader_error(error) {
+                Some(kind) => Err(kind),
+                None => Ok(Some(0)),
             };
         }
     };

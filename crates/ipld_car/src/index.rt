@@ -2,7 +2,9 @@
 //! to be written: its entries by the hash function and by the length of the digest.
 
 ghost use Rattle.std.specs.Prelude.{◌≡◌, ◌<◌, ◌∷◌, ◌++◌, [], length, IfOk, OnOk};
+ghost use Rattle.std.specs.List.{All};
 ghost use Rattle.std.specs.List.Sorted.{IsPermutation};
+ghost use Rattle.ipld_car.specs.IndexLayout.{IsOf};
 ghost use Rattle.ipld_car.specs.IndexGrouping.{entries_in, entries_of_hash, AreGrouped, AreGroupedHash, IsSplit, IsSplitHash, indexed};
 ghost use Rattle.ipld_car.specs.IndexOrder.{AreSorted};
 
@@ -49,7 +51,8 @@ impl CarIndex {
     /// digest does not identify a block, and readers of indexes reject it. An empty digest is that
     /// of an empty block under the identity hash.
     ///
-    /// It allocates for all entries. Returns `AllocError` if an allocation fails.
+    /// It sorts the entries where they are, and allocates for another copy of them only if they have
+    /// several hash functions or lengths of digests. Returns `AllocError` if an allocation fails.
     pub fn new(alloc: Global, entries: Vec<IndexEntry>) -> Result<CarIndex, AllocError>
         ensures same { IfOk result (λ index.
             IsPermutation (indexed entries.items) (entries_in index)) }
@@ -59,11 +62,54 @@ impl CarIndex {
     {
         let mut entries = entries;
         entries.retain(|entry| entry.hash.size() > 0);
-        entries.sort()?;
+        entries.sort_unstable();
+        if let Some(first) = entries.first() {
+            let code = first.hash.code();
+            let digest_len = first.hash.digest().len() as u8;
+            let is_one_bucket = entries.iter().all(|entry| {
+                entry.hash.code() == code && entry.hash.digest().len() == usize::from(digest_len)
+            });
+            if is_one_bucket {
+                return CarIndex::of_bucket(alloc, code, digest_len, entries);
+            }
+        }
+        CarIndex::of_entries(alloc, &entries)
+    }
+
+    // Creates the index of entries with one hash function and one length of digests. The entries
+    // stay where they are.
+    fn of_bucket(
+        alloc: Global,
+        code: u64,
+        digest_len: u8,
+        entries: Vec<IndexEntry>,
+    ) -> Result<CarIndex, AllocError>
+        requires own { All (IsOf code digest_len) entries.items }
+        requires some { 0 < length entries.items }
+        ensures same { IfOk result (λ index. entries_in index ≡ entries.items) }
+        ensures grouped { IfOk result AreGrouped }
+        ensures split { IfOk result IsSplit }
+    {
+        let mut buckets = Vec::new(alloc);
+        buckets.push(Bucket {
+            digest_len,
+            entries,
+        })?;
+        let mut hashes = Vec::new(alloc);
+        hashes.push(HashBuckets { code, buckets })?;
+        Ok(CarIndex { hashes })
+    }
+
+    // Creates the index that has a copy of these entries, in their order.
+    fn of_entries(alloc: Global, entries: &[IndexEntry]) -> Result<CarIndex, AllocError>
+        ensures same { IfOk result (λ index. entries_in index ≡ entries.now) }
+        ensures grouped { IfOk result AreGrouped }
+        ensures split { IfOk result IsSplit }
+    {
         let mut index = CarIndex {
             hashes: Vec::new(alloc),
         };
-        for entry in entries.iter() {
+        for entry in entries {
             index.push(alloc, entry)?;
         }
         Ok(index)

@@ -49,6 +49,7 @@ mod header;
 mod index;
 mod length;
 mod opening;
+mod padding;
 mod payload;
 mod read_section;
 mod reader;

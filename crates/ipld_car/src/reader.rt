@@ -4,8 +4,9 @@ ghost use Rattle.std.specs.Prelude.{◌≡◌, ◌≤◌};
 
 use crate::error::CarError;
 use crate::opening::read_opening;
+use crate::padding::is_next_zero;
 use crate::payload::within_payload;
-use crate::read_section::read_section_at;
+use crate::read_section::{read_section_at, section_error};
 use crate::section::Section;
 use crate::version::CarVersion;
 use ipld_cid::Cid;
@@ -27,16 +28,19 @@ pub struct CarReader<R> {
     start: u64,
     offset: u64,
     end: u64,
+    // Whether zeros may follow the last section.
+    zero_padding: bool,
     ghost behind_start: { start ≤ offset },
     ghost in_range: { offset ≤ end },
 }
 
 impl<R: BufRead> CarReader<R> {
-    ghost use Rattle.std.specs.Prelude.{◌+◌, ◌-◌, ◌<◌, ◌^◌, ◌++◌, [], List, ℕ, Some, true, length, map, min, MatchResult};
+    ghost use Rattle.std.specs.Prelude.{◌+◌, ◌-◌, ◌<◌, ◌^◌, ◌++◌, [], ◌∷◌, List, ℕ, Some, true, false, length, map, min, IfOk, MatchResult};
     ghost use Rattle.std.specs.Io.KnownBytes.{Consumes};
     ghost use Rattle.ipld_cid.specs.Cid.{Link};
     ghost use Rattle.ipld_cid.specs.LinkOf.{link_of};
     ghost use Rattle.ipld_car.specs.Opening.{IsFront};
+    ghost use Rattle.ipld_car.specs.Padding.{IsPadded};
     ghost use Rattle.ipld_car.specs.Reading.{ReadsSection, EndsOf, Leaves, UnlessReaderFails};
     ghost use Rattle.ipld_car.specs.Section.{Block, IsSection, content_of};
     ghost use Rattle.ipld_car.specs.SectionOf.{taken_of, block_of};
@@ -66,6 +70,7 @@ impl<R: BufRead> CarReader<R> {
             → length bytes ≤ end → end < 2 ^ 64
             → UnlessReaderFails result (λ car.
             HasOpened car version roots start (length bytes) end) }
+        ensures strict { IfOk result (λ car. car.zero_padding ≡ false) }
     {
         let mut reader = reader;
         match read_opening(alloc, &mut reader, limit) {
@@ -77,6 +82,7 @@ impl<R: BufRead> CarReader<R> {
                 start: opening.start,
                 offset: opening.offset,
                 end: opening.end,
+                zero_padding: false,
             }),
             Err(error) => Err(error),
         }
@@ -101,6 +107,7 @@ impl<R: BufRead> CarReader<R> {
         ensures opens { HasOpened result
             (version_ending end) [] (min start offset) offset (end_from offset end) }
         ensures reads { (result.reader ≡ reader) × (result.limit ≡ limit) }
+        ensures strict { result.zero_padding ≡ false }
     {
         let (version, end) = match end {
             None => (CarVersion::V1, u64::MAX),
@@ -114,6 +121,7 @@ impl<R: BufRead> CarReader<R> {
             start: start.min(offset),
             offset,
             end,
+            zero_padding: false,
         }
     }
 
@@ -162,27 +170,31 @@ impl<R: BufRead> CarReader<R> {
         self.offset
     }
 
-    /// Reads the next section into `section`, whose old contents it replaces. Returns whether there
-    /// was one.
-    ///
-    /// In version 1 the sections end with the file. In version 2 they end with the payload, whose
-    /// end its header states. After the last section, `section` has an empty block, and keeps its
-    /// CID.
-    ///
-    /// It takes the bytes of the section and no more. It allocates only if the section is longer
-    /// than every section that was read into `section` before, and then while the bytes arrive.
-    ///
-    /// # Errors
-    ///
-    /// Those of a section in [`CarErrorKind`](crate::CarErrorKind), with the offset of the section
-    /// and the offset of the error. The bytes up to and including the invalid part were then taken,
-    /// and none after it. If the CID is invalid, the whole section was taken. `section` then has an
-    /// empty block, and keeps its CID.
-    pub fn read_section(&mut self, section: &mut Section) -> Result<bool, CarError>
+    /// Allows zeros after the last section, as in files that are padded to a certain size. The
+    /// sections then end before a section whose length is 0, which is an error otherwise. The zeros
+    /// are left in the reader, and bytes after them are not looked at.
+    pub fn allow_zero_padding(&mut self)
+        ensures allowed { self.new.zero_padding ≡ true }
+        ensures kept { HasOpened self.new self.old.version (map link_of self.old.roots.items)
+            self.old.start self.old.offset self.old.end }
+        ensures reads { (self.new.reader ≡ self.old.reader) × (self.new.limit ≡ self.old.limit) }
+    {
+        self.zero_padding = true;
+    }
+
+    /// Returns the reader of the file, which has the bytes from [`offset`](CarReader::offset) on.
+    pub fn into_inner(self) -> R
+        ensures { result ≡ self.reader }
+    {
+        self.reader
+    }
+
+    // Reads the next section, in which zeros are not allowed.
+    fn read_unpadded(&mut self, section: &mut Section) -> Result<bool, CarError>
         ensures consumed { Consumes (R.remaining self.old.reader) (R.remaining self.new.reader)
             (taken_of section.new) }
         ensures moves { Moves self.old self.new (length (taken_of section.new)) }
-        ensures read { ReadsSection
+        ensures read { ReadsSection false
             (record {
               limit = self.old.limit;
               begin = self.old.offset;
@@ -193,7 +205,8 @@ impl<R: BufRead> CarReader<R> {
             })
             (block_of section.new) result }
         ensures ends { EndsOf self.old.version (self.old.end - self.old.start)
-            (self.new.offset - self.old.start) result }
+            (self.new.offset - self.old.start)
+            (IsPadded false (R.remaining self.old.reader) (R.remaining self.new.reader)) result }
         ensures left { Leaves (block_of section.old) (block_of section.new) result }
         ensures only { (block : Block) (bytes rest : List ℕ)
             → R.remaining self.old.reader ≡ Some (bytes ++ rest)
@@ -214,5 +227,69 @@ impl<R: BufRead> CarReader<R> {
                 self.offset,
             ),
         }
+    }
+
+    /// Reads the next section into `section`, whose old contents it replaces. Returns whether there
+    /// was one.
+    ///
+    /// In version 1 the sections end with the file. In version 2 they end with the payload, whose
+    /// end its header states. They also end before zeros, if
+    /// [`allow_zero_padding`](CarReader::allow_zero_padding) was called. After the last section,
+    /// `section` has an empty block, and keeps its CID.
+    ///
+    /// It takes the bytes of the section and no more. It allocates only if the section is longer
+    /// than every section that was read into `section` before, and then while the bytes arrive.
+    ///
+    /// # Errors
+    ///
+    /// Those of a section in [`CarErrorKind`](crate::CarErrorKind), with the offset of the section
+    /// and the offset of the error. The bytes up to and including the invalid part were then taken,
+    /// and none after it. If the CID is invalid, the whole section was taken. `section` then has an
+    /// empty block, and keeps its CID.
+    pub fn read_section(&mut self, section: &mut Section) -> Result<bool, CarError>
+        ensures consumed { Consumes (R.remaining self.old.reader) (R.remaining self.new.reader)
+            (taken_of section.new) }
+        ensures moves { Moves self.old self.new (length (taken_of section.new)) }
+        ensures read { ReadsSection self.old.zero_padding
+            (record {
+              limit = self.old.limit;
+              begin = self.old.offset;
+              end = self.old.end;
+              before = R.remaining self.old.reader;
+              after = R.remaining self.new.reader;
+              taken = taken_of section.new;
+            })
+            (block_of section.new) result }
+        ensures ends { EndsOf self.old.version (self.old.end - self.old.start)
+            (self.new.offset - self.old.start)
+            (IsPadded self.old.zero_padding (R.remaining self.old.reader)
+            (R.remaining self.new.reader)) result }
+        ensures left { Leaves (block_of section.old) (block_of section.new) result }
+        ensures only { (block : Block) (bytes rest : List ℕ)
+            → R.remaining self.old.reader ≡ Some (bytes ++ rest)
+            → IsSection bytes block
+            → length (content_of block) ≤ self.old.limit
+            → length bytes ≤ self.old.end - self.old.offset
+            → UnlessReaderFails result (λ has. (has ≡ true) × (block_of section.new ≡ block)) }
+        ensures padded { (rest : List ℕ)
+            → R.remaining self.old.reader ≡ Some (0 ∷ rest)
+            → self.old.zero_padding ≡ true
+            → self.old.offset < self.old.end
+            → UnlessReaderFails result (λ has. has ≡ false) }
+    {
+        if self.zero_padding && self.offset < self.end {
+            match is_next_zero(&mut self.reader) {
+                Ok(false) => {}
+                Ok(true) => {
+                    section.clear();
+                    return Ok(false);
+                }
+                Err(kind) => {
+                    section.clear();
+                    return Err(section_error(kind, self.offset, 0));
+                }
+            }
+        }
+        self.read_unpadded(section)
     }
 }

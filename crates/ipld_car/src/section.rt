@@ -21,6 +21,7 @@ impl Section {
     ghost use Rattle.ipld_cid.specs.LinkOf.{link_of};
     ghost use Rattle.ipld_car.specs.Section.{no_block};
     ghost use Rattle.ipld_car.specs.SectionOf.{block_of, taken_of};
+    ghost use Rattle.ipld_car.specs.Reading.{emptied};
 
     /// Creates an empty block with its CID: version 1, the codec [`RAW`], and the [`IDENTITY`] hash
     /// of no bytes. Does not allocate.
@@ -52,6 +53,16 @@ impl Section {
         ensures { result.now ≡ (block_of self.now).bytes }
     {
         &self.bytes[self.data_start..]
+    }
+
+    // Removes the bytes of the block. The CID stays.
+    #[inline(always)]
+    pub(crate) fn clear(&mut self)
+        ensures taken { taken_of self.new ≡ [] }
+        ensures left { block_of self.new ≡ emptied (block_of self.old) }
+    {
+        self.data_start = 0;
+        self.bytes.clear();
     }
 
     // The number of bytes that the last read took.

@@ -1,1 +1,2 @@
 pub mod NewCars
+pub mod Salvaged

@@ -74,7 +74,7 @@ puts_none h u state = record {
   rows = rows_none h state.rows state.end;
 }
 
-puts_more : (h u : Bool) (cs ds : List Link) (old mid new : Sink) → Puts h u cs old mid → Puts h u ds mid new → Puts h u (cs ++ ds) old new
+pub puts_more : (h u : Bool) (cs ds : List Link) (old mid new : Sink) → Puts h u cs old mid → Puts h u ds mid new → Puts h u (cs ++ ds) old new
 puts_more h u cs ds old mid new p q = record {
   blocks = p.blocks ++ q.blocks;
   sections = p.sections ++ q.sections;
@@ -86,7 +86,7 @@ puts_more h u cs ds old mid new p q = record {
   rows = q.rows ∙ ap₂ (λ (es : List IndexEntry) (n : ℕ). rows_after h es n q.blocks) p.rows p.end ∙ rows_all h old.rows old.end p.blocks q.blocks;
 }
 
-puts_anyway : (h u : Bool) (cs : List Link) (old new : Sink) → Puts h false cs old new → Puts h u cs old new
+pub puts_anyway : (h u : Bool) (cs : List Link) (old new : Sink) → Puts h false cs old new → Puts h u cs old new
 puts_anyway h u cs old new p = record {
   blocks = p.blocks;
   sections = p.sections;

@@ -2,6 +2,7 @@
 use Rattle.std.specs.Prelude.{◌≡◌, ℕ, zero, suc, ◌+◌, ◌-◌, Bool, false, not, ◌&&◌, if◌then◌else◌, List, [], ◌∷◌, ◌++◌, length, map, slice_get, Option, Some, None, option_and_then, option_to_list}
 use Rattle.std.specs.List.Sorted.{IsPermutation}
 use Rattle.std.specs.Io.KnownBytes.{Appends}
+use Rattle.ipld_cid.specs.Bytes.{bytes_of}
 use Rattle.ipld_cid.specs.Cid.{Link, hash_of}
 use Rattle.ipld_cid.specs.LinkOf.{link_of}
 use Rattle.ipld_cid.specs.declared.cid.CidGeneric.{CidGeneric}
@@ -21,11 +22,16 @@ use Rattle.ipld_cli.specs.declared.checked_block.CheckedBlock.{CheckedBlock}
 use Rattle.ipld_cli.specs.declared.collected_blocks.CollectedBlocks.{CollectedBlocks}
 use Rattle.ipld_cli.specs.declared.collected_blocks.Known.{Known}
 use Rattle.ipld_cli.specs.declared.collected_blocks.Place.{Place}
+use Rattle.ipld_cli.specs.declared.new_car.NewBlock.{NewBlock}
 use Rattle.ipld_cli.specs.declared.new_car.NewCar.{NewCar}
 
 -- the model of a block that is to be written: its CID and its bytes
 abbrev pub block_of : CheckedBlock → Block
 block_of b = record { cid = link_of b.cid.now; bytes = b.bytes.now }
+
+-- the number of bytes after the length in the section of a block that is to be written
+abbrev pub content_len : NewBlock → ℕ
+content_len block = length (bytes_of (link_of block.cid)) + block.len
 
 -- True if the block has the digest of its CID, or blocks are taken unchecked.
 abbrev pub IsTaken : Bool → Block → Type 0

@@ -1,6 +1,7 @@
 //! The blocks of a CAR by their CIDs, wherever they are in the file.
 
 use crate::bytes::{Bytes, BytesAt};
+use crate::car_options::CarOptions;
 use crate::complaints::{complain, report_car_error};
 use crate::files::{is_file, read_file};
 use crate::input::BUFFER;
@@ -37,7 +38,7 @@ pub struct Blocks<'a> {
     rt: &'a HostRuntime,
     file: &'a str,
     bytes: Bytes,
-    limit: u64,
+    options: CarOptions,
     roots: Vec<Cid>,
     payload: PayloadPlace,
     // The index, until one of its entries turns out to be wrong.
@@ -113,7 +114,7 @@ pub enum Opened<'a> {
 pub fn open_blocks<'a>(
     rt: &'a HostRuntime,
     file: &'a str,
-    limit: u64,
+    options: CarOptions,
     may_be_car: bool,
 ) -> io::Result<Opened<'a>> {
     if !may_be_car {
@@ -123,7 +124,7 @@ pub fn open_blocks<'a>(
         Ok(bytes) => bytes,
         Err(error) => return Err(error),
     };
-    match blocks_of(rt, file, bytes, limit) {
+    match blocks_of(rt, file, bytes, options) {
         Ok(blocks) => Ok(Opened::Car(blocks)),
         Err(NoBlocks::NoCar(Bytes::Memory(bytes))) => Ok(Opened::Block(bytes)),
         Err(NoBlocks::NoCar(Bytes::File(_))) => open_as_block(rt, file),
@@ -150,12 +151,16 @@ pub fn bytes_of(rt: &HostRuntime, file: &str) -> io::Result<Bytes> {
 
 /// Returns the blocks of a file if it is a CAR with an index that can be read. Returns `None` for
 /// any other file, and if the file can't be read.
-pub fn open_indexed<'a>(rt: &'a HostRuntime, file: &'a str, limit: u64) -> Option<Blocks<'a>> {
+pub fn open_indexed<'a>(
+    rt: &'a HostRuntime,
+    file: &'a str,
+    options: CarOptions,
+) -> Option<Blocks<'a>> {
     if file == "-" || !is_file(rt, file) {
         return None;
     }
     let bytes = Bytes::File(fs::open(rt, file).ok()?);
-    let blocks = blocks_of(rt, file, bytes, limit).ok()?;
+    let blocks = blocks_of(rt, file, bytes, options).ok()?;
     if blocks.index.is_some() {
         Some(blocks)
     } else {
@@ -239,9 +244,9 @@ fn blocks_of<'a>(
     rt: &'a HostRuntime,
     file: &'a str,
     bytes: Bytes,
-    limit: u64,
+    options: CarOptions,
 ) -> Result<Blocks<'a>, NoBlocks> {
-    let front = match read_front(rt, &bytes, limit) {
+    let front = match read_front(rt, &bytes, options.limit) {
         Ok(Some(front)) => front,
         Ok(None) => return Err(NoBlocks::NoCar(bytes)),
         Err(error) => return Err(NoBlocks::Failed(error)),
@@ -258,7 +263,7 @@ fn blocks_of<'a>(
         rt,
         file,
         bytes,
-        limit,
+        options,
         roots: front.roots,
         payload: front.payload,
         index: None,
@@ -283,12 +288,13 @@ pub fn sections_at<'a>(
     bytes: &'a Bytes,
     payload: PayloadPlace,
     offset: u64,
-    limit: u64,
+    options: CarOptions,
 ) -> io::Result<Sections<'a>> {
     let reader = BytesAt::new(bytes, offset, u64::MAX);
     let reader = BufReader::with_capacity(rt.alloc(), BUFFER, reader)?;
     let PayloadPlace { start, end } = payload;
-    Ok(CarReader::at_section(rt.alloc(), reader, limit, start, end, offset))
+    let car = CarReader::at_section(rt.alloc(), reader, options.limit, start, end, offset);
+    Ok(options.apply(car))
 }
 
 impl<'a> Blocks<'a> {
@@ -389,7 +395,7 @@ impl<'a> Blocks<'a> {
     // Reads the block whose section begins at this byte of the file.
     fn section_at(&self, offset: u64) -> Result<Option<Section>, CarFileError> {
         let (rt, bytes) = (self.rt, &self.bytes);
-        let mut sections = sections_at(rt, bytes, self.payload, offset, self.limit)?;
+        let mut sections = sections_at(rt, bytes, self.payload, offset, self.options)?;
         let mut section = Section::new(rt.alloc());
         match sections.read_section(&mut section) {
             Ok(true) => Ok(Some(section)),
@@ -401,7 +407,7 @@ impl<'a> Blocks<'a> {
     // Reads on to the block of this CID.
     fn read_on(&mut self, cid: &Cid) -> Result<Option<Section>, CarFileError> {
         let (rt, bytes) = (self.rt, &self.bytes);
-        let sections = sections_at(rt, bytes, self.payload, self.passed.end, self.limit)?;
+        let sections = sections_at(rt, bytes, self.payload, self.passed.end, self.options)?;
         self.passed.read_on(rt.alloc(), sections, cid)
     }
 }

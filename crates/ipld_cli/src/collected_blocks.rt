@@ -7,6 +7,7 @@ ghost use Rattle.ipld_cli.specs.NewCar.{kept_cid, kept_cids, state_of, Puts};
 
 use crate::blocks::{PayloadPlace, bytes_of, sections_at};
 use crate::bytes::Bytes;
+use crate::car_options::CarOptions;
 use crate::car_sink::CarSink;
 use crate::checked_block::CheckedBlock;
 use crate::complaints::{
@@ -79,9 +80,8 @@ impl<'a> Source<'a> {
 /// The options for blocks that are collected.
 #[derive(Clone, Copy, Debug, PartialEq, Eq)]
 pub struct CollectOptions {
-    /// The most bytes that a section has after its length, in CARs that are read and for the blocks
-    /// of files.
-    pub limit: u64,
+    /// The options for reading CARs. Their limit on sections is also one on the blocks of files.
+    pub car: CarOptions,
     /// Whether the blocks of CARs are taken as they are.
     pub is_unchecked: bool,
     /// Whether the CIDs of files of DAG-PB are of version 0.
@@ -344,7 +344,7 @@ impl<'a> CollectedBlocks<'a> {
             cid,
             len: bytes.len() as u64,
         };
-        if block.content_len() > self.options.limit {
+        if block.content_len() > self.options.car.limit {
             return Err(report_too_long(rt, file, block.content_len()));
         }
         match self.add_block(&cid, &bytes, 0, false) {
@@ -369,7 +369,7 @@ impl<'a> CollectedBlocks<'a> {
     fn add_car_file(&mut self, file: &'a str) -> Result<(Option<Bytes>, PayloadPlace), Outcome> {
         let rt = self.rt;
         if file != "-" && is_file(rt, file) {
-            let opened = match open_car(rt, file, self.options.limit, shows_progress(rt)) {
+            let opened = match open_car(rt, file, self.options.car, shows_progress(rt)) {
                 Ok(opened) => opened,
                 Err(outcome) => return Err(outcome),
             };
@@ -379,7 +379,7 @@ impl<'a> CollectedBlocks<'a> {
             Ok(spool) => Bytes::File(spool),
             Err(error) => return Err(report_unreadable(rt, file, &error)),
         };
-        let payload = match open_car_bytes(rt, file, &bytes, self.options.limit) {
+        let payload = match open_car_bytes(rt, file, &bytes, self.options.car) {
             Ok(car) => self.add_car(file, car)?,
             Err(outcome) => return Err(outcome),
         };
@@ -407,7 +407,12 @@ impl<'a> CollectedBlocks<'a> {
             let offset = car.offset();
             match car.read_section(&mut section) {
                 Ok(true) => {}
-                Ok(false) => return Ok(payload),
+                Ok(false) => {
+                    return match self.options.car.check_padding(rt, file, car) {
+                        Outcome::Done => Ok(payload),
+                        outcome => Err(outcome),
+                    };
+                }
                 Err(error) => return Err(report_car_error(rt, file, &CarFileError::from(error))),
             }
             match self.add_section(&section, offset) {
@@ -629,11 +634,11 @@ impl<'a, 'b> BlockRange<'a, 'b> {
             (state_of W.contents sink.old) (state_of W.contents sink.new)) }
         ensures index { sink.new.has_index ≡ sink.old.has_index }
     {
-        let (rt, limit) = (self.collected.rt, self.collected.options.limit);
+        let (rt, options) = (self.collected.rt, self.collected.options.car);
         let (Some(first), Some(payload)) = (self.collected.blocks.get(begin), input.payload) else {
             return Err(OutputError::Changed);
         };
-        let mut sections = sections_at(rt, bytes, payload, first.offset, limit)?;
+        let mut sections = sections_at(rt, bytes, payload, first.offset, options)?;
         let mut section = Section::new(rt.alloc());
         let mut number = begin;
         for _ in 0..MOST_SECTIONS {

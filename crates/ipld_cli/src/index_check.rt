@@ -1,19 +1,16 @@
 //! The check of a CAR's index: whether it has the place of every block.
 
 use crate::blocks::{header_of, index_at};
-use crate::bytes::{Bytes, BytesAt};
+use crate::bytes::Bytes;
 use crate::complaints::{report, report_unreadable};
 use crate::files::is_file;
-use crate::input::BUFFER;
 use crate::messages::Outcome;
-use crate::payload::{IndexedSection, sections_of};
-use car_files::{CarFileError, VerdictForm};
+use car_files::{CarFileError, SectionPlace, VerdictForm};
 use ipld_block::write_cid;
-use ipld_car::{CarHeader, CarReader, IndexEntry, IndexError, IndexFormat};
+use ipld_car::{CarHeader, IndexEntry, IndexError, IndexFormat, StoredIndex};
 use ipld_cid::{Cid, IDENTITY};
-use std::cmp::Ordering;
 use std::fs;
-use std::io::{BufReader, Write};
+use std::io::Write;
 
 // An error in an index.
 #[derive(Clone, Copy)]
@@ -68,62 +65,54 @@ fn write_fault<W: Write>(
     Ok(())
 }
 
-// Returns the sections of a file's payload, in the order of an index of this format.
-fn sorted_sections(
-    rt: &HostRuntime,
-    bytes: &Bytes,
-    limit: u64,
-    format: IndexFormat,
-) -> Result<Vec<IndexedSection>, CarFileError> {
-    let reader = BytesAt::new(bytes, 0, u64::MAX);
-    let reader = BufReader::with_capacity(rt.alloc(), BUFFER, reader)?;
-    let mut car = match CarReader::new(rt.alloc(), reader, limit) {
-        Ok(car) => car,
-        Err(error) => return Err(CarFileError::from(error)),
-    };
-    let mut sections = sections_of(rt.alloc(), &mut car)?;
-    for it in sections.iter_mut() {
-        it.entry.hash = format.stored_hash(&it.entry.hash);
+// Returns the entry of a section in an index of this format, if the payload begins at `start`.
+fn entry_of(place: &SectionPlace, format: IndexFormat, start: u64) -> IndexEntry {
+    IndexEntry {
+        hash: format.stored_hash(place.cid.hash()),
+        offset: place.offset.saturating_sub(start),
     }
-    sections.sort_by_key(|it| it.entry)?;
-    Ok(sections)
 }
 
-// Compares an index with the sections of the payload, and writes the errors.
+// Compares an index with the sections of the payload, and writes the errors. The places are in the
+// order of the index.
 fn compare<W: Write>(
     rt: &HostRuntime,
     form: VerdictForm,
     header: &CarHeader,
-    entries: &[IndexEntry],
-    sections: &[IndexedSection],
+    index: &StoredIndex,
+    places: &[SectionPlace],
     writer: &mut W,
 ) -> Result<Outcome, CarFileError> {
+    let (format, start) = (index.format, header.payload);
     let mut outcome = Outcome::Done;
-    for it in sections {
+    for place in places {
         // CIDs that carry their block, or have an empty digest, may have no entry.
-        let hash = it.cid.hash();
+        let hash = place.cid.hash();
         let carries = hash.code() == IDENTITY || hash.size() == 0;
         let may_lack = carries && !header.is_fully_indexed;
-        let is_there = entries
-            .binary_search_by(|entry| entry.cmp(&it.entry))
+        let own = entry_of(place, format, start);
+        let is_there = index
+            .entries
+            .binary_search_by(|entry| entry.cmp(&own))
             .is_ok();
         if !is_there && !may_lack {
-            let at = header.payload.saturating_add(it.entry.offset);
-            write_fault(rt, form, &Fault::Lacks(it.cid, at), writer)?;
+            write_fault(rt, form, &Fault::Lacks(place.cid, place.offset), writer)?;
             outcome = Outcome::NotSo;
         }
     }
     let mut previous = None;
-    for entry in entries {
+    for entry in index.entries.iter() {
+        let at = start.saturating_add(entry.offset);
         if previous == Some(*entry) {
-            let at = header.payload.saturating_add(entry.offset);
             write_fault(rt, form, &Fault::Repeats(at), writer)?;
             outcome = Outcome::NotSo;
             continue;
         }
         previous = Some(*entry);
-        if sections.binary_search_by(|it| it.entry.cmp(entry)).is_err() {
-            let at = header.payload.saturating_add(entry.offset);
+        let is_there = places
+            .binary_search_by(|place| entry_of(place, format, start).cmp(entry))
+            .is_ok();
+        if !is_there {
             write_fault(rt, form, &Fault::LeadsNowhere(at), writer)?;
             outcome = Outcome::NotSo;
         }
@@ -141,32 +130,55 @@ fn report_index_error(rt: &HostRuntime, file: &str, at: u64, error: &IndexError)
     report(rt, file, &why, outcome)
 }
 
-/// Writes the errors in the index of a CAR of version 2, if the file has one. These are each block
-/// without an entry, each entry that leads to no block with its digest, and each entry that the
-/// index has already. The index of standard input or of a pipe is not checked.
-pub fn check_index<W: Write>(
-    rt: &HostRuntime,
-    file: &str,
-    limit: u64,
-    form: VerdictForm,
-    writer: &mut W,
-) -> Result<Outcome, CarFileError> {
-    if file == "-" || !is_file(rt, file) {
-        return Ok(Outcome::Done);
+/// The index of a CAR of version 2, which is not read yet.
+#[derive(Drop)]
+pub struct UncheckedIndex<'a> {
+    file: &'a str,
+    bytes: Bytes,
+    header: CarHeader,
+}
+
+impl<'a> UncheckedIndex<'a> {
+    /// Finds the index of a file, or returns `None` if the file has none. The index of standard
+    /// input or of a pipe is not found. Reports the error if the file can't be read.
+    pub fn of_file(rt: &HostRuntime, file: &'a str) -> Result<Option<UncheckedIndex<'a>>, Outcome> {
+        if file == "-" || !is_file(rt, file) {
+            return Ok(None);
+        }
+        let bytes = match fs::open(rt, file) {
+            Ok(opened) => Bytes::File(opened),
+            Err(error) => return Err(report_unreadable(rt, file, &error)),
+        };
+        match header_of(&bytes) {
+            Ok(Some(header)) if header.index > 0 => Ok(Some(UncheckedIndex {
+                file,
+                bytes,
+                header,
+            })),
+            Ok(_) => Ok(None),
+            Err(error) => Err(report_unreadable(rt, file, &error)),
+        }
     }
-    let bytes = match fs::open(rt, file) {
-        Ok(opened) => Bytes::File(opened),
-        Err(error) => return Ok(report_unreadable(rt, file, &error)),
-    };
-    let header = match header_of(&bytes) {
-        Ok(Some(header)) if header.index > 0 => header,
-        Ok(_) => return Ok(Outcome::Done),
-        Err(error) => return Ok(report_unreadable(rt, file, &error)),
-    };
-    let index = match index_at(rt, &bytes, &header) {
-        Ok(index) => index,
-        Err(error) => return Ok(report_index_error(rt, file, header.index, &error)),
-    };
-    let sections = sorted_sections(rt, &bytes, limit, index.format)?;
-    compare(rt, form, &header, &index.entries, &sections, writer)
+
+    /// Reads the index, and writes the errors in it: each block without an entry, each entry that
+    /// leads to no block with its digest, and each entry that the index has already. `places` has
+    /// the places of all sections. Reports the error if the index can't be read.
+    ///
+    /// It holds the entries of the index, and sorts the places where they are.
+    pub fn check<W: Write>(
+        &self,
+        rt: &HostRuntime,
+        form: VerdictForm,
+        places: Vec<SectionPlace>,
+        writer: &mut W,
+    ) -> Result<Outcome, CarFileError> {
+        let (mut places, header) = (places, &self.header);
+        let index = match index_at(rt, &self.bytes, header) {
+            Ok(index) => index,
+            Err(error) => return Ok(report_index_error(rt, self.file, header.index, &error)),
+        };
+        let (format, start) = (index.format, header.payload);
+        places.sort_unstable_by_key(|place| entry_of(place, format, start));
+        compare(rt, form, header, &index, &places, writer)
+    }
 }

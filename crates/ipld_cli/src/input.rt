@@ -1,6 +1,7 @@
 //! CAR files, and standard input, opened and read as far as needed.
 
 use crate::bytes::{Bytes, BytesAt};
+use crate::car_options::CarOptions;
 use crate::complaints::{report_opening_error, report_unreadable};
 use crate::messages::{Outcome, beginning_of};
 use crate::progress::{Progress, ProgressLine};
@@ -59,6 +60,8 @@ pub type Car<'a> = CarReader<BufReader<Progress<'a, Input>>>;
 pub struct OpenCar<'a> {
     /// The reader, after the header.
     pub car: Car<'a>,
+    file: &'a str,
+    options: CarOptions,
     shown: ProgressLine<'a>,
     is_shown: bool,
 }
@@ -70,6 +73,12 @@ impl<'a> OpenCar<'a> {
             self.shown.write_line(self.car.offset());
         }
     }
+
+    /// Reads what follows the last section, if zeros are allowed there. Reports the first byte that
+    /// is not 0.
+    pub fn check_padding(self, rt: &HostRuntime) -> Outcome {
+        self.options.check_padding(rt, self.file, self.car)
+    }
 }
 
 /// Opens a CAR in these bytes of a file. Reports the error if they can't be read or don't begin with
@@ -78,7 +87,7 @@ pub fn open_car_bytes<'a>(
     rt: &HostRuntime,
     file: &str,
     bytes: &'a Bytes,
-    limit: u64,
+    options: CarOptions,
 ) -> Result<CarReader<BufReader<BytesAt<'a>>>, Outcome> {
     let reader = BytesAt::new(bytes, 0, u64::MAX);
     let mut reader = match BufReader::with_capacity(rt.alloc(), BUFFER, reader) {
@@ -86,8 +95,8 @@ pub fn open_car_bytes<'a>(
         Err(error) => return Err(report_unreadable(rt, file, &error)),
     };
     let beginning = beginning_of(rt.alloc(), &mut reader);
-    match CarReader::new(rt.alloc(), reader, limit) {
-        Ok(car) => Ok(car),
+    match CarReader::new(rt.alloc(), reader, options.limit) {
+        Ok(car) => Ok(options.apply(car)),
         Err(error) => Err(report_opening_error(rt, file, &beginning, &error)),
     }
 }
@@ -97,13 +106,12 @@ pub fn shows_progress(rt: &HostRuntime) -> bool {
     rt.stderr().is_terminal()
 }
 
-/// Opens a CAR whose sections have at most `limit` bytes, and shows the progress of reading if
-/// `is_shown` is true. Reports the error if the file can't be read or doesn't begin with a CAR
-/// header.
+/// Opens a CAR, and shows the progress of reading if `is_shown` is true. Reports the error if the
+/// file can't be read or doesn't begin with a CAR header.
 pub fn open_car<'a>(
     rt: &'a HostRuntime,
     file: &'a str,
-    limit: u64,
+    options: CarOptions,
     is_shown: bool,
 ) -> Result<OpenCar<'a>, Outcome> {
     let input = match Input::open(rt, file) {
@@ -120,9 +128,11 @@ pub fn open_car<'a>(
         Err(error) => return Err(report_unreadable(rt, file, &error)),
     };
     let beginning = beginning_of(rt.alloc(), &mut reader);
-    match CarReader::new(rt.alloc(), reader, limit) {
+    match CarReader::new(rt.alloc(), reader, options.limit) {
         Ok(car) => Ok(OpenCar {
-            car,
+            car: options.apply(car),
+            file,
+            options,
             shown,
             is_shown,
         }),

@@ -20,6 +20,7 @@
 
 mod blocks;
 mod bytes;
+mod car_options;
 mod car_sink;
 mod checked_block;
 mod collected_blocks;
@@ -34,15 +35,16 @@ mod limits;
 mod messages;
 mod new_car;
 mod output;
-mod payload;
 mod per_word;
 mod progress;
 mod raw_cid;
+mod salvage;
 mod spool;
 mod summary;
 mod writer;
 
 pub use blocks::{Blocks, Opened, open_blocks, open_indexed};
+pub use car_options::CarOptions;
 pub use car_sink::CarSink;
 pub use checked_block::CheckedBlock;
 pub use collected_blocks::{BlockRange, CollectOptions, CollectedBlocks, Source};
@@ -53,7 +55,7 @@ pub use complaints::{
 };
 pub use files::{is_file, read_file};
 pub use hasher::hasher_of;
-pub use index_check::check_index;
+pub use index_check::UncheckedIndex;
 pub use indexed_copy::IndexedCopy;
 pub use input::{BUFFER, Car, OpenCar, open_car, shows_progress};
 pub use limits::MOST_SECTIONS;
@@ -68,5 +70,6 @@ pub use output::{
 };
 pub use per_word::{PerWord, reads_twice, run_over, run_to_end};
 pub use raw_cid::raw_cid_of_file;
+pub use salvage::{Salvage, SalvagedBlocks};
 pub use summary::Summary;
 pub use writer::{UntilClosed, end_writer};

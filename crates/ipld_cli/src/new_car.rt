@@ -1,10 +1,9 @@
 //! A CAR that is to be written.
 
 ghost use Rattle.std.specs.Prelude.{◌≡◌, ◌+◌, ◌<◌, ◌^◌, Bool, List, length, map, IfOk, OnOk};
-ghost use Rattle.ipld_cid.specs.Bytes.{bytes_of};
 ghost use Rattle.ipld_cid.specs.LinkOf.{link_of};
 ghost use Rattle.ipld_cid.specs.Cid.{Link};
-ghost use Rattle.ipld_cli.specs.NewCar.{IsHeaderLen, new_blocks, state_of, Puts, WritesNew, WritesNewIndexed, WritesPayload};
+ghost use Rattle.ipld_cli.specs.NewCar.{IsHeaderLen, content_len, new_blocks, state_of, Puts, WritesNew, WritesNewIndexed, WritesPayload};
 ghost use Rattle.ipld_cid.specs.Varint.{varint_of};
 
 use crate::car_sink::CarSink;
@@ -38,14 +37,16 @@ impl NewBlock {
     /// Returns the number of bytes after the length in the block's section. Returns 2^64 - 1 if
     /// that is more.
     pub fn content_len(&self) -> u64
-        ensures { length (bytes_of (link_of self.now.cid)) + self.now.len < 2 ^ 64
-            → result ≡ length (bytes_of (link_of self.now.cid)) + self.now.len }
+        ensures { content_len self.now < 2 ^ 64 → result ≡ content_len self.now }
     {
         (self.cid.encoded_len() as u64).saturating_add(self.len)
     }
 
-    /// Returns the number of bytes of the block's section.
-    pub fn section_len(&self) -> u64 {
+    /// Returns the number of bytes of the block's section. Returns 2^64 - 1 if that is more.
+    pub fn section_len(&self) -> u64
+        ensures { content_len self.now + 10 < 2 ^ 64
+            → result ≡ length (varint_of (content_len self.now)) + content_len self.now }
+    {
         framed_len(self.content_len())
     }
 }

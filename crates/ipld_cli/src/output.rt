@@ -472,14 +472,24 @@ fn replace(rt: &HostRuntime, temporary: Path<'_>, path: Path<'_>) -> Result<(), 
     Ok(())
 }
 
-// Renames a temporary file to its final name, if that name is free. A file of this name that was
-// created meanwhile stays. If this fails, the temporary file stays too.
+// Gives a temporary file its final name, if that name is free. A file of this name that was created
+// meanwhile stays. If this fails, the temporary file stays too.
 fn move_into_place(
     rt: &HostRuntime,
     temporary: Path<'_>,
     path: Path<'_>,
 ) -> Result<(), OutputError> {
-    // Otherwise the file would replace one that was created meanwhile.
+    match fs::hard_link(rt, temporary, path) {
+        Ok(()) => {
+            // If this fails, the next run removes the temporary name.
+            let _ = fs::remove_file(rt, temporary);
+            return Ok(());
+        }
+        Err(error) if error.kind() == ErrorKind::AlreadyExists => return Err(OutputError::Exists),
+        // Some file systems have no links. There the name is taken by an empty file, which is left
+        // if the program is killed before the next call.
+        Err(_) => {}
+    }
     take_name(rt, path)?;
     let placed = replace(rt, temporary, path);
     if placed.is_err() {

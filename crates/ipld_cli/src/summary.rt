@@ -258,8 +258,8 @@ fn write_counts<W: Write>(
     Ok(())
 }
 
-// Adds a member whose value is a number.
-fn add_number(object: &mut Writer, key: &str, number: u64) -> io::Result<()> {
+/// Adds a member whose value is a number.
+pub(crate) fn add_number(object: &mut Writer, key: &str, number: u64) -> io::Result<()> {
     object.key(key)?;
     object.u64(number)?;
     Ok(())

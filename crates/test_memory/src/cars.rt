@@ -3,8 +3,8 @@
 use crate::ended::{Ended, reported};
 use crate::samples::cid;
 use car_files::{
-    CarFileError, Form, Listed, Seen, VerdictForm, Verified, find_block, find_missing, write_list,
-    write_verified,
+    CarFileError, Form, Listed, SectionPlaces, Seen, VerdictForm, Verified, find_block,
+    find_missing, write_list, write_verified,
 };
 use ipld_car::{CarErrorKind, CarReader, CarWriter, DEFAULT_LIMIT, Section};
 use std::alloc::Global;
@@ -258,17 +258,55 @@ fn found(rt: HostRuntime) -> Result<(), Ended> {
     Ok(())
 }
 
+/// The number of zeros after the CAR that is padded.
+const ZEROS: usize = 9;
+
+#[test]
+fn padded(rt: HostRuntime) -> Result<(), Ended> {
+    let mut bytes = Vec::from_slice(rt.alloc(), &CAR)?;
+    bytes.extend_from_slice(&[0; ZEROS])?;
+    for allows in [false, true] {
+        let mut car = opened(rt.alloc(), &bytes, false)?;
+        if allows {
+            car.allow_zero_padding();
+        }
+        let mut section = Section::new(rt.alloc());
+        for _ in 0..2 {
+            assert!(rt; reported("read_section", car.read_section(&mut section))?);
+        }
+        match car.read_section(&mut section) {
+            Ok(has_section) => assert!(rt; allows && !has_section),
+            Err(error) => assert!(rt; !allows && matches!(&error.kind, CarErrorKind::Empty)),
+        }
+        if allows {
+            assert_eq!(rt; car.offset(), CAR.len() as u64);
+            assert_eq!(rt; car.into_inner().bytes, [0; ZEROS].as_slice());
+        }
+    }
+    Ok(())
+}
+
 #[test]
 fn verified(rt: HostRuntime) -> Result<(), Ended> {
     let mut car = opened(rt.alloc(), &CAR, false)?;
     let mut writer = Vec::new(rt.alloc());
-    let outcome = write_verified(rt.alloc(), &mut car, VerdictForm::Line, &mut writer);
+    let mut places = SectionPlaces::new(rt.alloc(), true);
+    let outcome = write_verified(
+        rt.alloc(),
+        &mut car,
+        VerdictForm::Line,
+        &mut places,
+        &mut writer,
+    );
     let expected = Verified {
         right: 1,
         wrong: 1,
         unknown: 0,
     };
     assert_eq!(rt; reported("write_verified", outcome)?, expected);
+    assert_eq!(rt; places.places.len(), 2);
+    assert_eq!(rt; places.places[0].offset, SECTIONS as u64);
+    assert_eq!(rt; places.places[1].cid, cid(&LEAF)?);
     assert!(rt;
         writer
             .as_slice()

@@ -6,7 +6,7 @@ ONCE = "standard input can be read only once"
 REFUSED = [
     ("", "Usage: ipld <COMMAND>"),
     ("frob", "frob"),
-    ([b"\xff"], "not valid UTF-8"),
+    ([b"\xff"], "UTF-8 (rename the file, or pass it as standard input: -)"),
     ("show", "FILE"),
     ("show value.cbor a b", "b"),
     ("show value.cbor --no-such", "--no-such"),
@@ -37,6 +37,7 @@ REFUSED = [
     ("car extract a.car", "<CID>..."),
     ("car extract - -", ONCE),
     ("car index a.car", "--output <CAR>"),
+    ("car salvage a.car", "--output <CAR>"),
     ("show --limit 1K -c raw plain", "cannot be used with"),
     ("show --unchecked -c raw plain", "cannot be used with"),
     (f"cid --text -c raw {OLD_CID}", "cannot be used with"),

@@ -105,6 +105,8 @@ ROOTS = [
         TREE,
     ),
     makes(f"--root {LOST.cid} raw:plain", [LOST.cid], [HELLO], err=message(LOST.cid, NO_ROOT)),
+    # The CID of a root may contain its block.
+    makes(f"--root {NEAR.cid} raw:plain", [NEAR.cid], [HELLO]),
     Row(
         "car create -o - --root no-cid raw:plain",
         "",

@@ -1,6 +1,18 @@
 """Rows of `ipld car inspect` and `ipld car roots`."""
 
-from ..blocks import CUT_CBOR, CUT_CBOR_ERROR, HASHED, PART, TOP, TREE, UNKNOWN_PB, UNKNOWN_PB_ERROR
+import re
+
+from ..blocks import (
+    CUT_CBOR,
+    CUT_CBOR_ERROR,
+    HASHED,
+    INLINE_BREAK,
+    PART,
+    TOP,
+    TREE,
+    UNKNOWN_PB,
+    UNKNOWN_PB_ERROR,
+)
 from ..formats import car
 from . import CHECK_FAILED, NOT_A_CAR, Row, json_lines, lines, message
 
@@ -76,6 +88,13 @@ WITH_ERRORS = [
             f"{UNKNOWN_PB.cid} at byte {len(car([TOP.cid], [CUT_CBOR, TREE[0]]))}: "
             f"{UNKNOWN_PB_ERROR}",
         ),
+        CHECK_FAILED,
+    ),
+    # The blocks that the CIDs of roots contain are checked too.
+    Row(
+        "car inspect carried.car",
+        summary(1, [INLINE_BREAK.cid], [], {}, {}, 0, 1, 0),
+        re.compile(f"ipld: carried.car: {INLINE_BREAK.cid} at byte 0: not valid DAG-CBOR: .*\n"),
         CHECK_FAILED,
     ),
     Row("car inspect words", "", NOT_A_CAR, CHECK_FAILED),

@@ -4,6 +4,7 @@ import errno
 import re
 
 from ..blocks import (
+    CAR,
     CARRIER,
     CARRIER_BLOCKS,
     CARRIER_ROOTS,
@@ -50,6 +51,11 @@ ONE_CAR = [
     Row("car missing empty.car"),
     Row("car missing whole.car"),
     missing("car missing a.car", LOST.cid, err=UNKNOWN_LINKS),
+    missing(
+        "car missing --progress a.car",
+        LOST.cid,
+        err=message("a.car", f"{len(CAR)} of {len(CAR)} bytes read") + UNKNOWN_LINKS,
+    ),
     missing("car missing top.car", LEAF.cid, LOST.cid),
     missing("car missing node.car", OLD_CID, EMPTY.cid),
     missing("car missing inline.car", LOST.cid),

@@ -1,5 +1,6 @@
 """Rows of `ipld cid`."""
 
+import errno
 import re
 
 from ..blocks import ALL, EMPTY, HELLO, NEAR, NODE, NODE_V1, OLD_CID
@@ -19,7 +20,7 @@ from ..formats import (
     in_alphabet,
 )
 from ..invalid import INVALID_CBOR
-from . import CHECK_FAILED, ERROR, Row, fails, json_lines, lines
+from . import CHECK_FAILED, ERROR, Row, fails, json_lines, lines, system_error
 
 # The hash functions that have a name, by the table of multicodecs, and one without a name.
 HASHES = {
@@ -97,6 +98,16 @@ OF_FILES = [
     Row("cid --json -c raw plain", json_lines({"file": "plain", **as_object(HELLO.cid)})),
 ]
 
+NOT_READ = [
+    fails(
+        "cid .",
+        ".",
+        f"cannot read the file: {system_error(errno.EISDIR)}; "
+        "and not a CID: unknown multibase prefix '.'",
+        ERROR,
+    )
+]
+
 INVALID = [fails(f"cid {it.name}", it.name, it.why + it.hint) for it in INVALID_CBOR]
 
 PARTS = [
@@ -104,6 +115,7 @@ PARTS = [
     for text in [
         f"{EMPTY.cid}",
         f"/ipfs/{EMPTY.cid}",
+        f"ipfs://{EMPTY.cid}",
         f"f{EMPTY.cid.hex()}",
         f"z{in_alphabet(EMPTY.cid, BASE58)}",
     ]

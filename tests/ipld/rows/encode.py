@@ -13,6 +13,8 @@ ENCODED = [
     Row("encode typed.json", cbor(texts.BY_HAND_VALUE)),
     Row("encode floats.json", cbor(texts.FLOATS_VALUE)),
     Row("encode --canonical written.json", cbor(texts.CANONICAL_FLOATS_VALUE)),
+    # The line feed at the end is not part of the value.
+    Row("encode --canonical line.json", cbor([1])),
     Row("encode level.json", b"\x81" * 1023 + b"\x80"),
     Row("encode -c dag-json typed.json", dag_json(texts.BY_HAND_VALUE)),
     Row("encode -c dag-json value.json --canonical", texts.KINDS),

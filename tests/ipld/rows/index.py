@@ -5,6 +5,8 @@ An index is not trusted: the program uses it if its entries are right, and repor
 
 from ..blocks import (
     CAR,
+    FAR,
+    GRAPH,
     HASHED,
     HASHED_INDEX_AT,
     LEAF,
@@ -14,13 +16,15 @@ from ..blocks import (
     NOTHING,
     NUMBERS,
     PART,
+    START,
     TOP,
     TREE,
     TWICE,
 )
-from ..files import CARS_WITH_INDEX
+from ..files import CARS_WITH_INDEX, ENTRIES
 from ..formats import PAYLOAD_AT, car, car_indexed, entries_of, sections_of
 from . import CHECK_FAILED, DONE, Row, fails, json_lines, lines, message
+from .car_verify import NOT_COMPUTED, OTHER_DIGEST
 
 AT = [PAYLOAD_AT + offset for offset in sections_of([PART.cid], HASHED)]
 PART_AT, LONG_AT, NEAR_AT = AT[:3]
@@ -139,6 +143,16 @@ NUMBER_OF_ENTRIES = [
             status=CHECK_FAILED if out else DONE,
         ),
     ]
+] + [
+    # Without the promise of an entry for each block, only the identity function's may lack one.
+    (
+        car_indexed([PART.cid], HASHED, ENTRIES[:1] + ENTRIES[3:], full=False),
+        Row(
+            "car verify new.car",
+            lines(f"{LONG.cid} at byte {LONG_AT}: {NO_ENTRY}"),
+            status=CHECK_FAILED,
+        ),
+    )
 ]
 
 NOT_VALID = [
@@ -171,6 +185,19 @@ NOT_VALID = [
         "car verify far_index.car",
         "far_index.car",
         f"cannot read the index at byte {2**63}: the file ends within the index",
+    )
+]
+
+# A block that does not match its CID is found also if the index is right.
+TRAP_AT, FAR_AT = (PAYLOAD_AT + offset for offset in sections_of([START.cid], GRAPH)[6:8])
+WRONG_DIGESTS = [
+    Row(
+        "car verify graph2.car",
+        lines(
+            f"{LEAF.cid} at byte {TRAP_AT}: {OTHER_DIGEST}",
+            f"{FAR.cid} at byte {FAR_AT}: {NOT_COMPUTED}",
+        ),
+        status=CHECK_FAILED,
     )
 ]
 

@@ -56,12 +56,17 @@ OF_UNITS = [
 ]
 
 INVALID_SIZES = [
-    Row(command, "", re.compile(f"(?s)error: .*{re.escape(size)}.*"), ERROR)
+    Row(
+        f"{command} {shlex.quote(f'{option}={size}')} {file}",
+        "",
+        re.compile(f"error: invalid value '{re.escape(size)}' for '{option} <SIZE>': .*\n\n.*\n"),
+        ERROR,
+    )
     for size in ("", "0", "-1", "1T", "1k", "K", "0G", "+1", "1 K", f"{2**64}", f"{2**34}G")
-    for command in [
-        f"car list {shlex.quote(f'--limit={size}')} a.car",
-        f"show {shlex.quote(f'--limit={size}')} a.car",
-        f"car create -o new.car {shlex.quote(f'--split={size}')} raw:plain",
+    for command, option, file in [
+        ("car list", "--limit", "a.car"),
+        ("show", "--limit", "a.car"),
+        ("car create -o new.car", "--split", "raw:plain"),
     ]
 ]
 

@@ -6,14 +6,17 @@ Each has the permissions and the bytes of the files that change.
 import errno
 import re
 
-from ..blocks import CAR, HELLO, LEAF, LOST, PART, TOP, TRAP
-from ..formats import car
+from ..blocks import CAR, HELLO, LEAF, LOST, PART, TOP, TRAP, TREE
+from ..formats import car, car_indexed
 from . import CHECK_FAILED, ERROR, NO_BLOCK, WRONG_DIGEST, Row, fails, message, system_error
 
 # The permissions of a new file, and those of `there.car`.
 NEW, THERE = "new", 0o640
 # The CAR of the file `plain`.
 HELLO_CAR = car([HELLO.cid], [HELLO])
+
+# A name of 255 bytes, the most that a file system allows.
+LONG_NAME = "n" + "\u00e9" * 127
 
 EXISTS = "the file exists; --force replaces it"
 IS_INPUT = "the output is also an input; choose another name"
@@ -27,6 +30,7 @@ CREATED = [
     (Row(f"{CREATE} -o - plain", HELLO_CAR), {}),
     (Row(f"{CREATE} -o there.car --force plain"), {"there.car": (THERE, HELLO_CAR)}),
     (Row(f"{CREATE} -o link.car --force plain"), {"there.car": (THERE, HELLO_CAR)}),
+    (Row(f"{CREATE} -o {LONG_NAME} plain"), {LONG_NAME: (NEW, HELLO_CAR)}),
 ]
 
 NOT_CREATED = [
@@ -79,6 +83,16 @@ TOO_LARGE = [
     ]
 ]
 
+# The same if the system can't sync a file to the device.
+NOT_SYNCED = [
+    (fails(f"{CREATE} {options} plain", name, system_error(errno.EIO), ERROR), {})
+    for name, options in [
+        ("new.car", "-o new.car"),
+        ("there.car", "-o there.car --force"),
+        ("new-0.car", "-o new.car --split 1K"),
+    ]
+]
+
 # Devices are written to as they are.
 DEVICES = [
     (fails(f"{CREATE} -o /dev/full plain", "/dev/full", system_error(errno.ENOSPC), ERROR), {}),
@@ -91,6 +105,26 @@ DEVICES = [
     (Row(f"{CREATE} -o /dev/null plain"), {}),
     (Row(f"{CREATE} -o /dev/null --force plain"), {}),
     (Row(f"{CREATE} -o /dev/stdout plain", HELLO_CAR), {}),
+]
+
+# The folder of these rows has the CAR `a.car`.
+COPIED = [
+    (
+        Row(f"car filter -o there.car --force a.car {PART.cid}"),
+        {"there.car": (THERE, car([PART.cid], [PART]))},
+    ),
+    (
+        Row("car index -o there.car --force a.car"),
+        {"there.car": (THERE, car_indexed([TOP.cid], TREE))},
+    ),
+]
+NOT_COPIED = [
+    (fails(f"car {command} -o {name} {options}", name, why, ERROR), {})
+    for command, options in [("filter", f"a.car {PART.cid}"), ("index", "a.car")]
+    for name, why in [("there.car", EXISTS), ("a.car", IS_INPUT)]
+] + [
+    (fails(f"car {command} -o a.car --force {options}", "a.car", IS_INPUT, ERROR), {})
+    for command, options in [("filter", f"a.car {PART.cid}"), ("index", "a.car")]
 ]
 
 # The folder of these rows also has CARs, and a file with the name of LEAF in `dir`.

@@ -12,6 +12,7 @@ from ..blocks import (
     GRAPH,
     GRAPH_CAR,
     INNER,
+    INLINE_PB,
     INNER_VALUE,
     LEAF,
     LOST,
@@ -21,6 +22,8 @@ from ..blocks import (
     START,
     START_VALUE,
     TWO_CID,
+    UNKNOWN_PB_ERROR,
+    UNNAMED,
 )
 from ..formats import sections_of
 from . import (
@@ -116,6 +119,13 @@ ODD_CARS = [
         "show empty.car", "empty.car", "the CAR has no root; begin the path with the CID of a block"
     ),
     fails(f"show empty.car {PART.cid}", "empty.car", f"{PART.cid}: {NO_BLOCK}"),
+    fails(
+        "show unnamed.car",
+        "unnamed.car",
+        f"{UNNAMED.cid}: the codec 0x300001 is not supported (ipld car extract writes the block)",
+    ),
+    # Of two roots the first is shown.
+    fails("show carries.car", "carries.car", f"{INLINE_PB.cid}: {UNKNOWN_PB_ERROR}"),
     # Of two blocks with a CID the first is shown.
     fails("show again.car b/p/x", "again.car", f'{PART.cid}: the value {NOT_INSIDE} "x"'),
 ]

@@ -61,7 +61,7 @@ STANDARD_INPUT = [
 ]
 
 # Command lines whose output doesn't fit on the device.
-FULL = re.compile("(ipld: warning: .*\n)?ipld: standard output: cannot write: no storage space\n")
+FULL = message("standard output", "cannot write: no storage space")
 FULL_DEVICE = [
     Row(command, "", FULL, ERROR)
     for command in [
@@ -123,6 +123,8 @@ NO_OUTPUT = [
     ]
 ]
 
+# Files with so many lines that the first are written before the last file is read.
+MANY_FILES = " ".join(["value.cbor"] * 500)
 # Command lines whose output nobody reads, not even its first byte. Their status is the same as if
 # it was read.
 UNREAD = [
@@ -141,6 +143,7 @@ UNREAD = [
         ("check value.cbor value.cbor", "", DONE),
         ("check value.cbor plain", "ipld: plain: .*\n", CHECK_FAILED),
         ("check value.cbor no-such", "ipld: no-such: .*\n", ERROR),
+        (f"check {MANY_FILES} no-such", "ipld: no-such: .*\n", ERROR),
         ("car list whole.car", "", DONE),
         ("car list lacks.car", "", DONE),
         ("car list bad.car", "ipld: bad.car: .*\nipld: bad.car: .*\n", CHECK_FAILED),

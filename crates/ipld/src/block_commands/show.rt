@@ -1,11 +1,11 @@
 //! The command that shows blocks.
 
-use crate::arguments::{codec_of, limit_of, names_codec};
+use crate::arguments::{car_options_of, codec_of, names_codec};
 use crate::block_commands::follow::show_in_car;
 use clap::ArgMatches;
 use ipld_block::BlockCodec;
 use ipld_cli::{
-    NamedCid, Opened, Outcome, PerWord, ShowExplanation, is_file, open_blocks, report,
+    CarOptions, NamedCid, Opened, Outcome, PerWord, ShowExplanation, is_file, open_blocks, report,
     report_invalid_block, report_out_of_memory, report_show_error, report_unreadable,
     report_wrong_arguments, run_over,
 };
@@ -23,8 +23,8 @@ pub struct ShowRequest<'a> {
     pub path: &'a str,
     /// Whether DAG-JSON is written.
     pub json: bool,
-    /// The size of the longest section of a CAR that is read.
-    pub limit: u64,
+    /// The options for reading CARs.
+    pub car: CarOptions,
     /// Whether a block of a CAR is shown even if it is not known to match its CID.
     pub is_unchecked: bool,
 }
@@ -88,7 +88,7 @@ impl<'a> PerWord for ShowRequest<'a> {
         word: &str,
         writer: &mut W,
     ) -> Result<Outcome, ShowError> {
-        match open_blocks(rt, word, self.limit, !self.names_codec) {
+        match open_blocks(rt, word, self.car, !self.names_codec) {
             Ok(Opened::Block(bytes)) => show_block(rt, word, self, &bytes, writer),
             Ok(Opened::Car(blocks)) => show_in_car(rt, blocks, self, writer),
             Err(error) => Ok(report_unreadable(rt, word, &error)),
@@ -118,8 +118,8 @@ pub fn run_show(rt: &HostRuntime, matches: &ArgMatches<'_>) -> Outcome {
         (None, [_, _, word, ..]) => return report_second_path(rt, word),
         (None, files) => (files, ""),
     };
-    let limit = match limit_of(rt, matches) {
-        Ok(limit) => limit,
+    let car = match car_options_of(rt, matches) {
+        Ok(options) => options,
         Err(outcome) => return outcome,
     };
     let request = ShowRequest {
@@ -127,7 +127,7 @@ pub fn run_show(rt: &HostRuntime, matches: &ArgMatches<'_>) -> Outcome {
         names_codec: names_codec(matches),
         path,
         json: matches.get_flag("json"),
-        limit,
+        car,
         is_unchecked: matches.get_flag("unchecked"),
     };
     run_over(rt, files, &request)

@@ -1,6 +1,8 @@
 //! The command that creates a CAR file.
 
-use crate::arguments::{codec_of, limit_of, names_codec, read_text, size_of, writes_index};
+use crate::arguments::{
+    car_options_of, codec_of, names_codec, push_lines, read_text, size_of, writes_index,
+};
 use crate::car_commands::split::{Form, Part, Split, outputs_of, split_blocks};
 use clap::ArgMatches;
 use ipld_block::BlockCodec;
@@ -55,11 +57,7 @@ fn names_of(
             names.push(String::from_str(alloc, file)?)?;
         }
     }
-    for line in lines.lines() {
-        if !line.is_empty() {
-            names.push(String::from_str(alloc, line)?)?;
-        }
-    }
+    push_lines(alloc, lines, &mut names)?;
     Ok(names)
 }
 
@@ -107,6 +105,8 @@ fn has_no_effect(rt: &HostRuntime, matches: &ArgMatches<'_>, sources: &[Source<'
         .any(|source| source.codec() == Some(BlockCodec::DagPb));
     let why = if matches.get_flag("unchecked") && !has_car {
         "--unchecked applies only to CARs: give one as car:FILE"
+    } else if matches.get_flag("zero-padding") && !has_car {
+        "--zero-padding applies only to CARs: give one as car:FILE"
     } else if matches.get_flag("v0") && !has_pb {
         "--v0 applies only to blocks of DAG-PB: give one as dag-pb:FILE"
     } else if names_codec(matches) && !sources.iter().any(|source| source.is_unnamed()) {
@@ -272,8 +272,8 @@ pub(super) fn add_cid(rt: &HostRuntime, text: &str, cids: &mut Vec<Cid>) -> Resu
     }
 }
 
-// Returns the roots that the arguments name.
-fn roots_in(rt: &HostRuntime, matches: &ArgMatches<'_>) -> Result<Vec<Cid>, Outcome> {
+/// Returns the roots that the arguments name.
+pub(super) fn roots_in(rt: &HostRuntime, matches: &ArgMatches<'_>) -> Result<Vec<Cid>, Outcome> {
     let mut cids = Vec::new(rt.alloc());
     if let Some(texts) = matches.get_strs("root") {
         for text in texts {
@@ -306,7 +306,7 @@ impl CreateOptions {
             roots: roots_in(rt, matches)?,
             only: Vec::new(rt.alloc()),
             collect: CollectOptions {
-                limit: limit_of(rt, matches)?,
+                car: car_options_of(rt, matches)?,
                 is_unchecked: matches.get_flag("unchecked"),
                 is_v0: matches.get_flag("v0"),
             },
@@ -338,7 +338,7 @@ impl<'a> CarContent<'a> {
     ) -> Result<CarContent<'a>, Outcome> {
         let mut collected = collected;
         keep_only(rt, &mut collected, &options.only)?;
-        let (limit, has_index) = (options.collect.limit, options.has_index);
+        let (limit, has_index) = (options.collect.car.limit, options.has_index);
         let force = options.force;
         let is_one = options.most.is_none();
         let Ok(roots) = roots_of(&collected, options) else {

@@ -1,16 +1,16 @@
 //! The command that extracts blocks from a CAR file.
 
-use crate::arguments::{cid_texts, limit_of};
+use crate::arguments::{car_options_of, cid_texts};
 use car_files::CarFileError;
 use clap::ArgMatches;
 use indexmap::{IndexMap, IndexSet};
 use ipld_car::Section;
 use ipld_cid::Cid;
 use ipld_cli::{
-    CheckedBlock, DigestExplanation, MOST_SECTIONS, NamedCid, OpenCar, Outcome, OutputError,
-    Syncing, TemporaryName, hasher_of, open_car, open_indexed, output_of, parse_cid_argument,
-    report, report_car_error, report_out_of_memory, report_unwritable, report_wrong_arguments,
-    shows_progress, sync_folder, write, writes_to_input,
+    CarOptions, CheckedBlock, DigestExplanation, MOST_SECTIONS, NamedCid, OpenCar, Outcome,
+    OutputError, Syncing, TemporaryName, hasher_of, open_car, open_indexed, output_of,
+    parse_cid_argument, report, report_car_error, report_out_of_memory, report_unwritable,
+    report_wrong_arguments, shows_progress, sync_folder, write, writes_to_input,
 };
 use std::fmt;
 use std::hash::RandomState;
@@ -88,26 +88,26 @@ fn extract_to(
     target: Target<'_, '_>,
     texts: &[String],
 ) -> Outcome {
-    let limit = match limit_of(rt, matches) {
-        Ok(limit) => limit,
+    let options = match car_options_of(rt, matches) {
+        Ok(options) => options,
         Err(outcome) => return outcome,
     };
     if matches.get_flag("all") {
-        return extract_all(rt, target, limit);
+        return extract_all(rt, target, options);
     }
     match requested_blocks(rt, texts) {
-        Ok((requested, places)) => extract(rt, target, limit, requested, &places),
+        Ok((requested, places)) => extract(rt, target, options, requested, &places),
         Err(outcome) => outcome,
     }
 }
 
 // Writes each block of a CAR, the first of each CID.
-fn extract_all(rt: &HostRuntime, target: Target<'_, '_>, limit: u64) -> Outcome {
+fn extract_all(rt: &HostRuntime, target: Target<'_, '_>, options: CarOptions) -> Outcome {
     let hasher = match hasher_of(rt) {
         Ok(hasher) => hasher,
         Err(outcome) => return outcome,
     };
-    let mut opened = match open_car(rt, target.file, limit, shows_progress(rt)) {
+    let mut opened = match open_car(rt, target.file, options, shows_progress(rt)) {
         Ok(opened) => opened,
         Err(outcome) => return outcome,
     };
@@ -117,7 +117,7 @@ fn extract_all(rt: &HostRuntime, target: Target<'_, '_>, limit: u64) -> Outcome 
     for _ in 0..MOST_SECTIONS {
         match opened.car.read_section(&mut section) {
             Ok(true) => {}
-            Ok(false) => return outcome,
+            Ok(false) => return outcome.worse(opened.check_padding(rt)),
             Err(error) => {
                 let error = CarFileError::from(error);
                 return outcome.worse(report_car_error(rt, target.file, &error));
@@ -184,13 +184,13 @@ fn requested_blocks<'a>(
 fn extract(
     rt: &HostRuntime,
     target: Target<'_, '_>,
-    limit: u64,
+    options: CarOptions,
     requested: Vec<RequestedBlock<'_>>,
     places: &Places,
 ) -> Outcome {
     let mut requested = requested;
-    let indexed = extract_indexed(rt, target, limit, &mut requested);
-    let search = extract_found(rt, target, limit, &mut requested, places);
+    let indexed = extract_indexed(rt, target, options, &mut requested);
+    let search = extract_found(rt, target, options, &mut requested, places);
     let outcome = indexed.worse(search.outcome);
     if search.is_complete {
         outcome.worse(report_lacking_blocks(rt, target.file, &requested))
@@ -204,14 +204,14 @@ fn extract(
 fn extract_indexed(
     rt: &HostRuntime,
     target: Target<'_, '_>,
-    limit: u64,
+    options: CarOptions,
     requested: &mut Vec<RequestedBlock<'_>>,
 ) -> Outcome {
     let mut outcome = Outcome::Done;
     if target.is_unchecked {
         return outcome;
     }
-    let Some(mut blocks) = open_indexed(rt, target.file, limit) else {
+    let Some(mut blocks) = open_indexed(rt, target.file, options) else {
         return outcome;
     };
     for block in requested.iter_mut() {
@@ -253,7 +253,7 @@ impl Search {
 fn extract_found(
     rt: &HostRuntime,
     target: Target<'_, '_>,
-    limit: u64,
+    options: CarOptions,
     requested: &mut Vec<RequestedBlock<'_>>,
     places: &Places,
 ) -> Search {
@@ -261,7 +261,7 @@ fn extract_found(
     if left == 0 {
         return Search::complete(Outcome::Done);
     }
-    match open_car(rt, target.file, limit, shows_progress(rt)) {
+    match open_car(rt, target.file, options, shows_progress(rt)) {
         Ok(opened) => extract_from(rt, target, opened, requested, places, left),
         Err(outcome) => Search::stopped(outcome),
     }
@@ -285,7 +285,7 @@ fn extract_from(
         }
         match opened.car.read_section(&mut section) {
             Ok(true) => {}
-            Ok(false) => return Search::complete(outcome),
+            Ok(false) => return Search::complete(outcome.worse(opened.check_padding(rt))),
             Err(error) => {
                 let error = CarFileError::from(error);
                 return Search::stopped(outcome.worse(report_car_error(rt, target.file, &error)));

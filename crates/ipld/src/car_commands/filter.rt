@@ -1,6 +1,6 @@
 //! The command that copies some blocks of a CAR to a new one.
 
-use crate::arguments::{cid_texts, limit_of, writes_index};
+use crate::arguments::{car_options_of, cid_texts, writes_index};
 use crate::car_commands::create::{CreateOptions, add_cid, create_car};
 use clap::ArgMatches;
 use ipld_cli::{CollectOptions, Outcome, Source, report_wrong_arguments};
@@ -38,7 +38,7 @@ fn filter_options(
         roots: Vec::new(rt.alloc()),
         only: cids,
         collect: CollectOptions {
-            limit: limit_of(rt, matches)?,
+            car: car_options_of(rt, matches)?,
             is_unchecked: matches.get_flag("unchecked"),
             is_v0: false,
         },

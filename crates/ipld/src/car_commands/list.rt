@@ -1,6 +1,6 @@
 //! The commands that list what a CAR has: its blocks, its roots, its links, or a summary.
 
-use crate::car_commands::report::{CarReport, Source, run_report};
+use crate::car_commands::report::{CarReport, run_report};
 use car_files::{CarFileError, Form, write_list};
 use clap::ArgMatches;
 use ipld_block::write_links;
@@ -26,11 +26,10 @@ impl CarReport for List {
     fn write<W: Write>(
         &self,
         rt: &HostRuntime,
-        source: Source<'_>,
+        file: &str,
         car: &mut Car<'_>,
         writer: &mut W,
     ) -> Result<Outcome, CarFileError> {
-        let file = source.file;
         warn_of_roots(rt, file, car.roots());
         let label = format!(in rt.alloc(); "{file}: ")?;
         let mut complaints = Complaints::new(rt);
@@ -56,7 +55,7 @@ impl CarReport for Roots {
     fn write<W: Write>(
         &self,
         rt: &HostRuntime,
-        _source: Source<'_>,
+        _file: &str,
         car: &mut Car<'_>,
         writer: &mut W,
     ) -> Result<Outcome, CarFileError> {
@@ -79,7 +78,7 @@ impl CarReport for Inspect {
     fn write<W: Write>(
         &self,
         rt: &HostRuntime,
-        source: Source<'_>,
+        file: &str,
         car: &mut Car<'_>,
         writer: &mut W,
     ) -> Result<Outcome, CarFileError> {
@@ -87,7 +86,7 @@ impl CarReport for Inspect {
             Ok(hasher) => hasher,
             Err(outcome) => return Ok(outcome),
         };
-        let summary = Summary::of_car(rt, hasher, source.file, car)?;
+        let summary = Summary::of_car(rt, hasher, file, car)?;
         if self.json {
             summary.write_object(rt.alloc(), writer)?;
         } else {

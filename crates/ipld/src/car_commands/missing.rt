@@ -1,12 +1,12 @@
 //! The command that lists the blocks which CARs link to and don't have.
 
-use crate::arguments::limit_of;
+use crate::arguments::car_options_of;
 use car_files::{CarFileError, MissingBlocks, Seen, add_car};
 use clap::ArgMatches;
 use ipld_block::write_links;
 use ipld_cid::Cid;
 use ipld_cli::{
-    BUFFER, Complaints, Outcome, complain, end_writer, hasher_of, json_lines, open_car,
+    BUFFER, CarOptions, Complaints, Outcome, complain, end_writer, hasher_of, json_lines, open_car,
     reads_twice, report_car_error, report_out_of_memory, writes_to_input,
 };
 use std::io::{self, BufWriter, Write};
@@ -19,8 +19,8 @@ pub fn run_missing(rt: &HostRuntime, matches: &ArgMatches<'_>) -> Outcome {
     if reads_twice(rt, files) || writes_to_input(rt, files) {
         return Outcome::Failed;
     }
-    let limit = match limit_of(rt, matches) {
-        Ok(limit) => limit,
+    let options = match car_options_of(rt, matches) {
+        Ok(options) => options,
         Err(outcome) => return outcome,
     };
     let hasher = match hasher_of(rt) {
@@ -28,7 +28,7 @@ pub fn run_missing(rt: &HostRuntime, matches: &ArgMatches<'_>) -> Outcome {
         Err(outcome) => return outcome,
     };
     let mut index = MissingBlocks::new(rt.alloc(), hasher);
-    let added = add_files(rt, files, limit, matches.get_flag("progress"), &mut index);
+    let added = add_files(rt, files, options, matches.get_flag("progress"), &mut index);
     if !added.is_whole {
         // If a file was not read to its end, the missing blocks are not known.
         return added.outcome;
@@ -59,7 +59,7 @@ struct Added {
 fn add_files(
     rt: &HostRuntime,
     files: &[&str],
-    limit: u64,
+    options: CarOptions,
     is_shown: bool,
     index: &mut MissingBlocks,
 ) -> Added {
@@ -69,7 +69,7 @@ fn add_files(
         is_whole: true,
     };
     for file in files {
-        match add_file(rt, file, limit, is_shown, index) {
+        match add_file(rt, file, options, is_shown, index) {
             Ok(seen) => {
                 added.unknown = added.unknown.saturating_add(seen.unknown);
                 if seen.invalid > 0 {
@@ -98,11 +98,11 @@ fn write_result(rt: &HostRuntime, json: bool, missing: &[Cid], added: Added) -> 
 fn add_file(
     rt: &HostRuntime,
     file: &str,
-    limit: u64,
+    options: CarOptions,
     is_shown: bool,
     index: &mut MissingBlocks,
 ) -> Result<Seen, Outcome> {
-    let mut opened = match open_car(rt, file, limit, is_shown) {
+    let mut opened = match open_car(rt, file, options, is_shown) {
         Ok(opened) => opened,
         Err(outcome) => return Err(outcome),
     };
@@ -112,9 +112,13 @@ fn add_file(
     let mut complaints = Complaints::new(rt);
     let added = add_car(rt.alloc(), index, &mut opened.car, &label, &mut complaints);
     opened.show_end();
-    match added {
-        Ok(seen) => Ok(seen),
-        Err(error) => Err(report_car_error(rt, file, &error)),
+    let seen = match added {
+        Ok(seen) => seen,
+        Err(error) => return Err(report_car_error(rt, file, &error)),
+    };
+    match opened.check_padding(rt) {
+        Outcome::Done => Ok(seen),
+        outcome => Err(outcome),
     }
 }
 

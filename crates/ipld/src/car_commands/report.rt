@@ -1,6 +1,6 @@
 //! Commands that read a CAR once, and write a result on standard output.
 
-use crate::arguments::limit_of;
+use crate::arguments::car_options_of;
 use car_files::CarFileError;
 use clap::ArgMatches;
 use ipld_cli::{
@@ -9,29 +9,20 @@ use ipld_cli::{
 };
 use std::io::{self, BufWriter, Write};
 
-/// A CAR that is read.
-#[derive(Clone, Copy)]
-pub struct Source<'a> {
-    /// The name of the file.
-    pub file: &'a str,
-    /// The size of the longest section that is read.
-    pub limit: u64,
-}
-
 /// A result about a CAR.
 pub trait CarReport {
     /// Reads the CAR, writes the result, and returns how that ended.
     fn write<W: Write>(
         &self,
         rt: &HostRuntime,
-        source: Source<'_>,
+        file: &str,
         car: &mut Car<'_>,
         writer: &mut W,
     ) -> Result<Outcome, CarFileError>;
 }
 
-// Returns the outcome of these results of writing and of flushing.
-fn finish(
+/// Returns the outcome of these results of writing and of flushing.
+pub(super) fn finish(
     rt: &HostRuntime,
     file: &str,
     written: Result<Outcome, CarFileError>,
@@ -50,32 +41,38 @@ fn finish(
 // Reads an open CAR, and writes the result.
 fn report_opened<C: CarReport>(
     rt: &HostRuntime,
-    source: Source<'_>,
+    file: &str,
     opened: OpenCar<'_>,
     report: &C,
 ) -> Outcome {
     let mut opened = opened;
     let Ok(mut writer) = BufWriter::with_capacity(rt.alloc(), BUFFER, io::writer(rt)) else {
-        return report_out_of_memory(rt, source.file);
+        return report_out_of_memory(rt, file);
     };
-    let written = report.write(rt, source, &mut opened.car, &mut writer);
+    let written = report.write(rt, file, &mut opened.car, &mut writer);
     let flushed = end_writer(writer, matches!(&written, Err(CarFileError::Write(_))));
     opened.show_end();
-    finish(rt, source.file, written, flushed)
+    let is_read = written.is_ok();
+    let outcome = finish(rt, file, written, flushed);
+    if is_read {
+        outcome.worse(opened.check_padding(rt))
+    } else {
+        outcome
+    }
 }
 
 /// Writes the result about the CAR that the arguments name.
 pub fn run_report<C: CarReport>(rt: &HostRuntime, matches: &ArgMatches<'_>, report: &C) -> Outcome {
     let file = matches.get_str("file").unwrap_or("-");
-    let limit = match limit_of(rt, matches) {
-        Ok(limit) => limit,
+    let options = match car_options_of(rt, matches) {
+        Ok(options) => options,
         Err(outcome) => return outcome,
     };
     if writes_to_input(rt, &[file]) {
         return Outcome::Failed;
     }
-    match open_car(rt, file, limit, matches.get_flag("progress")) {
-        Ok(opened) => report_opened(rt, Source { file, limit }, opened, report),
+    match open_car(rt, file, options, matches.get_flag("progress")) {
+        Ok(opened) => report_opened(rt, file, opened, report),
         Err(outcome) => outcome,
     }
 }

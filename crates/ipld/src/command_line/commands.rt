@@ -60,6 +60,12 @@ const LIMIT: Argument = Argument {
     ..FLAG
 };
 
+const ZERO_PADDING: Argument = Argument {
+    name: "zero-padding",
+    help: "Allow zeros after the last section, in a file that is padded to a size.",
+    ..FLAG
+};
+
 const SHOW: Description = Description {
     name: "show",
     about: "Print a block, or the value at a path.",
@@ -92,6 +98,10 @@ const SHOW: Description = Description {
         Argument {
             excludes: &["codec"],
             ..LIMIT
+        },
+        Argument {
+            excludes: &["codec"],
+            ..ZERO_PADDING
         },
         BLOCK_CODEC,
     ],
@@ -330,7 +340,7 @@ const LIST: Description = Description {
     name: "list",
     about: "List the blocks of a CAR.",
     more: Some(LIST_MORE),
-    arguments: &[ONE_CAR, JSON_LINES, LIMIT, PROGRESS],
+    arguments: &[ONE_CAR, JSON_LINES, LIMIT, ZERO_PADDING, PROGRESS],
 };
 
 const LIST_MORE: &str = "\
@@ -365,7 +375,7 @@ const INSPECT: Description = Description {
     name: "inspect",
     about: "Print a summary of a CAR.",
     more: Some(INSPECT_MORE),
-    arguments: &[ONE_CAR, JSON_LINES, LIMIT, PROGRESS],
+    arguments: &[ONE_CAR, JSON_LINES, LIMIT, ZERO_PADDING, PROGRESS],
 };
 
 const INSPECT_MORE: &str = "\
@@ -422,7 +432,7 @@ const LINKS_OF_CAR: Description = Description {
     name: "links",
     about: "List the links of a CAR.",
     more: Some(LINKS_OF_CAR_MORE),
-    arguments: &[ONE_CAR, LIMIT, PROGRESS],
+    arguments: &[ONE_CAR, LIMIT, ZERO_PADDING, PROGRESS],
 };
 
 const LINKS_OF_CAR_MORE: &str = "\
@@ -443,7 +453,7 @@ const GRAPH: Description = Description {
     name: "graph",
     about: "Print the graph of a CAR for Graphviz.",
     more: Some(GRAPH_MORE),
-    arguments: &[ONE_CAR, LIMIT, PROGRESS],
+    arguments: &[ONE_CAR, LIMIT, ZERO_PADDING, PROGRESS],
 };
 
 const GRAPH_MORE: &str = "\
@@ -479,6 +489,7 @@ const MISSING: Description = Description {
         },
         JSON_LINES,
         LIMIT,
+        ZERO_PADDING,
         PROGRESS,
     ],
 };
@@ -514,6 +525,7 @@ const VERIFY: Description = Description {
         },
         JSON_LINES,
         LIMIT,
+        ZERO_PADDING,
         PROGRESS,
     ],
 };
@@ -577,6 +589,7 @@ const EXTRACT: Description = Description {
             ..FLAG
         },
         LIMIT,
+        ZERO_PADDING,
         Argument {
             name: "unchecked",
             help: "Write a block even if its digest is wrong or its hash function unsupported.",
@@ -634,6 +647,7 @@ const FILTER: Description = Description {
             ..FLAG
         },
         LIMIT,
+        ZERO_PADDING,
     ],
 };
 
@@ -660,7 +674,7 @@ const INDEX: Description = Description {
     name: "index",
     about: "Copy a CAR to version 2, with an index.",
     more: Some(INDEX_MORE),
-    arguments: &[ONE_CAR, OUTPUT_CAR, FORCE, LIMIT],
+    arguments: &[ONE_CAR, OUTPUT_CAR, FORCE, LIMIT, ZERO_PADDING],
 };
 
 const INDEX_MORE: &str = "\
@@ -678,6 +692,65 @@ Examples:
 
   $ ipld car index -o - album.car | ipld car roots -
   bafyreidglldmsjx73lvndeob54rzgouut6j7sxzoxr4zatpbydx7btmfpa";
+
+const SALVAGE: Description = Description {
+    name: "salvage",
+    about: "Copy what is whole in a damaged CAR to a new one.",
+    more: Some(SALVAGE_MORE),
+    arguments: &[
+        ONE_CAR,
+        OUTPUT_CAR,
+        FORCE,
+        Argument {
+            name: "root",
+            kind: Kind::Repeated("CID"),
+            help: "A root of the new CAR. [default: the roots in the header, if it can be read]",
+            ..FLAG
+        },
+        JSON_LINES,
+        LIMIT,
+    ],
+};
+
+const SALVAGE_MORE: &str = "\
+The new CAR has version 1 and each block that is whole, once and in order. ipld
+prints the ranges of bytes that are not whole sections, with the first error in
+each, and at the end the number of blocks and of bytes left. They are printed on
+standard error if the CAR goes to standard output. The status is 0 if the CAR is
+whole. The output is written as 'ipld car create --help' describes it.
+
+Behind an error ipld tries each byte, until a section begins there whose block
+has the digest of its CID. A block with an identity CID or an unsupported hash
+function is copied only if its section comes right after the header or a whole
+section. The digests of the latter are unverified. An index is not read.
+
+Bytes can begin like a long section without being one. At a byte, ipld has
+computed digests of at most 4 bytes in vain for each byte before it and each
+byte of --limit. A block that would need more is left, and its range says where
+the search gave up.
+
+JSON objects:
+  a range   {\"offset\":..,\"size\":..,\"message\":..}
+  the last  {\"blocks\":..,\"unverified\":..,\"left\":..}
+
+A range where the search gave up has \"gave_up\", the offset of the first block
+that was not checked.
+
+Examples:
+  $ head -c 200 album.car > cut.car
+  $ ipld car salvage -o saved.car cut.car
+  bytes 157 to 199: truncated: the section that begins at byte 157 is cut off at byte 200
+  blocks written: 1 (unverified: 0), bytes left: 43
+
+  $ ipld car missing saved.car
+  bafyreidl4puu5qgoyaxslyujtbdk5g7ps2j5jziwepjyktvekap6cpeeui
+
+  $ ipld car salvage --json -o json.car cut.car | tail -n 1
+  {\"blocks\":1,\"unverified\":0,\"left\":43}
+
+  $ ipld car salvage -o copy.car album.car && cmp copy.car album.car && echo same
+  blocks written: 2 (unverified: 0), bytes left: 0
+  same";
 
 /// The command that creates a CAR.
 pub(super) const CREATE: Description = Description {
@@ -723,6 +796,7 @@ pub(super) const CREATE: Description = Description {
             ..FLAG
         },
         LIMIT,
+        ZERO_PADDING,
         BLOCK_CODEC,
     ],
 };
@@ -776,7 +850,7 @@ pub(super) const CAR_LISTINGS: &[Description] = &[LIST, INSPECT, ROOTS, LINKS_OF
 pub(super) const CAR_CHECKS: &[Description] = &[MISSING, VERIFY];
 
 /// The commands that copy blocks of a CAR.
-pub(super) const CAR_COPIES: &[Description] = &[EXTRACT, FILTER, INDEX];
+pub(super) const CAR_COPIES: &[Description] = &[EXTRACT, FILTER, INDEX, SALVAGE];
 
 /// The command that makes a block.
 pub(super) const ENCODE: Description = Description {

@@ -1,42 +1,31 @@
-use Rattle.std.proofs.Common.{arith, length, ◌≡◌, ◌+◌}
-use Rattle.ipld_car.specs.SectionOf.{taken_of, block_of}
-use Rattle.ipld_car.proofs.OnlySections.{only_section}
-use Rattle.ipld_car.proofs.Payloads.{version1_read, version2_read}
+use Rattle.std.proofs.Common.{arith, length, ap, sym, ◌∙◌, ◌≡◌, ◌≤◌, ◌-◌, ◌++◌, Some}
+use Rattle.ipld_car.specs.Section.{content_of}
+use Rattle.ipld_car.specs.SectionOf.{taken_of}
+use Rattle.ipld_car.proofs.Paddings.{known_kept, no_section, look_fails}
+use Rattle.ipld_car.proofs.reader.CarReader.read_section.Goals.{then-self+then-self-2+in-Ok-false, else-self}
 use Rattle.ipld_car.proofs.reader.CarReader.read_section.Goals as goal
 
-pub returns-in-V1-clause-only : goal.returns-in-V1-clause-only
-returns-in-V1-clause-only g c =
-    only_section c.args.self.now.limit c.args.self.now.offset c.args.self.now.end _ _ (taken_of c.read_section_at-read.new.section) (block_of c.read_section_at-read.new.section)
-    c.read_section_at-read.result c.read_section_at-read.ensures.consumed
-    (version1_read _ _ _ 0 0 _ _ _ _ c.read_section_at-read.result c.read_section_at-read.ensures.read).0
+pub returns-in-Ok-true-clause-only : goal.returns-in-Ok-true-clause-only
+returns-in-Ok-true-clause-only g c = λ block bytes rest known is few fits. no_section _ bytes rest block _ c.in-Ok-true.ensures.zero c.in-Ok-true.field-0-test known is
 
-pub returns-in-V2-clause-read : goal.returns-in-V2-clause-read
-returns-in-V2-clause-read g c =
-    let car = c.args.self.now in
-    let section = c.read_section_at-read.new.section in
-    let took = c.read_section_at-read.ensures in
-    let at : car.offset + c.taken.result ≡ car.offset + length (taken_of section) = omega arith in
-    rw c.within_payload.ensures (
-    (version2_read car.limit car.offset car.start car.end (car.offset + c.taken.result) _ _ (taken_of section) (block_of section) c.read_section_at-read.result
-    took.read took.within (omega arith) (omega arith) at).0)
+pub returns-in-Err-clause-read : goal.returns-in-Err-clause-read
+returns-in-Err-clause-read g c =
+    look_fails c.args.self.now.limit _ c.args.self.now.offset _ _ (taken_of c.clear-in-Err.new.self) c.in-Err.kind _ c.in-Err.ensures.fault c.clear-in-Err.ensures.taken c.section_error.ensures
 
-pub returns-in-V2-clause-ends : goal.returns-in-V2-clause-ends
-returns-in-V2-clause-ends g c =
-    let car = c.args.self.now in
-    let section = c.read_section_at-read.new.section in
-    let took = c.read_section_at-read.ensures in
-    let at : car.offset + c.taken.result ≡ car.offset + length (taken_of section) = omega arith in
-    rw (c.within_payload.ensures, c.in-V2.is) (
-    (version2_read car.limit car.offset car.start car.end (car.offset + c.taken.result) _ _ (taken_of section) (block_of section) c.read_section_at-read.result
-    took.read took.within (omega arith) (omega arith) at).1)
-
-pub returns-in-V2-clause-only : goal.returns-in-V2-clause-only
-returns-in-V2-clause-only g c =
-    let car = c.args.self.now in
-    let section = c.read_section_at-read.new.section in
-    let took = c.read_section_at-read.ensures in
-    let at : car.offset + c.taken.result ≡ car.offset + length (taken_of section) = omega arith in
-    only_section car.limit car.offset car.end _ _ (taken_of section) (block_of section) c.within_payload.result took.consumed
-    (rw c.within_payload.ensures (
-    (version2_read car.limit car.offset car.start car.end (car.offset + c.taken.result) _ _ (taken_of section) (block_of section) c.read_section_at-read.result
-    took.read took.within (omega arith) (omega arith) at).0))
+pub returns-clause-only : goal.returns-clause-only
+returns-clause-only g c = λ block bytes rest known is few fits.
+    elim c.if-self.branch [
+      | then-self+then-self-2+in-Ok-false w ↦
+          let mid = known_kept _ _ (bytes ++ rest) w.is_next_zero.ensures.kept known in
+          let reader = ap (λ s. g.R.Read.remaining s.reader) w.self-is ∙ mid in
+          let limit = ap (λ s. s.limit) w.self-is in
+          let end = ap (λ s. s.end) w.self-is in
+          let offset = ap (λ s. s.offset) w.self-is in
+          c.read_unpadded.ensures.only block bytes rest reader is (omega arith) (omega arith)
+      | else-self w ↦
+          let reader = ap (λ s. g.R.Read.remaining s.reader) w.self-is ∙ known in
+          let limit = ap (λ s. s.limit) w.self-is in
+          let end = ap (λ s. s.end) w.self-is in
+          let offset = ap (λ s. s.offset) w.self-is in
+          c.read_unpadded.ensures.only block bytes rest reader is (omega arith) (omega arith)
+    ]
