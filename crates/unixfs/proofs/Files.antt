@@ -8,7 +8,8 @@ use Rattle.std.proofs.lemmas.Option.{same_Some}
 use Rattle.ipld_cid.specs.Cid.{Link}
 use Rattle.dag_pb.specs.Node.{LinkParts, NodeParts, IsNode}
 use Rattle.unixfs.specs.Data.{DataParts, IsData}
-use Rattle.unixfs.specs.Files.{Hashing, IsBlockOf, Collision, Child, whole, HasSize, IsParsed, children_of, IsFileOf, IsPart, Names, names, NamesAll, no_child, one_child, Walks, starts, takes}
+use Rattle.unixfs.specs.Nodes.{IsParsed}
+use Rattle.unixfs.specs.Files.{Hashing, IsBlockOf, Collision, Child, whole, HasSize, children_of, IsFileOf, IsPart, Names, names, NamesAll, no_child, one_child, Walks, starts, takes}
 
 -- ---- sizes
 

@@ -4,4 +4,5 @@ mod Values
 mod Times
 mod Messages
 mod Written
+mod Nodes
 mod Files

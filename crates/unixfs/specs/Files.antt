@@ -2,10 +2,11 @@
 -- from: a block is that of a CID if it has the CID's digest.
 use Rattle.std.specs.Prelude.{◌≡◌, ◌≢◌, ◌⊎◌, ◌+◌, ℕ, List, [], ◌∷◌, ◌++◌, length, sum, unwrap_or, Option, Some, None, IfSome}
 use Rattle.ipld_cid.specs.Cid.{Link}
-use Rattle.dag_pb.specs.Node.{LinkParts, NodeParts, IsNode}
+use Rattle.dag_pb.specs.Node.{LinkParts}
 use Rattle.unixfs.specs.declared.data.DataType.{DataType}
 use Rattle.unixfs.specs.declared.data.DataType.TheVariants.{Raw, Directory, File, Metadata, Symlink, HamtShard}
-use Rattle.unixfs.specs.Data.{DataParts, IsData}
+use Rattle.unixfs.specs.Data.{DataParts}
+use Rattle.unixfs.specs.Nodes.{IsParsed}
 
 -- hash functions: for the code of a function and some bytes the digest, or nothing if there is no
 -- function with this code
@@ -39,15 +40,6 @@ whole root = record { link = root; size = None }
 abbrev pub HasSize : Option ℕ → ℕ → Type 0
 HasSize None n = Unit {0}
 HasSize (Some size) n = size ≡ n
-
--- True if the block is a node of DAG-PB with these links, whose data are this message.
-pub record IsParsed (block : List ℕ) (links : List LinkParts) (parts : DataParts) : Type 0 where
-  pub node : NodeParts
-  pub message : List ℕ
-  pub is_node : IsNode node block
-  pub has_message : node.content ≡ Some message
-  pub is_data : IsData parts message
-  pub are_links : links ≡ node.links
 
 -- True if a node of this type is a file or a part of one.
 abbrev pub IsFileType : DataType → Type 0

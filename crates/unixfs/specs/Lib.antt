@@ -5,3 +5,4 @@ pub mod Reading
 pub mod Writing
 pub mod Files
 pub mod Views
+pub mod Nodes

@@ -19,6 +19,7 @@ mod data;
 mod encode_error;
 mod error;
 pub mod laws;
+mod node;
 mod reader;
 #[cfg(test)]
 mod tests;
@@ -28,5 +29,6 @@ mod writer;
 pub use data::{Data, DataType, UnixTime};
 pub use encode_error::UnixFsEncodeError;
 pub use error::{UnixFsError, UnixFsErrorKind};
+pub use node::{NodeError, UnixFsNode, read_unixfs};
 pub use reader::read_data;
 pub use writer::encode_data;
