@@ -1,0 +1,4 @@
+mod Totals
+mod Parts
+mod Children
+mod Walks

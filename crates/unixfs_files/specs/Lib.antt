@@ -1,0 +1,3 @@
+pub mod ErrorNames
+pub mod Parts
+pub mod Walking

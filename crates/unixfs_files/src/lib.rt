@@ -1,0 +1,30 @@
+//! Files of UnixFS, read out of blocks that nobody trusts: what comes out is what the root names.
+//!
+//! ```rust
+//! use unixfs_files::{FileLimits, FileWalk};
+//!
+//! // A walk says which block it wants next, and returns the bytes of the file in that block.
+//! let mut walk = FileWalk::new(alloc, root, &FileLimits::DEFAULT);
+//! while let Some(cid) = walk.wanted() {
+//!     let block = fetch(cid)?;
+//!     let bytes = walk.take(alloc, &block)?;
+//!     file.write_all(bytes)?;
+//! }
+//! ```
+//!
+//! Each block is verified before it is parsed. Each size that a block states is compared with the
+//! bytes that it stands for. [`write_file`] is this loop over a [`BlockStore`]. No call recurses.
+#![tactic(auto)]
+
+mod error;
+//L pub mod laws;
+mod part;
+mod state;
+//L mod store;
+//L cfg
+//L mod tests;
+mod walk;
+
+pub use error::PartError;
+//L pub use store::{BlockStore, FileError, FileErrorKind, write_file};
+pub use state::{FileLimits, FileWalk};

@@ -1,0 +1,58 @@
+//! The state of a walk over the blocks of a file, and its limits.
+
+ghost use Rattle.std.specs.Prelude.{◌≡◌, []};
+ghost use Rattle.std.specs.Option.{ForNone};
+
+use ipld_cid::Cid;
+
+/// What a walk over a file may take at most.
+#[derive(Clone, Copy, Debug, PartialEq, Eq)]
+pub struct FileLimits {
+    /// The number of bytes of the file.
+    pub bytes: u64,
+    /// The number of blocks. A block that is linked twice counts twice.
+    pub blocks: u64,
+    /// The number of blocks that wait to be read while another is read. A walk takes about 100
+    /// bytes of memory for each.
+    pub waiting: usize,
+    /// The number of levels of blocks below the root.
+    pub levels: usize,
+}
+
+impl FileLimits {
+    /// Any number of bytes and of blocks, 262,144 blocks that wait, and 64 levels.
+    ///
+    /// A file of 1 TiB in chunks of 256 KiB, with 174 links in a block, has four levels, and fewer
+    /// than 1,000 blocks wait.
+    pub const DEFAULT: FileLimits = FileLimits {
+        bytes: u64::MAX,
+        blocks: u64::MAX,
+        waiting: 1 << 18,
+        levels: 64,
+    };
+}
+
+// A block that waits to be read.
+#[derive(Clone, Copy)]
+pub(crate) struct WaitingPart {
+    pub(crate) cid: Cid,
+    // The number of bytes of the file that it stands for, if a block above it states it.
+    pub(crate) size: Option<u64>,
+    // The number of levels above it.
+    pub(crate) level: usize,
+}
+
+/// A walk over the blocks of a file, in the order of its bytes. It does no input and no output: it
+/// says which block it wants, and returns the bytes of the file in that block.
+///
+/// It keeps the CIDs of the blocks that it has yet to read, and nothing of those that it has read.
+#[derive(Drop)]
+pub struct FileWalk {
+    pub(crate) next: Option<WaitingPart>,
+    // The others, in reverse order.
+    pub(crate) waiting: Vec<WaitingPart>,
+    pub(crate) limits: FileLimits,
+    pub(crate) bytes_left: u64,
+    pub(crate) blocks_left: u64,
+    ghost ended: { ForNone next (waiting.items ≡ []) },
+}

@@ -1,0 +1,148 @@
+//! The steps of a walk over the blocks of a file.
+
+ghost use Rattle.std.specs.Prelude.{◌≡◌, ◌<◌, ◌^◌, ◌∷◌, ℕ, List, Option, [], length, map, reverse, None, IfOk, IfErr, OnErr, MatchResult, option_map};
+ghost use Rattle.ipld_cid.specs.LinkOf.{link_of};
+ghost use Rattle.ipld_block.specs.Digest.{digest_by};
+ghost use Rattle.dag_pb.specs.Views.{parts_of_link};
+ghost use Rattle.unixfs.specs.Files.{Child, whole, children_of, IsBlockOf};
+ghost use Rattle.unixfs_files.specs.Parts.{Part, part_of, IsPartIn};
+ghost use Rattle.unixfs_files.specs.Walking as walking;
+ghost use Rattle.unixfs_files.specs.Walking.{child_of, parts_left, remain_of, wanted_of, Takes, Counts, Stays, WalkFault};
+
+use crate::error::PartError;
+use crate::part::{FilePart, verified_part};
+use crate::state::{FileLimits, FileWalk, WaitingPart};
+use dag_pb::PbLink;
+use ipld_cid::Cid;
+use std::alloc::{AllocError, Global};
+
+// Returns the children of a part, in reverse order.
+fn reversed_children(
+    alloc: Global,
+    mut links: Vec<PbLink<'_>>,
+    mut sizes: Vec<u64>,
+    level: usize,
+) -> Result<Vec<WaitingPart>, AllocError>
+    requires { length links.items ≡ length sizes.items }
+    ensures { IfOk result (λ parts. map child_of (reverse parts.items)
+        ≡ children_of (map parts_of_link links.entry.items) sizes.items) }
+{
+    let mut parts = Vec::with_capacity(alloc, links.len())?;
+    while let Some(link) = links.pop() {
+        let part = WaitingPart {
+            cid: link.hash,
+            size: sizes.pop(),
+            level,
+        };
+        parts.push(part)?;
+    }
+    Ok(parts)
+}
+
+impl FileWalk {
+    /// Creates a walk over the file of this CID.
+    pub fn new(alloc: Global, root: &Cid, limits: &FileLimits) -> FileWalk
+        ensures begins { remain_of result ≡ whole (link_of root.now) ∷ [] }
+        ensures limits { (result.bytes_left ≡ limits.now.bytes)
+            × (result.blocks_left ≡ limits.now.blocks) }
+    {
+        FileWalk {
+            next: Some(WaitingPart {
+                cid: *root,
+                size: None,
+                level: 0,
+            }),
+            waiting: Vec::new(alloc),
+            limits: *limits,
+            bytes_left: limits.bytes,
+            blocks_left: limits.blocks,
+        }
+    }
+
+    /// Returns the CID of the block that the walk wants next, or `None` if it has taken the whole
+    /// file.
+    pub fn wanted(&self) -> Option<Cid>
+        ensures { option_map link_of result ≡ wanted_of (remain_of self.now) }
+    {
+        match self.next {
+            Some(next) => Some(next.cid),
+            None => None,
+        }
+    }
+
+    // Returns the first size or limit that a part of this size with this many children breaks, if it
+    // breaks one.
+    #[tactic(auto, unfolding(crate::specs::Walking::excess))]
+    fn excess(&self, next: &WaitingPart, size: u64, count: usize) -> Option<PartError>
+        ensures { result ≡ walking.excess self.now next.now size count }
+    {
+        match next.size {
+            Some(stated) if stated != size => return Some(PartError::PartSize),
+            _ => {}
+        }
+        if self.blocks_left == 0 {
+            return Some(PartError::TooManyBlocks);
+        }
+        if self.bytes_left < size {
+            return Some(PartError::TooLarge);
+        }
+        if count == 0 {
+            return None;
+        }
+        if next.level >= self.limits.levels {
+            return Some(PartError::TooDeep);
+        }
+        if self.limits.waiting.saturating_sub(self.waiting.len()) < count {
+            return Some(PartError::TooManyParts);
+        }
+        None
+    }
+
+    /// Takes the block of the CID that is wanted, and returns the bytes of the file in it.
+    ///
+    /// The block is verified, and each size that it states is compared with what it stands for,
+    /// before any bytes are returned. It allocates for the children of the block.
+    ///
+    /// # Errors
+    ///
+    /// The first [`PartError`] in the order of its variants, except that `Memory` may be any. The
+    /// walk is then as it was, and still wants this block.
+    pub fn take<'a>(&mut self, alloc: Global, block: &'a [u8]) -> Result<&'a [u8], PartError>
+        ensures takes { IfOk result (λ head. Takes (remain_of self.old) (remain_of self.new)
+            head.now) }
+        ensures counts { IfOk result (λ head. Counts self.old self.new head.now) }
+        ensures only { (next : WaitingPart) (others : List WaitingPart) (part : Part)
+            → parts_left self.old ≡ next ∷ others
+            → IsBlockOf digest_by (link_of next.cid) block.entry.now
+            → IsPartIn (link_of next.cid).codec block.entry.now part → part.size < 2 ^ 64
+            → walking.excess self.old next part.size (length part.children) ≡ None
+            → MatchResult result (λ head. head.now ≡ part.head)
+            (λ error. error ≡ PartError.Memory) }
+        ensures fault { IfErr result (WalkFault self.old block.entry.now) }
+        ensures stays { OnErr result (Stays self.old self.new) }
+    {
+        let Some(next) = self.next else {
+            return Err(PartError::NothingWanted);
+        };
+        let part = match verified_part(alloc, &next.cid, block) {
+            Ok(part) => part,
+            Err(error) => return Err(error),
+        };
+        if let Some(error) = self.excess(&next, part.size, part.links.len()) {
+            return Err(error);
+        }
+        let level = next.level.saturating_add(1);
+        let children = match reversed_children(alloc, part.links, part.sizes, level) {
+            Ok(children) => children,
+            Err(_) => return Err(PartError::Memory),
+        };
+        match self.waiting.extend_from_slice(&children) {
+            Ok(()) => {}
+            Err(_) => return Err(PartError::Memory),
+        }
+        self.next = self.waiting.pop();
+        self.bytes_left -= part.head.len() as u64;
+        self.blocks_left -= 1;
+        Ok(part.head)
+    }
+}
