@@ -2,3 +2,4 @@ mod Totals
 mod Parts
 mod Children
 mod Walks
+mod Storing

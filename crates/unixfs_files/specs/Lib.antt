@@ -1,3 +1,4 @@
 pub mod ErrorNames
 pub mod Parts
 pub mod Walking
+pub mod Storing

@@ -20,11 +20,11 @@ mod error;
 //L pub mod laws;
 mod part;
 mod state;
-//L mod store;
+mod store;
 //L cfg
 //L mod tests;
 mod walk;
 
 pub use error::PartError;
-//L pub use store::{BlockStore, FileError, FileErrorKind, write_file};
+pub use store::{BlockStore, FileError, FileErrorKind, write_file};
 pub use state::{FileLimits, FileWalk};
