@@ -5,7 +5,16 @@ import pathlib
 import re
 
 from .blocks import INLINE, LEAF, LOST, TOP
-from .formats import BLAKE2B_256, IDENTITY, SHA2_256, SHA2_512, Cid, digest_by, hash_of
+from .formats import (
+    BLAKE2B_256,
+    IDENTITY,
+    SHA2_256,
+    SHA2_512,
+    Cid,
+    digest_by,
+    hash_of,
+    varint,
+)
 
 CARS = pathlib.Path(__file__).resolve().parents[2] / "crates" / "test_rows" / "cars.py"
 # The limit of a section and a header without --limit.
@@ -26,10 +35,9 @@ HEADER_ERRORS = {
     "Empty": "not a CAR: the header length is zero",
     "TooLong": r"the CAR header is .* bytes, over the limit \(raise it with --limit\),",
 }
-# The header of a CAR with one root, whose CID has 36 bytes, before and after it.
-HEADER_FRONT = b"\xa2\x65roots\x81\xd8\x2a\x58\x25\0"
+# The header of a CAR with one root, before the length of the root and after the root.
+HEADER_FRONT = b"\xa2\x65roots\x81\xd8\x2a\x58"
 HEADER_END = b"\x67version\x01"
-CID_SIZE = 36
 COMPUTED = (IDENTITY, SHA2_256, SHA2_512, BLAKE2B_256)
 # The links of the blocks of CAR, and of the CIDs that contain a block.
 LINKS = {TOP.cid: [LEAF.cid, LOST.cid, INLINE.cid], INLINE.cid: [LOST.cid]}
@@ -48,12 +56,10 @@ reader = load_reader()
 
 def is_header(data):
     """Returns whether bytes are a header with one root."""
-    root = data[len(HEADER_FRONT) : -len(HEADER_END)]
-    return (
-        data == HEADER_FRONT + root + HEADER_END
-        and len(root) == CID_SIZE
-        and reader.cid_end(root, 0) == CID_SIZE
-    )
+    root = data[len(HEADER_FRONT) + 2 : -len(HEADER_END)]
+    return data == HEADER_FRONT + varint(
+        len(root) + 1
+    ) + b"\0" + root + HEADER_END and reader.cid_end(root, 0) == len(root)
 
 
 def read(data):
