@@ -62,6 +62,17 @@ def is_header(data):
     ) + b"\0" + root + HEADER_END and reader.cid_end(root, 0) == len(root)
 
 
+def root_of(data):
+    """Returns the root of a CAR of version 1, or None if its header isn't one with one root."""
+    try:
+        start, end = reader.framed(data, 0, reader.NO_END, LIMIT)
+    except reader.Fault:
+        return None
+    if not is_header(data[start:end]):
+        return None
+    return Cid(data[start + len(HEADER_FRONT) + 2 : end - len(HEADER_END)])
+
+
 def read(data):
     """
     Returns the offset, the CID and the bytes of each block of a CAR of version 1, and the pattern

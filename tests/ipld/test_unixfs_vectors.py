@@ -6,17 +6,14 @@ and the well-known ones of empty files and folders.
 
 import unittest
 
-from .formats import DAG_CBOR, DAG_PB, JSON, IDENTITY, RAW, Block, cid_of, pb, pb_link
+from .bad_unixfs import BAD_FILES, BAD_FOLDERS, SHORT, A, B, file_node
+from .formats import DAG_CBOR, DAG_PB, IDENTITY, JSON, RAW, Block, cid_of, pb, pb_link
 from .random_unixfs import File, Folder, Source, Symlink
 from .unixfs import (
     DEFAULT,
-    DIRECTORY,
-    FANOUT,
     FILE,
-    MURMUR3,
     RAW_DATA,
     RAW_LEAVES,
-    SHARD,
     Profile,
     blocks_of,
     car_of,
@@ -25,10 +22,7 @@ from .unixfs import (
     folder,
     leaf,
     murmur3,
-    node,
-    number_field,
     parent,
-    raw_leaf,
     shard,
     symlink,
 )
@@ -201,75 +195,6 @@ class RandomTest(ReaderTest):
                     blocks = {**dict(blocks_of(root)), it.cid: data}
                     with self.subTest(number=number, kind=kind, cid=str(it.cid)):
                         self.check_fault(Reader(blocks).file, root.cid, kind, it.cid)
-
-
-def file_node(parts, sizes, content=None, filesize=None):
-    """Returns a node of a file whose message has any sizes."""
-    message = data_message(FILE, content, filesize, sizes)
-    return node(1, message, [(b"", it) for it in parts])
-
-
-A, B = raw_leaf(b"aa"), raw_leaf(b"bbb")
-LYING = file_node([A, B], [2, 3], filesize=6)
-SHORT = file_node([A], [3], filesize=3)
-
-# Nodes that are not parts of a file, with the kind of the fault.
-BAD_FILES = [
-    ("SizeCount", file_node([A, B], [2], filesize=2)),
-    ("SizeCount", file_node([A], [2, 0], filesize=2)),
-    ("Filesize", LYING),
-    ("Filesize", file_node([], [], b"aa", 1)),
-    ("Size", file_node([A, A], [2**63, 2**63])),
-    ("NotAFile", folder({})),
-    ("NotAFile", symlink(b"a")),
-    ("NoData", node(1, None, [(b"", A)])),
-    ("Type", node(1, number_field(1, 6))),
-    ("Type", node(1, b"")),
-    ("Mode", node(1, data_message(FILE, mode=2**32))),
-    ("Time", node(1, data_message(FILE, mtime=(0, 10**9)))),
-    ("FieldOrder", node(1, data_message(FILE, b"a") + number_field(1, FILE))),
-    ("FieldOrder", node(1, number_field(3, 0) + number_field(1, FILE))),
-    ("FieldOrder", node(1, data_message(FILE, filesize=0) + number_field(3, 0))),
-    ("UnknownField", node(1, data_message(FILE) + number_field(9, 0))),
-    ("UnknownField", node(1, number_field(1, FILE) + b"\x22\x01\x01")),
-    ("End", node(1, data_message(FILE, b"ab")[:-1])),
-    ("Varint", node(1, b"\x08" + b"\x80" * 10)),
-]
-
-
-def shard_node(slots, field, **more):
-    """Returns a shard whose links and message may be wrong."""
-    message = data_message(SHARD, field, **{"hash_type": MURMUR3, "fanout": FANOUT, **more})
-    return node(1, message, [(name, A) for name in slots])
-
-
-# A name, and the slot to which its hash leads, whose digits have letters.
-NAME = b"non_sharded_dir"
-SLOT = murmur3(NAME)[0]
-LABEL = b"%02X" % SLOT + NAME
-FIELD = (1 << SLOT).to_bytes(SLOT // 8 + 1, "big")
-BAD_FOLDERS = [
-    ("NotAFolder", file_of(b"a")),
-    ("NotAFolder", symlink(b"a")),
-    *(
-        ("InvalidName", node(1, data_message(DIRECTORY), [(it, A)]))
-        for it in (b"", b".", b"..", b"a/b", b"a\0")
-    ),
-    ("NameOrder", node(1, data_message(DIRECTORY), [(b"b", A), (b"a", A)])),
-    ("NameOrder", node(1, data_message(DIRECTORY), [(b"a", A), (b"a", B)])),
-    ("Utf8", node(1, data_message(DIRECTORY), [(b"\xff", A)])),
-    ("ShardKind", shard_node([LABEL], FIELD, hash_type=0x23)),
-    ("ShardKind", shard_node([LABEL], FIELD, fanout=16)),
-    ("ShardKind", shard_node([LABEL], FIELD, fanout=None)),
-    ("BitField", shard_node([LABEL], FIELD + b"\0")),
-    ("BitField", shard_node([LABEL], b"\0" + FIELD)),
-    ("BitField", shard_node([LABEL], None)),
-    ("Slot", shard_node([LABEL, LABEL], FIELD)),
-    ("Slot", shard_node([LABEL.lower()], FIELD)),
-    ("Slot", shard_node([b"5"], FIELD)),
-    ("WrongSlot", shard_node([b"%02X" % (SLOT ^ 1) + NAME], FIELD)),
-    ("InvalidName", shard_node([LABEL[:2] + b".."], FIELD)),
-]
 
 
 class FaultTest(ReaderTest):
