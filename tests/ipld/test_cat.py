@@ -3,6 +3,7 @@
 import itertools
 import random
 
+from ..gateway import Answer, Lie
 from . import damaged
 from .bad_unixfs import BAD_FILES, SHORT, A, B, file_node
 from .blocks import HELLO, LEAF
@@ -46,6 +47,9 @@ INSIDE = folder({b"many": MANY, b"tall": TALL, 'é "ü\\'.encode(): file_of(b"od
 ROOT = folder({b"in": INSIDE, b"link": symlink(b"in/tall"), b"file": SAME}, 1)
 # How long a chain of nodes with one link is, and how often a block repeats in a huge file.
 LONG, DOUBLINGS = 3000, 50
+
+# What a gateway is asked for.
+GATEWAY_PATHS = [("/in/tall", CONTENT[:33]), ("/in/many/7", b"file 7"), ("/file", bytes(40))]
 
 
 def sizes_of(width):
@@ -222,6 +226,45 @@ class StandardInputTest(CatTest):
                 run = self.run_program(["cat", "-", str(TALL.cid)], input=data[:end])
                 self.assertEqual(run.status, CHECK_FAILED)
                 self.assertTrue(CONTENT[:33].startswith(run.out))
+
+
+class GatewayTest(CatTest):
+    """Tests of the CARs that a gateway sends, on standard input."""
+
+    def body(self, path, options, lie):
+        target = f"/ipfs/{ROOT.cid}{path}?format=car{options}"
+        return b"".join(Answer(dict(blocks_of(ROOT)), target, "").body(lie))
+
+    def read(self, body, path):
+        """Returns the bytes of the file at a path, as the reader finds them, or None."""
+        blocks = {}
+        for _, cid, data in damaged.read(body)[0]:
+            blocks.setdefault(cid, data)
+        try:
+            reader = Reader(blocks)
+            return reader.file(reader.at(ROOT.cid, [it.encode() for it in path.split("/")[1:]]))
+        except Fault:
+            return None
+
+    def test_an_honest_gateway(self):
+        for path, content in GATEWAY_PATHS:
+            for options in "", "&dups=y", "&dag-scope=entity", "&entity-bytes=0:*":
+                with self.subTest(path=path, options=options):
+                    body = self.body(path, options, None)
+                    self.check_content(["-", f"{ROOT.cid}{path}"], content, input=body)
+
+    def test_a_lying_gateway(self):
+        """No lie makes the program write other bytes than those of the file."""
+        for lie in set(Lie) - {Lie.ENDLESS, Lie.REDIRECT}:
+            for path, content in GATEWAY_PATHS:
+                for options in "", "&dups=y":
+                    body = self.body(path, options, lie)
+                    run = self.run_program(["cat", "-", f"{ROOT.cid}{path}"], input=body)
+                    with self.subTest(lie=lie, path=path, options=options):
+                        self.assertTrue(content.startswith(run.out), run.out)
+                        self.assertIn(run.status, (DONE, CHECK_FAILED))
+                        if run.status == DONE:
+                            self.assertEqual((run.out, self.read(body, path)), (content, content))
 
 
 class FaultTest(CatTest):
