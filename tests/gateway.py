@@ -150,16 +150,20 @@ class Answer:
             raise Refused(404, str(fault)) from fault
 
     def content_type(self, accept):
-        """Returns the type of the answer, and keeps the parameters of Accept as options."""
+        """
+        Returns the type of the answer. The option `format` is preferred to Accept, whose parameters
+        become options if its type is the same.
+        """
+        wanted = list(TYPES.values())
         if "format" in self.options:
-            return TYPES.get(self.options["format"])
+            wanted = [TYPES.get(self.options["format"])]
         for each in accept.split(","):
             name, *parameters = (it.strip() for it in each.split(";"))
-            if name in TYPES.values():
+            if name in wanted:
                 pairs = (it.partition("=") for it in parameters)
                 self.options = {**{key: value for key, _, value in pairs}, **self.options}
                 return name
-        return None
+        return wanted[0] if "format" in self.options else None
 
     def of_car(self, before):
         """Returns the CIDs of the blocks of a CAR."""
@@ -245,6 +249,11 @@ def foreign_sections():
 class Handler(http.server.BaseHTTPRequestHandler):
     protocol_version = "HTTP/1.1"
 
+    def handle(self):
+        # A client may close the connection before the end of the body.
+        with contextlib.suppress(ConnectionError):
+            super().handle()
+
     def do_GET(self):
         self.answer(True)
 
@@ -276,10 +285,8 @@ class Handler(http.server.BaseHTTPRequestHandler):
             body = [b"".join(body)]
             self.send_header("Content-Length", str(len(body[0])))
         self.end_headers()
-        # A client may close the connection before the end of the body.
-        with contextlib.suppress(ConnectionError):
-            for piece in body if with_body else []:
-                self.wfile.write(piece)
+        for piece in body if with_body else []:
+            self.wfile.write(piece)
 
     def log_message(self, *_):
         pass

@@ -137,6 +137,8 @@ class HonestTest(GatewayTest):
         self.assertEqual(get(url, f"text/html, {CAR_TYPE}; version=1")[0], car_of(SAME))
         self.assertEqual(get(url, f"{CAR_TYPE};order=dfs;dups=y")[0], car_of(SAME, repeats=True))
         self.assertEqual(get(url + "?format=raw", CAR_TYPE)[0], SAME.block.data)
+        repeats = get(url + "?format=car", f"{CAR_TYPE}; dups=y")[0]
+        self.assertEqual(repeats, car_of(SAME, repeats=True))
 
     def test_errors(self):
         url_of = self.gateway.url_of
