@@ -7,7 +7,19 @@ from ..gateway import Answer, Lie
 from . import damaged
 from .bad_unixfs import BAD_FILES, SHORT, A, B, file_node
 from .blocks import HELLO, LEAF
-from .formats import DAG_PB, IDENTITY, RAW, Block, block, car, cid_of, pb, pb_link
+from .formats import (
+    DAG_PB,
+    IDENTITY,
+    RAW,
+    Block,
+    block,
+    car,
+    car_indexed,
+    car_v2,
+    cid_of,
+    pb,
+    pb_link,
+)
 from .program import ProgramTest
 from .random_unixfs import Source
 from .rows import CHECK_FAILED, DONE, ERROR, Row
@@ -192,6 +204,13 @@ class ContentTest(CatTest):
                 self.check_content(["some.car", f"{ROOT.cid}{path}"], content)
         self.check_content(["some.car", f"{INSIDE.cid}/tall"], CONTENT[:33])
         self.check_content(["some.car", f"{MANY.cid}/7"], b"file 7")
+
+    def test_version_2(self):
+        whole = car_indexed([TALL.cid], blocks_of(TALL))
+        for data in whole, car_v2(car_of(TALL)), car_v2(car_of(TALL, repeats=True)):
+            self.write(data)
+            self.check_content(["some.car"], CONTENT[:33])
+            self.check_content(["some.car", TALL.cid], CONTENT[:33])
 
     def test_a_path_needs_only_its_blocks(self):
         needed = [ROOT, INSIDE, TALL]

@@ -51,7 +51,7 @@ def content_field(field, content):
 
 
 def time_message(seconds, nanoseconds=0):
-    """Returns the message `UnixTime` of a time, which is before 1970 if the seconds are negative."""
+    """Returns the message `UnixTime` of a time. It is before 1970 if the seconds are negative."""
     message = number_field(1, seconds % 2**64)
     return message + b"\x15" + struct.pack("<I", nanoseconds) if nanoseconds else message
 

@@ -211,7 +211,7 @@ def read_node(data):
 
 
 class Reader:
-    """Reads files and folders from blocks, which a dict has by CID. Each method may raise `Fault`."""
+    """Reads files and folders from a dict of blocks by CID. Each method may raise `Fault`."""
 
     def __init__(self, blocks):
         self.blocks = blocks

@@ -2,9 +2,9 @@
 //
 // usage: node fetch_file.js GATEWAY CID FILE     such as https://trustless-gateway.link as GATEWAY
 //
-// The gateway has to send the blocks in the order of a walk, each as often as the file has it, so the
-// program keeps only one block in memory. If another block comes, or none, the status is 1, and FILE
-// has the bytes before it. FILE must not exist.
+// The gateway has to send the blocks in the order of a walk, each as often as the file has it. So the
+// program keeps only one block in memory. If another block comes or the blocks end, the status is 1,
+// and FILE has the bytes before it. FILE must not exist.
 import { open } from 'node:fs/promises'
 // [begin: fetch]
 import { CID, CarBlockIterator, dagPb, verify } from 'kombilad'

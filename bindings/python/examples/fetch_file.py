@@ -2,9 +2,9 @@
 
 usage: fetch_file.py GATEWAY CID FILE     such as fetch_file.py https://trustless-gateway.link CID FILE
 
-The gateway has to send the blocks in the order of a walk, each as often as the file has it, so the
-program keeps only one block in memory. If another block comes, or none, the status is 1, and FILE
-has the bytes before it. FILE must not exist.
+The gateway has to send the blocks in the order of a walk, each as often as the file has it. So the
+program keeps only one block in memory. If another block comes or the blocks end, the status is 1,
+and FILE has the bytes before it. FILE must not exist.
 """
 
 import sys
