@@ -1,0 +1,10 @@
+mod Choices
+mod Slots
+mod Loops
+mod Parsing
+mod Searching
+mod Visiting
+mod Listings
+mod Differing
+mod Answering
+mod Bits

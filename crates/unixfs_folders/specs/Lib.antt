@@ -1,0 +1,13 @@
+pub mod Names
+pub mod Folders
+pub mod Reading
+pub mod Views
+pub mod Faults
+pub mod Sayings
+pub mod SayingOf
+pub mod Lookups
+pub mod Listing
+pub mod Paths
+pub mod Walks
+pub mod Laws
+pub mod ErrorNames
