@@ -9,6 +9,7 @@ import tempfile
 from .formats import DAG_PB, block, car, cbor, dag_cbor, pb, pb_link, raw
 from .program import SECONDS_FOR_A_RUN, ProgramTest
 from .rows import DONE, Row
+from .unixfs import RAW_LEAVES, car_of, file_of, folder
 
 PAGE_EXAMPLES = pathlib.Path(__file__).resolve().parents[2] / ".ci" / "examples.py"
 COMMANDS = (
@@ -17,6 +18,8 @@ COMMANDS = (
     "links",
     "check",
     "cid",
+    "cat",
+    "ls",
     "car",
     "car list",
     "car inspect",
@@ -40,6 +43,10 @@ PHOTO = dag_cbor({"name": "photo", "size": 42})
 ALBUM = dag_cbor({"photos": [PHOTO.cid], "title": "Cats"})
 NOTES = raw(b"Hello, world\n")
 FOLDER = block(DAG_PB, pb([pb_link(NOTES.cid, b"notes.txt", len(NOTES.data))], b"\x08\x01"))
+PICTURES = folder({b"0.txt": file_of(b"A cat on a mat.\n", RAW_LEAVES)}, 1)
+SITE = folder(
+    {b"about.txt": file_of(b"Cats, and their pictures.\n", RAW_LEAVES), b"pictures": PICTURES}, 1
+)
 FILES = {
     "photo.cbor": PHOTO.data,
     "cat.cbor": cbor({"name": "cat"}),
@@ -49,6 +56,7 @@ FILES = {
     "folder.pb": FOLDER.data,
     "album.car": car([ALBUM.cid], [ALBUM, PHOTO]),
     "part.car": car([ALBUM.cid], [ALBUM]),
+    "site.car": car_of(SITE),
 }
 
 

@@ -3,7 +3,8 @@
 mod commands;
 
 use crate::command_line::commands::{
-    ABOUT, BLOCK_COMMANDS, CAR, CAR_CHECKS, CAR_COPIES, CAR_LISTINGS, CREATE, ENCODE, WORDS,
+    ABOUT, BLOCK_COMMANDS, CAR, CAR_CHECKS, CAR_COPIES, CAR_LISTINGS, CREATE, ENCODE, FILE_COMMANDS,
+    WORDS,
 };
 use clap::{Arg, ArgAction, Command};
 use std::alloc::{AllocError, Global};
@@ -49,6 +50,8 @@ enum Kind {
     Codec(&'static [&'static str]),
     // A word that is required.
     Word(&'static str),
+    // A word that may be left out.
+    OptionalWord(&'static str),
     // One or more words.
     Words(&'static [&'static str]),
     // One or more words, which may be left out if the argument of this name is given.
@@ -90,6 +93,7 @@ fn argument_of_kind<'a>(alloc: Global, argument: &Argument) -> Result<Arg<'a>, A
         Kind::Word(value) => Arg::new(alloc, argument.name)
             .value_name(value)
             .required(true),
+        Kind::OptionalWord(value) => Arg::new(alloc, argument.name).value_name(value),
         Kind::Words(values) => Arg::new(alloc, argument.name)
             .value_names(values)
             .required(true)
@@ -191,12 +195,17 @@ fn block_commands<'a>(alloc: Global) -> Result<Command<'a>, AllocError> {
     with_commands(alloc, program_command(alloc)?, BLOCK_COMMANDS)
 }
 
-// Creates the program, with the commands on blocks and CARs.
+// Creates the program, with the commands on blocks, files and folders.
 fn file_commands<'a>(alloc: Global) -> Result<Command<'a>, AllocError> {
-    block_commands(alloc)?.subcommand(car_command(alloc)?)
+    with_commands(alloc, block_commands(alloc)?, FILE_COMMANDS)
+}
+
+// Creates the program, with the commands on blocks, files, folders and CARs.
+fn car_commands<'a>(alloc: Global) -> Result<Command<'a>, AllocError> {
+    file_commands(alloc)?.subcommand(car_command(alloc)?)
 }
 
 /// Creates the command line of `ipld`.
 pub fn command<'a>(alloc: Global) -> Result<Command<'a>, AllocError> {
-    file_commands(alloc)?.subcommand(command_of(alloc, &ENCODE)?)
+    car_commands(alloc)?.subcommand(command_of(alloc, &ENCODE)?)
 }

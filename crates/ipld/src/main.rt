@@ -5,6 +5,8 @@ mod arguments;
 mod block_commands;
 mod car_commands;
 mod command_line;
+mod file_commands;
+mod paths;
 
 ghost use Rattle.std.specs.Prelude.{◌≡◌};
 ghost use Rattle.std.specs.Process.{exit_status};
@@ -12,6 +14,7 @@ ghost use Rattle.ipld_cli.specs.Status.{status_of};
 
 use crate::block_commands::{run_check, run_cid, run_encode, run_links, run_show};
 use crate::car_commands::run_car;
+use crate::file_commands::{run_cat, run_ls};
 use clap::ArgMatches;
 use ipld_cli::{Outcome, complain};
 use std::io::ErrorKind;
@@ -78,6 +81,8 @@ fn run_command(rt: &HostRuntime, name: &str, matches: &ArgMatches<'_>) -> Outcom
         "links" => run_links(rt, matches),
         "check" => run_check(rt, matches),
         "cid" => run_cid(rt, matches),
+        "cat" => run_cat(rt, matches),
+        "ls" => run_ls(rt, matches),
         "car" => run_car(rt, matches),
         "encode" => run_encode(rt, matches),
         _ => Outcome::Failed,

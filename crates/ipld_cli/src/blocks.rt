@@ -2,9 +2,9 @@
 
 use crate::bytes::{Bytes, BytesAt};
 use crate::car_options::CarOptions;
-use crate::complaints::{complain, report_car_error};
+use crate::complaints::{complain, report_car_error, report_unreadable};
 use crate::files::{is_file, read_file};
-use crate::input::BUFFER;
+use crate::input::{BUFFER, open_car_bytes};
 use crate::limits::MOST_SECTIONS;
 use crate::messages::{NamedCid, Outcome};
 use car_files::CarFileError;
@@ -129,6 +129,27 @@ pub fn open_blocks<'a>(
         Err(NoBlocks::NoCar(Bytes::Memory(bytes))) => Ok(Opened::Block(bytes)),
         Err(NoBlocks::NoCar(Bytes::File(_))) => open_as_block(rt, file),
         Err(NoBlocks::Failed(error)) => Err(error),
+    }
+}
+
+/// Opens a regular file as a CAR. Reports the error if it can't be read or doesn't begin with a CAR
+/// header.
+pub fn open_car_blocks<'a>(
+    rt: &'a HostRuntime,
+    file: &'a str,
+    options: CarOptions,
+) -> Result<Blocks<'a>, Outcome> {
+    let bytes = match bytes_of(rt, file) {
+        Ok(bytes) => bytes,
+        Err(error) => return Err(report_unreadable(rt, file, &error)),
+    };
+    match blocks_of(rt, file, bytes, options) {
+        Ok(blocks) => Ok(blocks),
+        Err(NoBlocks::NoCar(bytes)) => match open_car_bytes(rt, file, &bytes, options) {
+            Ok(_) => Err(Outcome::Failed),
+            Err(outcome) => Err(outcome),
+        },
+        Err(NoBlocks::Failed(error)) => Err(report_unreadable(rt, file, &error)),
     }
 }
 

@@ -159,3 +159,25 @@ pub fn write_cid_object<W: Write>(
     write_line(object, writer)?;
     Ok(())
 }
+
+/// Writes an entry of a folder: its path, its CID, its type, and the size of a file.
+pub fn write_entry<W: Write>(
+    alloc: Global,
+    path: &str,
+    cid: &Cid,
+    kind: &str,
+    size: Option<u64>,
+    writer: &mut W,
+) -> io::Result<()> {
+    let mut object = Writer::new(Vec::new(alloc));
+    object.begin_object()?;
+    add_string(&mut object, "name", path)?;
+    add_string(&mut object, "cid", &usual_text(alloc, cid)?)?;
+    add_string(&mut object, "type", kind)?;
+    if let Some(size) = size {
+        object.key("size")?;
+        object.u64(size)?;
+    }
+    write_line(object, writer)?;
+    Ok(())
+}

@@ -13,7 +13,7 @@ use Rattle.unixfs.specs.declared.node.NodeError.{NodeError}
 use Rattle.unixfs.specs.declared.node.NodeError.TheVariants.{Block, NoData, Message}
 use Rattle.unixfs.specs.Nodes.{node_sentence}
 use Rattle.unixfs_files.specs.declared.error.PartError.{PartError}
-use Rattle.unixfs_files.specs.declared.error.PartError.TheVariants.{Memory, Digest, Codec, Node, NotAFile, SizeCount, FileSize, PartSize, TooLarge, TooManyBlocks, TooDeep, TooManyParts, NothingWanted}
+use Rattle.unixfs_files.specs.declared.error.PartError.TheVariants.{Memory, Verify, Codec, Node, NotFile, SizeCount, FileSize, PartSize, TooLarge, TooManyBlocks, TooDeep, TooManyParts, Finished}
 
 -- the error of a block whose node has an error of this kind
 abbrev pub of_pb_kind : PbErrorKind → NodeError → PartError
@@ -57,10 +57,10 @@ type_sentence HamtShard = codes "a folder, not a file"
 -- the sentence of an error
 abbrev pub sentence_of : PartError → List ℕ
 sentence_of Memory = codes "out of memory"
-sentence_of (Digest error) = verifying.sentence_of error
+sentence_of (Verify error) = verifying.sentence_of error
 sentence_of (Codec code) = codes "neither raw nor dag-pb, but of the codec with the code " ++ decimal code
 sentence_of (Node error) = node_sentence error
-sentence_of (NotAFile data_type) = type_sentence data_type
+sentence_of (NotFile data_type) = type_sentence data_type
 sentence_of SizeCount = codes "the number of sizes in the node is not that of its links"
 sentence_of FileSize = codes "the size in the node is not that of its bytes and its links"
 sentence_of PartSize = codes "the block has another size than the block above it states"
@@ -68,4 +68,4 @@ sentence_of TooLarge = codes "the file has more bytes than the limit"
 sentence_of TooManyBlocks = codes "the file has more blocks than the limit"
 sentence_of TooDeep = codes "the blocks of the file nest deeper than the limit"
 sentence_of TooManyParts = codes "more blocks of the file wait to be read than the limit"
-sentence_of NothingWanted = codes "all blocks of the file have been read"
+sentence_of Finished = codes "all blocks of the file have been read"

@@ -12,7 +12,7 @@ use Rattle.unixfs.specs.Data.{DataParts}
 use Rattle.unixfs.specs.Files.{Child, IsBlockOf, IsFileOf, children_of}
 use Rattle.unixfs.specs.Nodes.{UnixFsParts, IsParsed, read_unixfs}
 use Rattle.unixfs_files.specs.declared.error.PartError.{PartError}
-use Rattle.unixfs_files.specs.declared.error.PartError.TheVariants.{Memory, Digest, Codec, NotAFile, SizeCount, FileSize, TooLarge}
+use Rattle.unixfs_files.specs.declared.error.PartError.TheVariants.{Memory, Verify, Codec, NotFile, SizeCount, FileSize, TooLarge}
 use Rattle.unixfs_files.specs.declared.part.FilePart.{FilePart}
 use Rattle.unixfs_files.specs.ErrorNames.{kind_of_node}
 
@@ -67,7 +67,7 @@ part_in u =
           else Err FileSize)
         else Err TooLarge)
       else Err SizeCount)
-    else Err (NotAFile u.message.data_type)
+    else Err (NotFile u.message.data_type)
 
 -- the part of a file in a block of this codec, or the first reason why it is none
 unfoldable pub read_part : (codec : ℕ) → List ℕ → Result Part PartError
@@ -79,5 +79,5 @@ read_part codec block =
 -- True if the block of the CID is no part of a file for this reason. The block is verified first.
 pub data PartFault (link : Link) (block : List ℕ) (error : PartError) : Type 0 where
   no_memory : error ≡ Memory → PartFault link block error
-  unverified : (reason : VerifyError) → error ≡ Digest reason → IsVerifyError link block reason → PartFault link block error
+  unverified : (reason : VerifyError) → error ≡ Verify reason → IsVerifyError link block reason → PartFault link block error
   no_part : IsBlockOf digest_by link block → read_part link.codec block ≡ Err error → PartFault link block error

@@ -5,7 +5,7 @@ use Rattle.ipld_cid.specs.LinkOf.{link_of}
 use Rattle.ipld_block.specs.Digest.{digest_by}
 use Rattle.unixfs.specs.Files.{Child, HasSize, IsBlockOf, IsPart}
 use Rattle.unixfs_files.specs.declared.error.PartError.{PartError}
-use Rattle.unixfs_files.specs.declared.error.PartError.TheVariants.{PartSize, TooLarge, TooManyBlocks, TooDeep, TooManyParts, NothingWanted}
+use Rattle.unixfs_files.specs.declared.error.PartError.TheVariants.{PartSize, TooLarge, TooManyBlocks, TooDeep, TooManyParts, Finished}
 use Rattle.unixfs_files.specs.declared.state.FileWalk.{FileWalk}
 use Rattle.unixfs_files.specs.declared.state.WaitingPart.{WaitingPart}
 use Rattle.unixfs_files.specs.Parts.{Part, agrees, read_part, PartFault}
@@ -63,7 +63,7 @@ excess walk next size count =
 
 -- True if a walk does not take a block for this reason.
 pub data WalkFault (walk : FileWalk) (block : List ℕ) (error : PartError) : Type 0 where
-  at_end : remain_of walk ≡ [] → error ≡ NothingWanted → WalkFault walk block error
+  at_end : remain_of walk ≡ [] → error ≡ Finished → WalkFault walk block error
   at_part : (next : WaitingPart) (others : List WaitingPart) → parts_left walk ≡ next ∷ others → PartFault (link_of next.cid) block error → WalkFault walk block error
   at_limit : (next : WaitingPart) (others : List WaitingPart) (part : Part) → parts_left walk ≡ next ∷ others → IsBlockOf digest_by (link_of next.cid) block
       → read_part (link_of next.cid).codec block ≡ Ok part → excess walk next part.size (length part.children) ≡ Some error → WalkFault walk block error

@@ -18,13 +18,13 @@ pub enum PartError {
     /// An allocation failed.
     Memory,
     /// The block isn't known to be that of the CID.
-    Digest(VerifyError),
+    Verify(VerifyError),
     /// The codec of the CID has this code, which is neither `raw` nor `dag-pb`.
     Codec(u64),
     /// The block isn't a node of UnixFS.
     Node(NodeError),
     /// The node has this type, which is neither a file nor a part of one.
-    NotAFile(DataType),
+    NotFile(DataType),
     /// The number of sizes in the node isn't that of its links.
     SizeCount,
     /// The size of the file in the node isn't that of its bytes and its links.
@@ -40,7 +40,7 @@ pub enum PartError {
     /// More blocks of the file wait to be read than the limit.
     TooManyParts,
     /// The walk has taken all blocks of the file.
-    NothingWanted,
+    Finished,
 }
 
 impl fmt::Display for PartError {
@@ -54,7 +54,7 @@ impl fmt::Display for PartError {
     fn fmt<W: fmt::Write>(&self, f: &mut fmt::Formatter<W>) -> fmt::Result {
         f.write_str(match self {
             PartError::Memory => "out of memory",
-            PartError::Digest(error) => return error.fmt(f),
+            PartError::Verify(error) => return error.fmt(f),
             PartError::Codec(code) => {
                 return write_number(
                     f,
@@ -63,7 +63,7 @@ impl fmt::Display for PartError {
                 );
             }
             PartError::Node(error) => return error.fmt(f),
-            PartError::NotAFile(data_type) => return f.write_str(sentence_of_type(*data_type)),
+            PartError::NotFile(data_type) => return f.write_str(sentence_of_type(*data_type)),
             PartError::SizeCount => "the number of sizes in the node is not that of its links",
             PartError::FileSize => "the size in the node is not that of its bytes and its links",
             PartError::PartSize => "the block has another size than the block above it states",
@@ -71,7 +71,7 @@ impl fmt::Display for PartError {
             PartError::TooManyBlocks => "the file has more blocks than the limit",
             PartError::TooDeep => "the blocks of the file nest deeper than the limit",
             PartError::TooManyParts => "more blocks of the file wait to be read than the limit",
-            PartError::NothingWanted => "all blocks of the file have been read",
+            PartError::Finished => "all blocks of the file have been read",
         })
     }
 }

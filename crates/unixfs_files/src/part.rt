@@ -54,7 +54,7 @@ fn part_in<'a>(node: UnixFsNode<'a>) -> Result<FilePart<'a>, PartError>
 {
     match node.data.data_type {
         DataType::Raw | DataType::File => {}
-        other => return Err(PartError::NotAFile(other)),
+        other => return Err(PartError::NotFile(other)),
     }
     if node.links.len() != node.data.blocksizes.len() {
         return Err(PartError::SizeCount);
@@ -120,6 +120,6 @@ pub(crate) fn verified_part<'a>(
 {
     match verify(cid, block) {
         Ok(()) => read_part(alloc, cid.codec(), block),
-        Err(error) => Err(PartError::Digest(error)),
+        Err(error) => Err(PartError::Verify(error)),
     }
 }

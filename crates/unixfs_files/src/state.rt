@@ -20,13 +20,13 @@ pub struct FileLimits {
 }
 
 impl FileLimits {
-    /// Any number of bytes and of blocks, 262,144 blocks that wait, and 64 levels.
+    /// Any number of bytes, 16,777,216 blocks, 262,144 blocks that wait, and 64 levels.
     ///
-    /// A file of 1 TiB in chunks of 256 KiB, with 174 links in a block, has four levels, and fewer
-    /// than 1,000 blocks wait.
+    /// A file of 1 TiB in chunks of 256 KiB, with 174 links in a block, has some 4,200,000 blocks in
+    /// four levels, and fewer than 1,000 of them wait.
     pub const DEFAULT: FileLimits = FileLimits {
         bytes: u64::MAX,
-        blocks: u64::MAX,
+        blocks: 1 << 24,
         waiting: 1 << 18,
         levels: 64,
     };

@@ -122,7 +122,7 @@ impl FileWalk {
         ensures stays { OnErr result (Stays self.old self.new) }
     {
         let Some(next) = self.next else {
-            return Err(PartError::NothingWanted);
+            return Err(PartError::Finished);
         };
         let part = match verified_part(alloc, &next.cid, block) {
             Ok(part) => part,

@@ -1,10 +1,10 @@
 //! Paths that lead through the blocks of a CAR.
 
 use crate::block_commands::show::ShowRequest;
+use crate::paths::{split_cid, split_segment};
 use indexmap::IndexSet;
 use ipld_block::{BlockCodec, codec_name};
 use ipld_cid::{Cid, IDENTITY};
-use ipld_cid_text::parse_any;
 use ipld_cli::{
     Blocks, CheckedBlock, DigestExplanation, Explanation, MOST_SECTIONS, NamedCid, Outcome,
     ShowExplanation, hasher_of, report,
@@ -29,12 +29,6 @@ enum Step {
     Link(LinkOnPath),
 }
 
-// Splits a path after its first segment.
-fn split_segment(path: &str) -> (&str, &str) {
-    let path = path.trim_start_matches('/');
-    path.split_once("/").unwrap_or((path, ""))
-}
-
 // Returns the rest of a path after `segments` segments.
 fn rest_of_path(path: &str, segments: usize) -> &str {
     let mut rest = path;
@@ -42,20 +36,6 @@ fn rest_of_path(path: &str, segments: usize) -> &str {
         rest = split_segment(rest).1;
     }
     rest
-}
-
-// Splits a path after the CID that it begins with, with or without `/ipfs/` or `ipfs://` before it.
-fn split_cid(path: &str) -> Option<(Cid, &str)> {
-    let (first, rest) = split_segment(path);
-    let (first, rest) = if first == "ipfs" || first == "ipfs:" {
-        split_segment(rest)
-    } else {
-        (first, rest)
-    };
-    match parse_any(first) {
-        Ok(cid) => Some((cid, rest)),
-        Err(_) => None,
-    }
 }
 
 // Returns the beginning of a path: the CID that it begins with, or otherwise the first root.

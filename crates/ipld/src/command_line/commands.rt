@@ -275,6 +275,131 @@ Examples:
 /// The commands on blocks and CIDs.
 pub(super) const BLOCK_COMMANDS: &[Description] = &[SHOW, LINKS, CHECK, CID];
 
+// A CAR of files and folders, and a path in it.
+const FOLDER_CAR: Argument = Argument {
+    name: "file",
+    kind: Kind::Word("FILE"),
+    help: "A CAR with files and folders of IPFS (UnixFS).",
+    ..FLAG
+};
+
+const FILE_PATH: Argument = Argument {
+    name: "path",
+    kind: Kind::OptionalWord("PATH"),
+    help: "A path that begins in the first root, such as a/b, or with a CID, such as CID/a/b.",
+    ..FLAG
+};
+
+const HOLD: Argument = Argument {
+    name: "hold",
+    kind: Kind::Value("SIZE"),
+    help: "Maximum size of the blocks that are held, if the CAR is standard input or a pipe. [default: 32M]",
+    ..FLAG
+};
+
+const CAT: Description = Description {
+    name: "cat",
+    about: "Write a file of IPFS out of a CAR.",
+    more: Some(CAT_MORE),
+    arguments: &[
+        FOLDER_CAR,
+        FILE_PATH,
+        Argument {
+            name: "max-size",
+            kind: Kind::Value("SIZE"),
+            help: "Maximum size of the file, e.g. 8M or 1G. A larger file is rejected before its first byte.",
+            ..FLAG
+        },
+        HOLD,
+        LIMIT,
+        ZERO_PADDING,
+    ],
+};
+
+const CAT_MORE: &str = "\
+The output is what the CID names: every block is verified before its bytes are
+written, and each size in a block is compared with the bytes it stands for. If a
+block is missing or invalid, its CID is printed, the status is 1, and the output
+is the beginning of the file.
+
+A CAR on standard input is read once, so files of any size can be piped from a
+gateway that is not trusted. A block can come before it is needed, or be needed
+again. Blocks that have passed are held up to --hold.
+
+Examples:
+  $ ipld cat site.car about.txt
+  Cats, and their pictures.
+
+  $ ipld cat site.car pictures/0.txt | wc -c
+  16
+
+  $ ipld cat - about.txt < site.car
+  Cats, and their pictures.
+
+  $ ipld cat site.car pictures
+  ipld: site.car: bafybeighoczsfu3iv6oxqvyzcyarpfonnlc5r5usazqcu7p6jmcqqjsvtm: a folder, not a file";
+
+const LS: Description = Description {
+    name: "ls",
+    about: "List a folder of IPFS in a CAR.",
+    more: Some(LS_MORE),
+    arguments: &[
+        FOLDER_CAR,
+        FILE_PATH,
+        Argument {
+            name: "long",
+            short: Some('l'),
+            help: "Print the type, the size of a file, the CID and the name.",
+            excludes: &["json"],
+            ..FLAG
+        },
+        Argument {
+            name: "recursive",
+            short: Some('R'),
+            help: "List the folders in the folder too.",
+            ..FLAG
+        },
+        JSON_LINES,
+        HOLD,
+        LIMIT,
+        ZERO_PADDING,
+    ],
+};
+
+const LS_MORE: &str = "\
+Every block that is read is verified. The names are printed in the order of the
+folder: sorted, or in the order of their hashes if the folder is sharded. Control
+characters are escaped. A folder with a name that is invalid or repeated is
+rejected, and nothing of it is printed.
+
+The type is file, folder, link or ?, if the block of the entry is not in the CAR
+or is none of these.
+
+JSON objects:
+  {\"name\":..,\"cid\":..,\"type\":..,\"size\":..}
+
+Only files have a size.
+
+Examples:
+  $ ipld ls site.car
+  about.txt
+  pictures
+
+  $ ipld ls -R site.car
+  about.txt
+  pictures
+  pictures/0.txt
+
+  $ ipld ls -l site.car pictures
+  file\t16\tbafkreig4ro5vbdzjuxwkhhxq4tl7xzxrkvjjkvqvkcpz4yqd5yxzwv5vky\t0.txt
+
+  $ ipld ls --json site.car | jq -r .type
+  file
+  folder";
+
+/// The commands on files and folders.
+pub(super) const FILE_COMMANDS: &[Description] = &[CAT, LS];
+
 /// The commands on CARs.
 pub(super) const CAR: Description = Description {
     name: "car",

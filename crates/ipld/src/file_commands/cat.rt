@@ -1,0 +1,83 @@
+//! The command that writes a file of UnixFS.
+
+use crate::arguments::size_of;
+use crate::file_commands::entry::{entry_at, open_store};
+use clap::ArgMatches;
+use ipld_cid::Cid;
+use ipld_cli::{
+    BUFFER, CarStore, NamedCid, Outcome, OutputError, end_writer, report, report_out_of_memory,
+    report_unwritable, writes_to_input,
+};
+use std::io::{self, BufWriter};
+use unixfs_files::{FileError, FileErrorKind, FileLimits, PartError, write_file};
+
+// Reports why a file was not written to its end.
+fn report_file_error(
+    rt: &HostRuntime,
+    store: &CarStore<'_>,
+    error: FileError<Outcome>,
+) -> Outcome {
+    let FileError { cid, kind } = error;
+    match kind {
+        FileErrorKind::Missing => store.report_missing(&cid),
+        FileErrorKind::Store(outcome) => outcome,
+        FileErrorKind::Write(error) => report_unwritable(rt, "-", &OutputError::from(error)),
+        FileErrorKind::Part(PartError::Memory) => report_out_of_memory(rt, store.file()),
+        FileErrorKind::Part(error) => {
+            let cid = NamedCid::new(rt.alloc(), &cid);
+            report(rt, store.file(), &format_args!("{cid}: {error}"), Outcome::NotSo)
+        }
+    }
+}
+
+// Writes the file of a CID to standard output.
+fn write_content(
+    rt: &HostRuntime,
+    store: &mut CarStore<'_>,
+    cid: &Cid,
+    limits: &FileLimits,
+) -> Outcome {
+    let Ok(mut writer) = BufWriter::with_capacity(rt.alloc(), BUFFER, io::writer(rt)) else {
+        return report_out_of_memory(rt, "standard output");
+    };
+    let written = write_file(rt.alloc(), cid, limits, store, &mut writer);
+    let has_failed = match &written {
+        Ok(()) => false,
+        Err(error) => matches!(&error.kind, FileErrorKind::Write(_)),
+    };
+    let flushed = end_writer(writer, has_failed);
+    let outcome = match written {
+        Ok(()) => Outcome::Done,
+        Err(error) => report_file_error(rt, store, error),
+    };
+    match flushed {
+        Ok(()) => outcome,
+        Err(error) => outcome.worse(report_unwritable(rt, "-", &OutputError::from(error))),
+    }
+}
+
+/// Runs `ipld cat`.
+pub fn run_cat(rt: &HostRuntime, matches: &ArgMatches<'_>) -> Outcome {
+    let bytes = match size_of(rt, matches, "max-size") {
+        Ok(size) => size.unwrap_or(u64::MAX),
+        Err(outcome) => return outcome,
+    };
+    let file = matches.get_str("file").unwrap_or("-");
+    if writes_to_input(rt, &[file]) {
+        return Outcome::Failed;
+    }
+    let mut store = match open_store(rt, file, matches) {
+        Ok(store) => store,
+        Err(outcome) => return outcome,
+    };
+    let path = matches.get_str("path").unwrap_or("");
+    let cid = match entry_at(rt, &mut store, path) {
+        Ok(cid) => cid,
+        Err(outcome) => return outcome,
+    };
+    let limits = FileLimits {
+        bytes,
+        ..FileLimits::DEFAULT
+    };
+    write_content(rt, &mut store, &cid, &limits)
+}

@@ -1,0 +1,99 @@
+//! The file or folder at a path.
+
+use crate::arguments::{car_options_of, size_of};
+use crate::paths::{split_cid, split_segment};
+use clap::ArgMatches;
+use ipld_cid::Cid;
+use ipld_cli::{CarStore, NamedCid, Outcome, report, report_out_of_memory};
+use unixfs_files::BlockStore;
+use unixfs_folders::{FolderErrorKind, Lookup, LookupStep};
+
+// How many bytes of blocks that have passed are held by default, if the CAR is read once.
+const HELD: u64 = 32 << 20;
+
+// The most segments of a path. No argument of a program is longer.
+const MOST_SEGMENTS: usize = 1 << 32;
+
+// The most blocks of a look-up: a plain folder is one, and a sharded one has eight levels.
+const MOST_LEVELS: usize = 8;
+
+/// Opens a CAR. Of standard input and pipes, as many bytes are held as `--hold` says.
+pub fn open_store<'a>(
+    rt: &'a HostRuntime,
+    file: &'a str,
+    matches: &ArgMatches<'_>,
+) -> Result<CarStore<'a>, Outcome> {
+    let options = car_options_of(rt, matches)?;
+    let held = size_of(rt, matches, "hold")?.unwrap_or(HELD);
+    CarStore::open(rt, file, options, held)
+}
+
+/// Reports that a block isn't the part of a folder that is wanted.
+pub fn report_folder_error(
+    rt: &HostRuntime,
+    store: &CarStore<'_>,
+    cid: &Cid,
+    error: &FolderErrorKind,
+) -> Outcome {
+    if matches!(error, FolderErrorKind::Memory) {
+        return report_out_of_memory(rt, store.file());
+    }
+    let cid = NamedCid::new(rt.alloc(), cid);
+    report(rt, store.file(), &format_args!("{cid}: {error}"), Outcome::NotSo)
+}
+
+// Returns the CID of the entry with this name in a folder. Reports the error if there is none.
+fn look_up(
+    rt: &HostRuntime,
+    store: &mut CarStore<'_>,
+    folder: &Cid,
+    name: &str,
+) -> Result<Cid, Outcome> {
+    let mut lookup = Lookup::new(folder, name);
+    for _ in 0..MOST_LEVELS {
+        let Some(cid) = lookup.wanted().copied() else {
+            break;
+        };
+        let step = match store.block(&cid)? {
+            Some(block) => lookup.take(rt.alloc(), block),
+            None => return Err(store.report_missing(&cid)),
+        };
+        match step {
+            Ok(LookupStep::Found(entry)) => return Ok(entry),
+            Ok(LookupStep::Below) => {}
+            Ok(LookupStep::Missing) => break,
+            Err(error) => return Err(report_folder_error(rt, store, &cid, &error)),
+        }
+    }
+    let cid = NamedCid::new(rt.alloc(), folder);
+    let why = format_args!("{cid}: the folder has no entry '{name}'");
+    Err(report(rt, store.file(), &why, Outcome::NotSo))
+}
+
+/// Returns the CID of the file or folder at a path. The path begins with a CID, or in the first root
+/// of the CAR. Reports the error if it leads to nothing.
+pub fn entry_at(
+    rt: &HostRuntime,
+    store: &mut CarStore<'_>,
+    path: &str,
+) -> Result<Cid, Outcome> {
+    let (mut cid, mut rest) = match split_cid(path) {
+        Some((cid, rest)) => (cid, rest),
+        None => match store.first_root() {
+            Some(root) => (root, path),
+            None => {
+                let why = "the CAR has no root; begin the path with the CID of a block";
+                return Err(report(rt, store.file(), &why, Outcome::NotSo));
+            }
+        },
+    };
+    for _ in 0..MOST_SEGMENTS {
+        let (name, others) = split_segment(rest);
+        if name.is_empty() {
+            break;
+        }
+        cid = look_up(rt, store, &cid, name)?;
+        rest = others;
+    }
+    Ok(cid)
+}
