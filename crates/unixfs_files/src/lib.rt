@@ -17,14 +17,13 @@
 #![tactic(auto)]
 
 mod error;
-//L pub mod laws;
 mod part;
 mod state;
 mod store;
-//L cfg
-//L mod tests;
+#[cfg(test)]
+mod tests;
 mod walk;
 
 pub use error::PartError;
-pub use store::{BlockStore, FileError, FileErrorKind, write_file};
 pub use state::{FileLimits, FileWalk};
+pub use store::{BlockStore, FileError, FileErrorKind, write_file};

@@ -6,7 +6,7 @@
 //! // The CID of one entry. `block_of` gets the block of a CID from anywhere.
 //! let mut lookup = Lookup::new(&folder, "photo.jpg");
 //! while let Some(cid) = lookup.wanted() {
-//!     let block = block_of(cid)?;
+//!     let block = block_of(&cid)?;
 //!     if let LookupStep::Found(entry) = lookup.take(alloc, &block)? {
 //!         println!(rt; "{entry}")?;
 //!     }
@@ -14,7 +14,7 @@
 //! // All entries.
 //! let mut walk = FolderWalk::new(alloc, &folder);
 //! while let Some(cid) = walk.wanted() {
-//!     let block = block_of(cid)?;
+//!     let block = block_of(&cid)?;
 //!     for entry in walk.take(alloc, &block)? {
 //!         println!(rt; "{} {}", entry.name, entry.cid)?;
 //!     }

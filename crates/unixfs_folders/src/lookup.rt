@@ -59,10 +59,10 @@ impl<'a> Lookup<'a> {
     }
 
     /// Returns the CID of the block that is wanted, or `None` if the search is over.
-    pub fn wanted(&self) -> Option<&Cid>
-        ensures { option_map (λ cid. link_of cid.now) result ≡ (lookup_parts self.now).wanted }
+    pub fn wanted(&self) -> Option<Cid>
+        ensures { option_map link_of result ≡ (lookup_parts self.now).wanted }
     {
-        self.wanted.as_ref()
+        self.wanted
     }
 
     /// Takes the block that is wanted, and returns what it says of the name. The block is read, and

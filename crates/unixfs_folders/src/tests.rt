@@ -60,7 +60,7 @@ fn list(rt: HostRuntime) -> Result<(), Fail> {
     assert!(rt; entries[0].name == "long-named-file-016" && entries[0].tsize == Some(6));
     assert!(rt; entries[1].name == "long-named-file-037");
     assert!(rt; entries[1].cid == Cid::try_from(EMPTY_FILE)?);
-    assert!(rt; walk.wanted() == Some(&Cid::try_from(NEXT_CID)?));
+    assert!(rt; walk.wanted() == Some(Cid::try_from(NEXT_CID)?));
     Ok(())
 }
 

@@ -43,11 +43,11 @@ impl FolderWalk {
     }
 
     /// Returns the CID of the block that is wanted, or `None` if the walk is over.
-    pub fn wanted(&self) -> Option<&Cid>
-        ensures { option_map (λ cid. link_of cid.now) result ≡ first_link (remain_of self.now) }
+    pub fn wanted(&self) -> Option<Cid>
+        ensures { option_map link_of result ≡ first_link (remain_of self.now) }
     {
-        match &self.next {
-            Some(next) => Some(&next.cid),
+        match self.next {
+            Some(next) => Some(next.cid),
             None => None,
         }
     }

@@ -337,7 +337,7 @@ Examples:
   Cats, and their pictures.
 
   $ ipld cat site.car pictures
-  ipld: site.car: bafybeighoczsfu3iv6oxqvyzcyarpfonnlc5r5usazqcu7p6jmcqqjsvtm: a folder, not a file";
+  ipld: site.car: bafybeihjlinmnctf3gw64zx6zvgttii22xc4o7xqpdz7at6j4lkpedl7qi: a folder, not a file";
 
 const LS: Description = Description {
     name: "ls",
@@ -391,7 +391,7 @@ Examples:
   pictures/0.txt
 
   $ ipld ls -l site.car pictures
-  file\t16\tbafkreig4ro5vbdzjuxwkhhxq4tl7xzxrkvjjkvqvkcpz4yqd5yxzwv5vky\t0.txt
+  file\t16\tbafkreic2xehcbhzu4fp5vxpuf7rmc6xugg37ufs56o3w4wc5a53cju3kci\t0.txt
 
   $ ipld ls --json site.car | jq -r .type
   file

@@ -1,7 +1,7 @@
 //! The command that writes a file of UnixFS.
 
 use crate::arguments::size_of;
-use crate::file_commands::entry::{entry_at, open_store};
+use crate::file_commands::entry::{entry_at, open_store, store_options_of};
 use clap::ArgMatches;
 use ipld_cid::Cid;
 use ipld_cli::{
@@ -66,7 +66,11 @@ pub fn run_cat(rt: &HostRuntime, matches: &ArgMatches<'_>) -> Outcome {
     if writes_to_input(rt, &[file]) {
         return Outcome::Failed;
     }
-    let mut store = match open_store(rt, file, matches) {
+    let opened = match store_options_of(rt, matches) {
+        Ok(options) => open_store(rt, file, options),
+        Err(outcome) => return outcome,
+    };
+    let mut store = match opened {
         Ok(store) => store,
         Err(outcome) => return outcome,
     };

@@ -4,7 +4,7 @@ use crate::arguments::{car_options_of, size_of};
 use crate::paths::{split_cid, split_segment};
 use clap::ArgMatches;
 use ipld_cid::Cid;
-use ipld_cli::{CarStore, NamedCid, Outcome, report, report_out_of_memory};
+use ipld_cli::{CarOptions, CarStore, NamedCid, Outcome, report, report_out_of_memory};
 use unixfs_files::BlockStore;
 use unixfs_folders::{FolderErrorKind, Lookup, LookupStep};
 
@@ -17,15 +17,33 @@ const MOST_SEGMENTS: usize = 1 << 32;
 // The most blocks of a look-up: a plain folder is one, and a sharded one has eight levels.
 const MOST_LEVELS: usize = 8;
 
-/// Opens a CAR. Of standard input and pipes, as many bytes are held as `--hold` says.
+/// How the blocks of a CAR are read.
+#[derive(Clone, Copy)]
+pub struct StoreOptions {
+    /// The options for reading the CAR.
+    pub car: CarOptions,
+    /// How many bytes of blocks that have passed are held, if the CAR is read once.
+    pub held: u64,
+}
+
+/// Returns the options for reading the blocks of a CAR: those of CARs, and `--hold`.
+pub fn store_options_of(
+    rt: &HostRuntime,
+    matches: &ArgMatches<'_>,
+) -> Result<StoreOptions, Outcome> {
+    Ok(StoreOptions {
+        car: car_options_of(rt, matches)?,
+        held: size_of(rt, matches, "hold")?.unwrap_or(HELD),
+    })
+}
+
+/// Opens a CAR.
 pub fn open_store<'a>(
     rt: &'a HostRuntime,
     file: &'a str,
-    matches: &ArgMatches<'_>,
+    options: StoreOptions,
 ) -> Result<CarStore<'a>, Outcome> {
-    let options = car_options_of(rt, matches)?;
-    let held = size_of(rt, matches, "hold")?.unwrap_or(HELD);
-    CarStore::open(rt, file, options, held)
+    CarStore::open(rt, file, options.car, options.held)
 }
 
 /// Reports that a block isn't the part of a folder that is wanted.
@@ -51,7 +69,7 @@ fn look_up(
 ) -> Result<Cid, Outcome> {
     let mut lookup = Lookup::new(folder, name);
     for _ in 0..MOST_LEVELS {
-        let Some(cid) = lookup.wanted().copied() else {
+        let Some(cid) = lookup.wanted() else {
             break;
         };
         let step = match store.block(&cid)? {

@@ -1,6 +1,8 @@
 //! The command that lists a folder of UnixFS.
 
-use crate::file_commands::entry::{entry_at, open_store, report_folder_error};
+use crate::file_commands::entry::{
+    StoreOptions, entry_at, open_store, report_folder_error, store_options_of,
+};
 use clap::ArgMatches;
 use ipld_block::{VerifyError, verify};
 use ipld_cid::{Cid, DAG_PB, RAW};
@@ -54,7 +56,8 @@ struct ListedEntry {
 // What is listed, and how.
 #[derive(Clone, Copy)]
 struct ListRequest<'a> {
-    matches: &'a ArgMatches<'a>,
+    path: &'a str,
+    store: StoreOptions,
     is_long: bool,
     json: bool,
     // Whether the folders in the folder are listed too.
@@ -103,7 +106,7 @@ fn entries_of(
     let mut walk = FolderWalk::new(rt.alloc(), &folder.cid);
     let mut entries = Vec::new(rt.alloc());
     for _ in 0..MOST_SECTIONS {
-        let Some(cid) = walk.wanted().copied() else {
+        let Some(cid) = walk.wanted() else {
             break;
         };
         let added = match store.block(&cid)? {
@@ -308,12 +311,11 @@ impl<'a> PerWord for ListRequest<'a> {
         file: &str,
         writer: &mut W,
     ) -> Result<Outcome, ShowError> {
-        let mut store = match open_store(rt, file, self.matches) {
+        let mut store = match open_store(rt, file, self.store) {
             Ok(store) => store,
             Err(outcome) => return Ok(outcome),
         };
-        let path = self.matches.get_str("path").unwrap_or("");
-        match entry_at(rt, &mut store, path) {
+        match entry_at(rt, &mut store, self.path) {
             Ok(folder) => self.list(rt, &mut store, folder, writer),
             Err(outcome) => Ok(outcome),
         }
@@ -322,8 +324,13 @@ impl<'a> PerWord for ListRequest<'a> {
 
 /// Runs `ipld ls`.
 pub fn run_ls(rt: &HostRuntime, matches: &ArgMatches<'_>) -> Outcome {
+    let store = match store_options_of(rt, matches) {
+        Ok(options) => options,
+        Err(outcome) => return outcome,
+    };
     let request = ListRequest {
-        matches,
+        path: matches.get_str("path").unwrap_or(""),
+        store,
         is_long: matches.get_flag("long"),
         json: matches.get_flag("json"),
         is_recursive: matches.get_flag("recursive"),
