@@ -14,10 +14,11 @@ use Rattle.unixfs_files.specs.Parts.{Part, agrees, read_part, PartFault}
 abbrev pub child_of : WaitingPart → Child
 child_of p = record { link = link_of p.cid; size = p.size }
 
--- the parts that a walk has yet to read, in the order of the file
+-- the parts that wait in a walk, in the order of the file
 abbrev pub parts_left : FileWalk → List WaitingPart
 parts_left walk = option_to_list walk.next ++ reverse walk.waiting.items
 
+-- the parts of the file that a walk has yet to read, in the order of the file
 abbrev pub remain_of : FileWalk → List Child
 remain_of walk = map child_of (parts_left walk)
 

@@ -1,4 +1,5 @@
-//! Files of UnixFS, read out of blocks that nobody trusts: what comes out is what the root names.
+//! Files of UnixFS, read out of blocks that nobody trusts. The bytes that a walk returns are those
+//! that the root names.
 //!
 //! ```rust
 //! use unixfs_files::{FileLimits, FileWalk};
@@ -12,8 +13,8 @@
 //! }
 //! ```
 //!
-//! Each block is verified before it is parsed. Each size that a block states is compared with the
-//! bytes that it stands for. [`write_file`] is this loop over a [`BlockStore`]. No call recurses.
+//! Each block is verified before it is parsed. Each size in a block is compared with the
+//! number of bytes. [`write_file`] is this loop over a [`BlockStore`]. No call recurses.
 #![tactic(auto)]
 
 mod error;

@@ -100,8 +100,8 @@ impl FileWalk {
 
     /// Takes the block of the CID that is wanted, and returns the bytes of the file in it.
     ///
-    /// The block is verified, and each size that it states is compared with what it stands for,
-    /// before any bytes are returned. It allocates for the children of the block.
+    /// The block is verified, and each size in it is compared with the number of bytes, before any
+    /// bytes are returned. It allocates for the children of the block.
     ///
     /// # Errors
     ///
