@@ -3,8 +3,8 @@
 mod commands;
 
 use crate::command_line::commands::{
-    ABOUT, BLOCK_COMMANDS, CAR, CAR_CHECKS, CAR_COPIES, CAR_LISTINGS, CREATE, ENCODE, FILE_COMMANDS,
-    WORDS,
+    ABOUT, BLOCK_COMMANDS, CAR, CAR_CHECKS, CAR_COPIES, CAR_LISTINGS, CREATE, ENCODE,
+    FILE_COMMANDS, WORDS,
 };
 use clap::{Arg, ArgAction, Command};
 use std::alloc::{AllocError, Global};

@@ -42,11 +42,11 @@ one_more links less sizes fewer parts more all link (Some n) part r front back h
     let child : Child = record { link = (parts_of_link link).hash; size = Some n } in
     let links_are : map parts_of_link links ≡ map parts_of_link less ++ parts_of_link link ∷ [] = ap (λ (ls : List PbLink). map parts_of_link ls) front ∙ map-append parts_of_link less (link ∷ []) in
     let children : children_of (map parts_of_link links) sizes ≡ children_of (map parts_of_link less) fewer ++ child ∷ [] =
-        ap (λ (ls : List LinkParts). children_of ls sizes) links_are ∙ ap (λ (ns : List ℕ). children_of (map parts_of_link less ++ parts_of_link link ∷ []) ns) back
-        ∙ children_last (map parts_of_link less) fewer (parts_of_link link) n (length-map less parts_of_link ∙ paired) in
+    ap (λ (ls : List LinkParts). children_of ls sizes) links_are ∙ ap (λ (ns : List ℕ). children_of (map parts_of_link less ++ parts_of_link link ∷ []) ns) back
+    ∙ children_last (map parts_of_link less) fewer (parts_of_link link) n (length-map less parts_of_link ∙ paired) in
     let behind : map child_of (reverse more) ≡ child ∷ map child_of (reverse parts) =
-        ap (λ (ps : List WaitingPart). map child_of (reverse ps)) added ∙ ap (λ (ps : List WaitingPart). map child_of ps) (reverse-append parts (part ∷ []))
-        ∙ ap (λ (c : Child). c ∷ map child_of (reverse parts)) is in
+    ap (λ (ps : List WaitingPart). map child_of (reverse ps)) added ∙ ap (λ (ps : List WaitingPart). map child_of ps) (reverse-append parts (part ∷ []))
+    ∙ ap (λ (c : Child). c ∷ map child_of (reverse parts)) is in
     record {
       paired = paired;
       same = ap (λ (cs : List Child). children_of (map parts_of_link less) fewer ++ cs) behind ∙ sym (append_assoc (children_of (map parts_of_link less) fewer) (child ∷ []) (map child_of (reverse parts)))

@@ -60,13 +60,13 @@ agrees (Some size) n = size == n
 unfoldable pub part_in : UnixFsParts → Result Part PartError
 part_in u =
     if is_file_type u.message.data_type then
-      (if length u.links == length u.message.blocksizes then
-        (if nat_lt (size_of u) (2 ^ 64) then
-          (if agrees u.message.filesize (size_of u) then
-            Ok (record { head = head_of u; children = children_of u.links u.message.blocksizes; size = size_of u })
-          else Err FileSize)
-        else Err TooLarge)
-      else Err SizeCount)
+    (if length u.links == length u.message.blocksizes then
+    (if nat_lt (size_of u) (2 ^ 64) then
+    (if agrees u.message.filesize (size_of u) then
+    Ok (record { head = head_of u; children = children_of u.links u.message.blocksizes; size = size_of u })
+    else Err FileSize)
+    else Err TooLarge)
+    else Err SizeCount)
     else Err (NotFile u.message.data_type)
 
 -- the part of a file in a block of this codec, or the first reason why it is none

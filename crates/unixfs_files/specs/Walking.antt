@@ -59,7 +59,7 @@ excess walk next size count =
     else if nat_lt walk.bytes_left size then Some TooLarge
     else if count == 0 then None
     else if nat_lt next.level walk.limits.levels then
-      (if nat_lt (walk.limits.waiting - length walk.waiting.items) count then Some TooManyParts else None)
+    (if nat_lt (walk.limits.waiting - length walk.waiting.items) count then Some TooManyParts else None)
     else Some TooDeep
 
 -- True if a walk does not take a block for this reason.

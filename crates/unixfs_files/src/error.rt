@@ -3,9 +3,9 @@
 ghost use Rattle.std.specs.Prelude.{◌≡◌};
 ghost use Rattle.unixfs_files.specs.ErrorNames.{kind_of_node, type_sentence};
 
+use dag_pb::PbErrorKind;
 use ipld_block::VerifyError;
 use ipld_cid::write_number;
-use dag_pb::PbErrorKind;
 use std::alloc::AllocError;
 use std::{error, fmt};
 use unixfs::{DataType, NodeError, UnixFsErrorKind};

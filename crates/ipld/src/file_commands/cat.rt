@@ -12,11 +12,7 @@ use std::io::{self, BufWriter};
 use unixfs_files::{FileError, FileErrorKind, FileLimits, PartError, write_file};
 
 // Reports why a file was not written to its end.
-fn report_file_error(
-    rt: &HostRuntime,
-    store: &CarStore<'_>,
-    error: FileError<Outcome>,
-) -> Outcome {
+fn report_file_error(rt: &HostRuntime, store: &CarStore<'_>, error: FileError<Outcome>) -> Outcome {
     let FileError { cid, kind } = error;
     match kind {
         FileErrorKind::Missing => store.report_missing(&cid),
@@ -25,7 +21,12 @@ fn report_file_error(
         FileErrorKind::Part(PartError::Memory) => report_out_of_memory(rt, store.file()),
         FileErrorKind::Part(error) => {
             let cid = NamedCid::new(rt.alloc(), &cid);
-            report(rt, store.file(), &format_args!("{cid}: {error}"), Outcome::NotSo)
+            report(
+                rt,
+                store.file(),
+                &format_args!("{cid}: {error}"),
+                Outcome::NotSo,
+            )
         }
     }
 }

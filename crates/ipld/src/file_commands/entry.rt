@@ -57,7 +57,12 @@ pub fn report_folder_error(
         return report_out_of_memory(rt, store.file());
     }
     let cid = NamedCid::new(rt.alloc(), cid);
-    report(rt, store.file(), &format_args!("{cid}: {error}"), Outcome::NotSo)
+    report(
+        rt,
+        store.file(),
+        &format_args!("{cid}: {error}"),
+        Outcome::NotSo,
+    )
 }
 
 // Returns the CID of the entry with this name in a folder. Reports the error if there is none.
@@ -90,11 +95,7 @@ fn look_up(
 
 /// Returns the CID of the file or folder at a path. The path begins with a CID, or in the first root
 /// of the CAR. Reports the error if it leads to nothing.
-pub fn entry_at(
-    rt: &HostRuntime,
-    store: &mut CarStore<'_>,
-    path: &str,
-) -> Result<Cid, Outcome> {
+pub fn entry_at(rt: &HostRuntime, store: &mut CarStore<'_>, path: &str) -> Result<Cid, Outcome> {
     let (mut cid, mut rest) = match split_cid(path) {
         Some((cid, rest)) => (cid, rest),
         None => match store.first_root() {

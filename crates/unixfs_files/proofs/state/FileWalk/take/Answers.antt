@@ -24,13 +24,13 @@ pub returns-in-Some-excess-clause-only : goal.returns-in-Some-excess-clause-only
 returns-in-Some-excess-clause-only c = λ next others part left is_block is_part fit none.
     let same = same_next c.args.self.now c.in-Some.next next others c.in-Some.is left in
     let found = c.in-Ok.ensures.only part (subst (λ (p : WaitingPart). IsBlockOf digest_by (link_of p.cid) c.args.block.now) same is_block)
-        (subst (λ (p : WaitingPart). IsPartIn (link_of p.cid).codec c.args.block.now part) same is_part) fit in
+    (subst (λ (p : WaitingPart). IsPartIn (link_of p.cid).codec c.args.block.now part) same is_part) fit in
     let counted = count c.in-Ok.part.links.items c.in-Ok.part.sizes.items c.in-Ok.ensures.counted in
     absurd (none-some c.in-Some-excess.error (
-      sym none ∙ ap (λ (p : WaitingPart). excess c.args.self.now p part.size (length part.children)) same
-      ∙ ap (λ (p : Part). excess c.args.self.now c.in-Some.next p.size (length p.children)) (sym found)
-      ∙ ap (λ (k : ℕ). excess c.args.self.now c.in-Some.next c.in-Ok.part.size k) (counted ∙ sym c.in-Ok.part.links.ok.0 ∙ sym c.len.ensures)
-      ∙ sym c.excess.ensures ∙ c.in-Some-excess.is))
+    sym none ∙ ap (λ (p : WaitingPart). excess c.args.self.now p part.size (length part.children)) same
+    ∙ ap (λ (p : Part). excess c.args.self.now c.in-Some.next p.size (length p.children)) (sym found)
+    ∙ ap (λ (k : ℕ). excess c.args.self.now c.in-Some.next c.in-Ok.part.size k) (counted ∙ sym c.in-Ok.part.links.ok.0 ∙ sym c.len.ensures)
+    ∙ sym c.excess.ensures ∙ c.in-Some-excess.is))
 
 pub returns-in-Some-excess-clause-fault : goal.returns-in-Some-excess-clause-fault
 returns-in-Some-excess-clause-fault c =
@@ -73,5 +73,5 @@ pub returns-clause-only : goal.returns-clause-only
 returns-clause-only c = λ next others part left is_block is_part fit none.
     let same = same_next c.args.self.now c.in-Some.next next others c.in-Some.is left in
     let found = c.in-Ok.ensures.only part (subst (λ (p : WaitingPart). IsBlockOf digest_by (link_of p.cid) c.args.block.now) same is_block)
-        (subst (λ (p : WaitingPart). IsPartIn (link_of p.cid).codec c.args.block.now part) same is_part) fit in
+    (subst (λ (p : WaitingPart). IsPartIn (link_of p.cid).codec c.args.block.now part) same is_part) fit in
     ap (λ (p : Part). p.head) found
