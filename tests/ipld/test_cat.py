@@ -376,12 +376,12 @@ class FaultTest(CatTest):
                 self.check_stops(["some.car", "/in/many/7"], cid, b"")
 
     def test_roots(self):
-        for roots in [], [TALL.cid, SAME.cid]:
-            self.write(car(roots, blocks_of(TALL)))
-            run = self.run_program("cat some.car")
-            self.assertEqual(run.out, b"")
-            self.assertIn(run.status, (CHECK_FAILED, ERROR))
-            self.check_content(["some.car", TALL.cid], CONTENT[:33])
+        self.write(car([], blocks_of(TALL)))
+        run = self.run_program("cat some.car")
+        self.assertEqual((run.out, run.status), (b"", CHECK_FAILED))
+        self.check_content(["some.car", TALL.cid], CONTENT[:33])
+        self.write(car([TALL.cid, SAME.cid], blocks_of(TALL)))
+        self.check_content(["some.car"], CONTENT[:33])
         self.check_stops(["some.car", HELLO.cid], HELLO.cid, b"")
 
     def test_files_that_are_not_read(self):
@@ -446,7 +446,7 @@ class ChangedByteTest(CatTest):
 class LimitTest(CatTest):
     def check_limit(self, limit, content):
         """Fails unless the program stops at a limit below the size of a file."""
-        run = self.run_program(["cat", "--limit", str(limit), "some.car"])
+        run = self.run_program(["cat", "--max-size", str(limit), "some.car"])
         self.assertIn(run.status, (CHECK_FAILED, ERROR))
         self.assertLessEqual(len(run.out), limit)
         self.assertTrue(content.startswith(run.out))
@@ -454,7 +454,7 @@ class LimitTest(CatTest):
     def test_limits(self):
         self.write(car_of(TALL))
         for limit in 33, 34, "1K", "1G":
-            self.check_content(["--limit", limit, "some.car"], CONTENT[:33])
+            self.check_content(["--max-size", limit, "some.car"], CONTENT[:33])
         for limit in 1, 32:
             self.check_limit(limit, CONTENT[:33])
 
@@ -467,6 +467,38 @@ class LimitTest(CatTest):
         self.assertEqual(len(blocks_of(root)), DOUBLINGS + 1)
         self.write(car_of(root))
         self.check_limit(100_000, bytes(100_000))
+
+
+class HoldTest(CatTest):
+    def run_on(self, *arguments):
+        with open(self.folder / "some.car", "rb") as given:
+            return self.run_program(["cat", *arguments, "-"], stdin=given)
+
+    def test_blocks_that_come_too_early(self):
+        self.write(car([TALL.cid], blocks_of(TALL)[::-1]))
+        for hold in "32M", "8K":
+            with self.subTest(hold=hold):
+                run = self.run_on("--hold", hold)
+                self.assertEqual((run.out, run.err, run.status), (CONTENT[:33], b"", DONE))
+        run = self.run_on("--hold", "1")
+        self.assertEqual(run.status, CHECK_FAILED)
+        self.assertTrue(CONTENT.startswith(run.out))
+        self.assertIn(b"--hold", run.err)
+
+    def test_a_block_that_comes_once(self):
+        """A block is wanted again after others, which leave no room for it."""
+        content = [bytes([number]) * 3000 for number in (0, 1, 2, 3, 0)]
+        root = parent(1, [raw_leaf(it) for it in content])
+        self.write(car_of(root))
+        run = self.run_on("--hold", "100K")
+        self.assertEqual((run.out, run.status), (b"".join(content), DONE))
+        run = self.run_on("--hold", "7K")
+        self.assertEqual((run.out, run.status), (b"".join(content[:4]), CHECK_FAILED))
+        self.assertIn(str(raw_leaf(content[0]).cid).encode(), run.err)
+
+    def test_no_size(self):
+        for size in "0", "x", "-1":
+            self.assertEqual(self.run_on("--hold", size).status, ERROR)
 
 
 class MemoryTest(CatTest):

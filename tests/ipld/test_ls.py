@@ -149,6 +149,18 @@ class ListingTest(LsTest):
             )
         )
 
+    def test_recursive(self):
+        """A folder comes before those in it, and each of these before the next."""
+        text = file_of(b"text")
+        inner = folder({b"x": text, b"y": folder({b"z": text})})
+        root = folder({b"a": inner, b"b": text, b"c": folder({}), b"d": shard({b"e": inner}, 1)})
+        self.write(car_of(root))
+        paths = "a b c d a/x a/y a/y/z d/e d/e/x d/e/y d/e/y/z".split()
+        self.check(Row("ls -R some.car", lines(*paths)))
+        self.check(Row("ls --recursive some.car d/e", lines("x", "y", "y/z")))
+        run = self.run_program("ls -R --json some.car a")
+        self.assertEqual([json.loads(it)["name"] for it in run.out.splitlines()], ["x", "y", "y/z"])
+
     def test_random_folders(self):
         source = Source(SEED)
         for number in range(COUNT):
