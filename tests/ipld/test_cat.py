@@ -57,8 +57,8 @@ NAMES = [b"%d" % number for number in range(40)]
 MANY = shard({name: file_of(b"file " + name) for name in NAMES}, 1)
 INSIDE = folder({b"many": MANY, b"tall": TALL, 'é "ü\\'.encode(): file_of(b"odd name")})
 ROOT = folder({b"in": INSIDE, b"link": symlink(b"in/tall"), b"file": SAME}, 1)
-# How long a chain of nodes with one link is, and how often a block repeats in a huge file.
-LONG, DOUBLINGS = 3000, 50
+# The most levels of a file, and how often a block repeats in a huge file.
+LEVELS, DOUBLINGS = 64, 50
 
 # What a gateway is asked for.
 GATEWAY_PATHS = [("/in/tall", CONTENT[:33]), ("/in/many/7", b"file 7"), ("/file", bytes(40))]
@@ -176,11 +176,13 @@ class ContentTest(CatTest):
                     self.check_content(["some.car"], CONTENT[:size])
 
     def test_a_deep_file(self):
-        root = raw_leaf(b"deep")
-        for _ in range(LONG):
+        lowest = root = parent(1, [raw_leaf(b"deep")])
+        for _ in range(LEVELS - 1):
             root = parent(1, [root])
         self.write(car_of(root))
         self.check_content(["some.car"], b"deep")
+        self.write(car_of(parent(1, [root])))
+        self.check_stops(["some.car"], lowest.cid, b"")
 
     def test_any_order(self):
         shuffled, source = blocks_of(TALL) + blocks_of(SAME), random.Random(SEED)

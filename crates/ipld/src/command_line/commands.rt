@@ -320,7 +320,7 @@ const CAT_MORE: &str = "\
 The output is what the CID names: every block is verified before its bytes are
 written, and each size in a block is compared with the bytes it stands for. If a
 block is missing or invalid, its CID is printed, the status is 1, and the output
-is the beginning of the file.
+is the beginning of the file. A file can have 16,777,216 blocks, in 64 levels.
 
 A CAR on standard input is read once, so files of any size can be piped from a
 gateway that is not trusted. A block can come before it is needed, or be needed
