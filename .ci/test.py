@@ -56,6 +56,7 @@ PAGES = (
     [".ci/versions"],
     [".ci/definitions"],
     [".ci/guarantees"],
+    [".ci/memory"],
     ["./doc"],
     [".ci/snippets"],
     [".ci/needs", "--check"],
