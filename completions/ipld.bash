@@ -7,7 +7,7 @@ _ipld_has() {
     commands='' options='' valued='' files=''
     case $1 in
     'ipld')
-        commands='show links check cid car encode'
+        commands='show links check cid cat ls car encode'
         options='-h --help -V --version'
         ;;
     'ipld show')
@@ -28,6 +28,16 @@ _ipld_has() {
     'ipld cid')
         options='-t --text -b --base --v0 --v1 --json -c --codec -h --help'
         valued='-b --base -c --codec'
+        files=yes
+        ;;
+    'ipld cat')
+        options='--max-size --hold --limit --zero-padding -h --help'
+        valued='--max-size --hold --limit'
+        files=yes
+        ;;
+    'ipld ls')
+        options='-l --long -R --recursive --json --hold --limit --zero-padding -h --help'
+        valued='--hold --limit'
         files=yes
         ;;
     'ipld car')

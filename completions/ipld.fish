@@ -15,9 +15,9 @@ function __ipld_at --argument-names wanted state
             set has_argument yes
             break
         else if string match -qr -- '^-.' "$word"
-            contains -- "$command $word" 'ipld show -p' 'ipld show --path' 'ipld show --limit' 'ipld show -c' 'ipld show --codec' 'ipld links -c' 'ipld links --codec' 'ipld check -c' 'ipld check --codec' 'ipld cid -b' 'ipld cid --base' 'ipld cid -c' 'ipld cid --codec' 'ipld car list --limit' 'ipld car inspect --limit' 'ipld car roots --limit' 'ipld car links --limit' 'ipld car graph --limit' 'ipld car missing --limit' 'ipld car verify --limit' 'ipld car extract -d' 'ipld car extract --directory' 'ipld car extract --limit' 'ipld car filter -o' 'ipld car filter --output' 'ipld car filter --version' 'ipld car filter --limit' 'ipld car index -o' 'ipld car index --output' 'ipld car index --limit' 'ipld car salvage -o' 'ipld car salvage --output' 'ipld car salvage --root' 'ipld car salvage --limit' 'ipld car create --files-from' 'ipld car create -o' 'ipld car create --output' 'ipld car create --root' 'ipld car create --version' 'ipld car create --split' 'ipld car create --limit' 'ipld car create -c' 'ipld car create --codec' 'ipld encode -o' 'ipld encode --output' 'ipld encode -c' 'ipld encode --codec'
+            contains -- "$command $word" 'ipld show -p' 'ipld show --path' 'ipld show --limit' 'ipld show -c' 'ipld show --codec' 'ipld links -c' 'ipld links --codec' 'ipld check -c' 'ipld check --codec' 'ipld cid -b' 'ipld cid --base' 'ipld cid -c' 'ipld cid --codec' 'ipld cat --max-size' 'ipld cat --hold' 'ipld cat --limit' 'ipld ls --hold' 'ipld ls --limit' 'ipld car list --limit' 'ipld car inspect --limit' 'ipld car roots --limit' 'ipld car links --limit' 'ipld car graph --limit' 'ipld car missing --limit' 'ipld car verify --limit' 'ipld car extract -d' 'ipld car extract --directory' 'ipld car extract --limit' 'ipld car filter -o' 'ipld car filter --output' 'ipld car filter --version' 'ipld car filter --limit' 'ipld car index -o' 'ipld car index --output' 'ipld car index --limit' 'ipld car salvage -o' 'ipld car salvage --output' 'ipld car salvage --root' 'ipld car salvage --limit' 'ipld car create --files-from' 'ipld car create -o' 'ipld car create --output' 'ipld car create --root' 'ipld car create --version' 'ipld car create --split' 'ipld car create --limit' 'ipld car create -c' 'ipld car create --codec' 'ipld encode -o' 'ipld encode --output' 'ipld encode -c' 'ipld encode --codec'
             and set is_value yes
-        else if test $has_argument = no; and contains -- "$command $word" 'ipld show' 'ipld links' 'ipld check' 'ipld cid' 'ipld car' 'ipld car list' 'ipld car inspect' 'ipld car roots' 'ipld car links' 'ipld car graph' 'ipld car missing' 'ipld car verify' 'ipld car extract' 'ipld car filter' 'ipld car index' 'ipld car salvage' 'ipld car create' 'ipld encode'
+        else if test $has_argument = no; and contains -- "$command $word" 'ipld show' 'ipld links' 'ipld check' 'ipld cid' 'ipld cat' 'ipld ls' 'ipld car' 'ipld car list' 'ipld car inspect' 'ipld car roots' 'ipld car links' 'ipld car graph' 'ipld car missing' 'ipld car verify' 'ipld car extract' 'ipld car filter' 'ipld car index' 'ipld car salvage' 'ipld car create' 'ipld encode'
             set command "$command $word"
         else
             set has_argument yes
@@ -31,6 +31,8 @@ complete -c ipld -n "__ipld_at 'ipld' first" -a show -d 'Print a block, or the v
 complete -c ipld -n "__ipld_at 'ipld' first" -a links -d 'List the links in blocks'
 complete -c ipld -n "__ipld_at 'ipld' first" -a check -d 'Validate blocks'
 complete -c ipld -n "__ipld_at 'ipld' first" -a cid -d 'Print a file\'s CID, or decode a CID'
+complete -c ipld -n "__ipld_at 'ipld' first" -a cat -d 'Write a file of IPFS out of a CAR'
+complete -c ipld -n "__ipld_at 'ipld' first" -a ls -d 'List a folder of IPFS in a CAR'
 complete -c ipld -n "__ipld_at 'ipld' first" -a car -d 'List, verify, extract and create CAR files'
 complete -c ipld -n "__ipld_at 'ipld' first" -a encode -d 'Convert DAG-JSON to a block'
 complete -c ipld -n "__ipld_at 'ipld'" -s h -l help -d 'Print help'
@@ -60,6 +62,20 @@ complete -c ipld -n "__ipld_at 'ipld cid'" -l v1 -d 'Print only the CID, as vers
 complete -c ipld -n "__ipld_at 'ipld cid'" -l json -d 'Print JSON objects, one per line'
 complete -c ipld -n "__ipld_at 'ipld cid'" -s c -l codec -x -a 'dag-cbor dag-pb dag-json raw' -d 'Codec of the block'
 complete -c ipld -n "__ipld_at 'ipld cid'" -s h -l help -d 'Print help'
+complete -c ipld -n "__ipld_at 'ipld cat'" -F
+complete -c ipld -n "__ipld_at 'ipld cat'" -l max-size -r -F -d 'Maximum size of the file, e.g. 8M or 1G'
+complete -c ipld -n "__ipld_at 'ipld cat'" -l hold -r -F -d 'Maximum size of the blocks that are held, if the CAR is standard input or a pipe'
+complete -c ipld -n "__ipld_at 'ipld cat'" -l limit -r -F -d 'Maximum size of a CAR section, e.g. 512K or 8M'
+complete -c ipld -n "__ipld_at 'ipld cat'" -l zero-padding -d 'Allow zeros after the last section, in a file that is padded to a size'
+complete -c ipld -n "__ipld_at 'ipld cat'" -s h -l help -d 'Print help'
+complete -c ipld -n "__ipld_at 'ipld ls'" -F
+complete -c ipld -n "__ipld_at 'ipld ls'" -s l -l long -d 'Print the type, the size of a file, the CID and the name'
+complete -c ipld -n "__ipld_at 'ipld ls'" -s R -l recursive -d 'List the folders in the folder too'
+complete -c ipld -n "__ipld_at 'ipld ls'" -l json -d 'Print JSON objects, one per line'
+complete -c ipld -n "__ipld_at 'ipld ls'" -l hold -r -F -d 'Maximum size of the blocks that are held, if the CAR is standard input or a pipe'
+complete -c ipld -n "__ipld_at 'ipld ls'" -l limit -r -F -d 'Maximum size of a CAR section, e.g. 512K or 8M'
+complete -c ipld -n "__ipld_at 'ipld ls'" -l zero-padding -d 'Allow zeros after the last section, in a file that is padded to a size'
+complete -c ipld -n "__ipld_at 'ipld ls'" -s h -l help -d 'Print help'
 complete -c ipld -n "__ipld_at 'ipld car' first" -a list -d 'List the blocks of a CAR'
 complete -c ipld -n "__ipld_at 'ipld car' first" -a inspect -d 'Print a summary of a CAR'
 complete -c ipld -n "__ipld_at 'ipld car' first" -a roots -d 'List the roots of a CAR'
