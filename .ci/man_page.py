@@ -206,7 +206,11 @@ def output_end(line, indent):
 
 
 def folded(line):
-    """Yields a line of a display, or several if it is longer than the page has room for."""
+    """
+    Yields a line of a display, or several if it is longer than the page has room for. A tab is
+    shown as two blanks.
+    """
+    line = line.replace("\t", "  ")
     is_command = line.startswith("$ ")
     indent = " " * (len(line) - len(line.lstrip()) + 4)
     while len(line) > ROOM:
@@ -316,7 +320,7 @@ def examples(program):
     """Returns the section of examples, with a subsection for each command."""
     found = [(command, it) for command in program.all() for it in command.headed(EXAMPLES)]
     lines = []
-    if any(len(line) > ROOM for _, block in found for line in block.lines):
+    if any(len(line.replace("\t", "  ")) > ROOM for _, block in found for line in block.lines):
         lines.append("A long line continues on the next line, indented.")
     for command, block in found:
         lines.append(".Ss " + " ".join(map(word, command.words[1:] or command.words)))
