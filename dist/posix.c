@@ -278,6 +278,10 @@ uint64_t host_getdents64(uint32_t file, uint8_t *to, uint64_t size) {
 
 uint32_t host_unlink(uint8_t *path) { return (uint32_t)unlink((const char *)path); }
 
+uint32_t host_link(uint8_t *from, uint8_t *to) {
+    return (uint32_t)link((const char *)from, (const char *)to);
+}
+
 uint32_t host_rename(uint8_t *from, uint8_t *to) {
     return (uint32_t)rename((const char *)from, (const char *)to);
 }
