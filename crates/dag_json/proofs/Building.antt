@@ -39,10 +39,10 @@ step_null floats limits (going ls d n) = refl
 step_null floats limits (done v) = refl
 step_null floats limits (failed e) = refl
 
-tree_of-Null : tree_of Null ≡ tree.null
+pub tree_of-Null : tree_of Null ≡ tree.null
 tree_of-Null = search (rules, the_lemmas)
 
-tree_of-Bool : (b : Bool) → tree_of (Ipld-Bool b) ≡ tree.boolean b
+pub tree_of-Bool : (b : Bool) → tree_of (Ipld-Bool b) ≡ tree.boolean b
 tree_of-Bool b = search (rules, the_lemmas)
 
 pub takes_null : (floats : Bool) (limits : Limits) (s new : State) (r : Result (Unit {0}) ReadErrorKind) → Reaches (added limits s (Ok (tree_of Null))) r new → Reaches (step floats limits s json.null) r new

@@ -1,3 +1,2 @@
 pub mod Continuing
 pub mod Describing
-pub mod Results

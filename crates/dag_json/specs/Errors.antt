@@ -5,6 +5,8 @@ use Rattle.dag_json.specs.declared.error.DagJsonError.{DagJsonError}
 use Rattle.dag_json.specs.declared.error.DagJsonError.TheVariants as tree
 use Rattle.dag_json.specs.declared.read_error.ReadError.{ReadError}
 use Rattle.dag_json.specs.declared.read_error.ReadErrorKind.{ReadErrorKind}
+use Rattle.dag_json.specs.declared.tape.JsonTapeError.{JsonTapeError}
+use Rattle.dag_json.specs.declared.tape.JsonTapeError.TheVariants as tape
 use Rattle.dag_json.specs.declared.read_error.ReadErrorKind.TheVariants.{Memory, Utf8, Syntax, End, Float, IntegerRange, DuplicateKey, Link, Bytes, Reserved, TooDeep, TooMany, NotCanonical}
 
 -- the name of a kind
@@ -64,3 +66,13 @@ write_sentence tree.Read = codes "the reader failed"
 write_sentence tree.Write = codes "the writer failed"
 write_sentence (tree.Text error) = sentence_of error
 write_sentence (tree.Reserved place) = codes "DAG-JSON would read a link or bytes in place of the map that is value " ++ decimal place
+
+-- the name of an error of reading a text as a tape
+abbrev pub tape_name : JsonTapeError → List ℕ
+tape_name (tape.Text error) = kind_name error.kind
+tape_name tape.TooLong = codes "TooLong"
+
+-- the sentence of such an error
+abbrev pub tape_sentence : JsonTapeError → List ℕ
+tape_sentence (tape.Text error) = float_sentence error.kind ++ (codes " at byte " ++ decimal error.offset)
+tape_sentence tape.TooLong = codes "too long for a tape: a string of 2^32 bytes, or a list or a map of 2^32 entries"

@@ -1,14 +1,17 @@
 -- Lists and maps that are written to a tape from their last value to their first. Only private
 -- clauses cite it.
-use Rattle.std.specs.Prelude.{◌≡◌, ℕ, suc, ◌+◌, ◌*◌, ◌<◌, Bool, true, false, List, [], ◌∷◌, ◌++◌, map, length, reverse, Option, Some, None, option_map, string_bytes}
+use Rattle.std.specs.Prelude.{◌≡◌, ℕ, suc, ◌+◌, ◌*◌, ◌<◌, Bool, true, false, List, [], ◌∷◌, ◌++◌, map, length, reverse, Option, Some, None, Result, Ok, Err, option_map, string_bytes}
 use Rattle.ipld_tree.specs.Size.{total}
 use Rattle.ipld_tree.specs.TreeOf.{tree_of}
 use Rattle.ipld_tree.specs.declared.ipld.Ipld.{Ipld}
+use Rattle.dag_cbor_blocks.specs.Tape.{all_short}
 use Rattle.dag_json.specs.TapeWriting.{Written, keyed, written, closed}
 use Rattle.dag_json.specs.declared.tape.open.OpenContainer.{OpenContainer}
 use Rattle.dag_json.specs.declared.tape.open.Rest.{Rest}
 use Rattle.dag_json.specs.declared.tape.open.Rest.TheVariants as rest
 use Rattle.dag_json.specs.declared.tape.write.TapeWriter.{TapeWriter}
+use Rattle.dag_json.specs.declared.tape.write.WriteError.{WriteError}
+use Rattle.dag_json.specs.declared.tape.write.WriteError.TheVariants.{Memory, TooLong}
 
 -- the entries of a writer, the last written one first, and its contents
 abbrev pub view : TapeWriter → Written
@@ -59,7 +62,11 @@ pub record Enters (key : Option (List ℕ)) (inner : Rest) (count : ℕ) (before
   pub behind_is : container.behind ≡ length before.entries
 
 -- True if an iteration kept the final output and decreased the load. If the bool is false, nothing
--- was open and nothing was written.
-abbrev pub Steps : Bool → List OpenContainer → Written → List OpenContainer → Written → Type 0
-Steps false os before os' after = (os ≡ []) × (after ≡ before)
-Steps true os before os' after = (finish os' after ≡ finish os before) × (load os' < load os)
+-- was open and nothing was written. An error is an entry of the final output that is too long, or a
+-- failed allocation.
+abbrev pub Steps :
+    Result Bool WriteError → List OpenContainer → Written → List OpenContainer → Written → Type 0
+Steps (Ok false) os before os' after = (os ≡ []) × (after ≡ before)
+Steps (Ok true) os before os' after = (finish os' after ≡ finish os before) × (load os' < load os)
+Steps (Err Memory) os before os' after = Unit {0}
+Steps (Err TooLong) os before os' after = all_short (finish os before).entries ≡ false

@@ -1,16 +1,19 @@
 -- The entries and the data that are written for a tree from its end, before those of others. Only
 -- private clauses cite it.
-use Rattle.std.specs.Prelude.{ℕ, ◌+◌, ◌-◌, true, false, List, [], ◌∷◌, ◌++◌, length, Option, Some, None}
+use Rattle.std.specs.Prelude.{◌≡◌, ℕ, ◌+◌, ◌-◌, true, false, List, [], ◌∷◌, ◌++◌, length, Option, Some, None, Result, Ok, Err}
 use Rattle.std.specs.Int.{w64, to_be_bytes}
 use Rattle.ipld_cid.specs.Bytes.{bytes_of}
 use Rattle.ipld_tree.specs.Tree.{Tree, null, boolean, integer, text, bytes, list, entries, link, Items, no_items, item, Members, no_members, member}
-use Rattle.dag_cbor_blocks.specs.Tape.{entry}
+use Rattle.dag_cbor_blocks.specs.Tape.{entry, all_short}
 use Rattle.dag_cbor_blocks.specs.declared.tape.TapeEntry.{TapeEntry}
 use Rattle.dag_json.specs.Floats.{number_as}
 use Rattle.dag_json.specs.declared.floats.Number.{Number}
 use Rattle.dag_json.specs.declared.floats.Number.TheVariants.{Unsigned, Negative, Float}
 use Rattle.dag_json.specs.Tape.{item_count, member_count}
+use Rattle.dag_json.specs.TapeReading.{IsTapeOf, IsTooLong}
 use Rattle.dag_json.specs.declared.tape.Tape.{Tape}
+use Rattle.dag_json.specs.declared.tape.write.WriteError.{WriteError}
+use Rattle.dag_json.specs.declared.tape.write.WriteError.TheVariants.{Memory, TooLong}
 
 -- entries, and the data to which they refer
 pub record Written : Type 0 where
@@ -67,3 +70,16 @@ abbrev mutual
   pub members_written : Members → Written → Written
   members_written no_members w = w
   members_written (member k t ms) w = keyed (Some k) (written t (members_written ms w))
+
+-- True if the output is the expected one, or an expected entry is too long, or an allocation failed.
+abbrev pub Writes : Written → Result (Unit {0}) WriteError → Written → Type 0
+Writes expected (Ok u) w = w ≡ expected
+Writes expected (Err Memory) w = Unit {0}
+Writes expected (Err TooLong) w = all_short expected.entries ≡ false
+
+-- True if the tape is that of the tree, or an entry of the tree is too long, or an allocation
+-- failed.
+abbrev pub WritesTape : Tree → Result Tape WriteError → Type 0
+WritesTape t (Ok tape) = IsTapeOf t tape
+WritesTape t (Err Memory) = Unit {0}
+WritesTape t (Err TooLong) = IsTooLong t

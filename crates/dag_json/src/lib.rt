@@ -41,12 +41,12 @@
 //!
 //! ```rust
 //! use dag_cbor_tape::encode_tape;
-//! use dag_json::{ReadError, tape_from_slice};
+//! use dag_json::{JsonTapeError, tape_from_slice};
 //! use ipld_tree::Limits;
 //! use std::alloc::Global;
 //!
 //! // The block of a text, or `None` if it has none.
-//! fn block_of(alloc: Global, text: &[u8]) -> Result<Option<Vec<u8>>, ReadError> {
+//! fn block_of(alloc: Global, text: &[u8]) -> Result<Option<Vec<u8>>, JsonTapeError> {
 //!     let tape = tape_from_slice(alloc, text, &Limits::default())?;
 //!     match encode_tape(alloc, &tape.entries, &tape.contents) {
 //!         Ok(block) => Ok(Some(block)),
@@ -79,4 +79,4 @@ pub use decode::{from_canonical, from_slice, from_str};
 pub use encode::{to_string, to_vec};
 pub use error::DagJsonError;
 pub use read_error::{ReadError, ReadErrorKind};
-pub use tape::{Tape, tape_from_slice};
+pub use tape::{JsonTapeError, Tape, tape_from_slice};

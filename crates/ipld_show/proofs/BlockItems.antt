@@ -34,7 +34,7 @@ use Rattle.ipld_show.specs.Node.{node_tree}
 use Rattle.ipld_show.specs.Scalars.{IsOutputError}
 use Rattle.ipld_show.specs.TreeText.{IsTreeText}
 use Rattle.ipld_show.specs.declared.error.ShowError.{ShowError}
-use Rattle.ipld_show.specs.declared.error.ShowError.TheVariants.{Memory, Write, Invalid, NoSegment, NotAContainer, Reserved, Cid}
+use Rattle.ipld_show.specs.declared.error.ShowError.TheVariants.{Memory, Write, Invalid, TooLong, NoSegment, NotAContainer, Reserved, Cid}
 use Rattle.ipld_show.specs.DataItem.{DataItem, null, boolean, integer, float, text_string, byte_string, link, list, map, DataItems, no_items, DataEntries, no_entries, entry, item_count, entry_count, string_encoding, encoding, items_encoding, entries_encoding, IsDataItem, AreDataItems, AreDataEntries, BeginsWithItem, tree_of, items_of, members_of}
 use Rattle.ipld_show.specs.DataItem as data_item
 
@@ -173,6 +173,11 @@ no_item_invalid (found d) why h = h
 no_item_invalid (no_segment n) why h = absurd (let no : Invalid why ≡ NoSegment n = h in cc)
 no_item_invalid (not_a_container n) why h = absurd (let no : Invalid why ≡ NotAContainer n = h in cc)
 
+no_item_too_long : (a : AtPath) → LeadsTo a (Err TooLong) → ⊥
+no_item_too_long (found d) h = h
+no_item_too_long (no_segment n) h = absurd (let no : TooLong ≡ NoSegment n = h in cc)
+no_item_too_long (not_a_container n) h = absurd (let no : TooLong ≡ NotAContainer n = h in cc)
+
 no_item_reserved : (a : AtPath) (n : ℕ) → LeadsTo a (Err (Reserved n)) → ⊥
 no_item_reserved (found d) n h = h
 no_item_reserved (no_segment m) n h = absurd (let no : Reserved n ≡ NoSegment m = h in cc)
@@ -191,6 +196,7 @@ rejected_unwritten (NoSegment n) old = refl
 rejected_unwritten (NotAContainer n) old = refl
 rejected_unwritten (Reserved n) old = refl
 rejected_unwritten (Cid e) old = refl
+rejected_unwritten TooLong old = refl
 
 module _ (codec : BlockCodec) (bytes : List ℕ) where
   pub rejected_block : (T : Type 0) (P : DataItem → Type 0) (error : ShowError) → IsNoBlock codec bytes error → OfBlock {T = T} codec bytes (Err error) P
@@ -201,18 +207,21 @@ module _ (codec : BlockCodec) (bytes : List ℕ) where
   rejected_block T P (NotAContainer n) h = absurd h
   rejected_block T P (Reserved n) h = absurd h
   rejected_block T P (Cid e) h = absurd h
+  rejected_block T P TooLong h = h
 
   module _ (block path : List ℕ) (of : IsCborOf codec bytes block) where
     pub of_block : {T : Type 0} (P : DataItem → Result T ShowError → Type 0) → ((d : DataItem) (why : InvalidBlock) → P d (Err (Invalid why)) → LeadsTo (at_segments 0 (segments path) d) (Err (Invalid why)))
+        → ((d : DataItem) → P d (Err TooLong) → LeadsTo (at_segments 0 (segments path) d) (Err TooLong))
         → (r : Result T ShowError) → ((d : DataItem) → BeginsWithItem d block [] → P d r) → OfBlock codec bytes r (λ d. P d r)
-    of_block P leads (Ok x) h = let i = item_in codec bytes block of in (i.0, (block, of, i.1), h i.0 i.1)
-    of_block P leads (Err Memory) h = tt
-    of_block P leads (Err (Write kind)) h = let i = item_in codec bytes block of in (i.0, (block, of, i.1), h i.0 i.1)
-    of_block P leads (Err (Invalid why)) h = let i = item_in codec bytes block of in absurd (no_item_invalid (at_segments 0 (segments path) i.0) why (leads i.0 why (h i.0 i.1)))
-    of_block P leads (Err (NoSegment n)) h = let i = item_in codec bytes block of in (i.0, (block, of, i.1), h i.0 i.1)
-    of_block P leads (Err (NotAContainer n)) h = let i = item_in codec bytes block of in (i.0, (block, of, i.1), h i.0 i.1)
-    of_block P leads (Err (Reserved n)) h = let i = item_in codec bytes block of in (i.0, (block, of, i.1), h i.0 i.1)
-    of_block P leads (Err (Cid e)) h = let i = item_in codec bytes block of in (i.0, (block, of, i.1), h i.0 i.1)
+    of_block P leads leads_long (Ok x) h = let i = item_in codec bytes block of in (i.0, (block, of, i.1), h i.0 i.1)
+    of_block P leads leads_long (Err Memory) h = tt
+    of_block P leads leads_long (Err (Write kind)) h = let i = item_in codec bytes block of in (i.0, (block, of, i.1), h i.0 i.1)
+    of_block P leads leads_long (Err (Invalid why)) h = let i = item_in codec bytes block of in absurd (no_item_invalid (at_segments 0 (segments path) i.0) why (leads i.0 why (h i.0 i.1)))
+    of_block P leads leads_long (Err (NoSegment n)) h = let i = item_in codec bytes block of in (i.0, (block, of, i.1), h i.0 i.1)
+    of_block P leads leads_long (Err (NotAContainer n)) h = let i = item_in codec bytes block of in (i.0, (block, of, i.1), h i.0 i.1)
+    of_block P leads leads_long (Err (Reserved n)) h = let i = item_in codec bytes block of in (i.0, (block, of, i.1), h i.0 i.1)
+    of_block P leads leads_long (Err (Cid e)) h = let i = item_in codec bytes block of in (i.0, (block, of, i.1), h i.0 i.1)
+    of_block P leads leads_long (Err TooLong) h = let i = item_in codec bytes block of in absurd (no_item_too_long (at_segments 0 (segments path) i.0) (leads_long i.0 (h i.0 i.1)))
 
 -- ---- what stands at a path, shown
 
@@ -230,6 +239,7 @@ module _ (d : DataItem) (path : List ℕ) (old new : Option (List ℕ)) where
   stops_at (NotAContainer n) h = h
   stops_at (Reserved n) h = h
   stops_at (Cid e) h = h
+  stops_at TooLong h = h
 
   pub stops_json_at : (error : ShowError) → LeadsTo (at_segments 0 (segments path) d) (Err error) → IsJsonAt d path (Err error) old new
   stops_json_at Memory h = tt
@@ -239,6 +249,7 @@ module _ (d : DataItem) (path : List ℕ) (old new : Option (List ℕ)) where
   stops_json_at (NotAContainer n) h = h
   stops_json_at (Reserved n) h = absurd (no_item_reserved (at_segments 0 (segments path) d) n h)
   stops_json_at (Cid e) h = h
+  stops_json_at TooLong h = h
 
   output_error : (error : ShowError) → IsOutputError error → IsTreeAt d path (Err error) old new
   output_error Memory h = tt
@@ -248,6 +259,7 @@ module _ (d : DataItem) (path : List ℕ) (old new : Option (List ℕ)) where
   output_error (NotAContainer n) h = absurd h
   output_error (Reserved n) h = absurd h
   output_error (Cid e) h = absurd h
+  output_error TooLong h = absurd h
 
   output_unwritten : (error : ShowError) → IsOutputError error → IsUnwritten error old new
   output_unwritten Memory h = tt
@@ -257,6 +269,7 @@ module _ (d : DataItem) (path : List ℕ) (old new : Option (List ℕ)) where
   output_unwritten (NotAContainer n) h = absurd h
   output_unwritten (Reserved n) h = absurd h
   output_unwritten (Cid e) h = absurd h
+  output_unwritten TooLong h = absurd h
 
   json_error : (e : DataItem) → at_segments 0 (segments path) d ≡ found e → (error : ShowError) → IsLineError e error old new → IsJsonAt d path (Err error) old new
   json_error e is Memory h = tt
@@ -266,6 +279,7 @@ module _ (d : DataItem) (path : List ℕ) (old new : Option (List ℕ)) where
   json_error e is (NotAContainer n) h = absurd h
   json_error e is (Reserved n) h = (e, is, h.0)
   json_error e is (Cid c) h = absurd h
+  json_error e is TooLong h = absurd h
 
   json_unwritten : (e : DataItem) (error : ShowError) → IsLineError e error old new → IsUnwritten error old new
   json_unwritten e (Reserved n) h = h.1
@@ -275,6 +289,7 @@ module _ (d : DataItem) (path : List ℕ) (old new : Option (List ℕ)) where
   json_unwritten e (NoSegment n) h = absurd h
   json_unwritten e (NotAContainer n) h = absurd h
   json_unwritten e (Cid c) h = absurd h
+  json_unwritten e TooLong h = absurd h
 
   module _ (value : Bor (List ℕ)) (at : LeadsTo (at_segments 0 (segments path) d) (Ok value)) where
     pub tree_at : (r : Result (Unit {0}) ShowError)
@@ -313,6 +328,7 @@ json_stops d (Invalid why) old h = absurd h
 json_stops d (NoSegment n) old h = absurd h
 json_stops d (NotAContainer n) old h = absurd h
 json_stops d (Cid c) old h = absurd h
+json_stops d TooLong old h = absurd h
 
 -- and so does one of the writer or of an allocation
 pub line_failed : (d : DataItem) (error : ShowError) (old new : Option (List ℕ)) → IsOutputError error → IsLineError d error old new
@@ -323,6 +339,7 @@ line_failed d (Invalid why) old new h = absurd h
 line_failed d (NoSegment n) old new h = absurd h
 line_failed d (NotAContainer n) old new h = absurd h
 line_failed d (Cid c) old new h = absurd h
+line_failed d TooLong old new h = absurd h
 
 -- ---- the CID of a block
 
@@ -339,3 +356,4 @@ module _ (codec : BlockCodec) (bytes : List ℕ) (old : Option (List ℕ)) where
   cid_failed new (NotAContainer n) h = absurd h
   cid_failed new (Reserved n) h = absurd h
   cid_failed new (Cid e) h = absurd h
+  cid_failed new TooLong h = absurd h

@@ -1,5 +1,5 @@
 -- Blocks of DAG-JSON as blocks of DAG-CBOR.
-use Rattle.std.proofs.Common.{◌≡◌, inl, inr, ℕ, true, List, None, Err, sym, subst}
+use Rattle.std.proofs.Common.{◌≡◌, ℕ, true, List, None, Err, sym, subst}
 use Rattle.ipld_tokens.specs.Item.{Item}
 use Rattle.ipld_tree.specs.Tree.{Tree}
 use Rattle.ipld_tree.specs.declared.limits.Limits.{Limits}
@@ -12,7 +12,6 @@ use Rattle.dag_json.specs.Encodes.{EncodesWithinIn}
 use Rattle.dag_json.specs.Offset.{SaysWhere}
 use Rattle.dag_json.specs.ReadContract.{ReadsBytes}
 use Rattle.dag_json.specs.Tape.{IsTape}
-use Rattle.dag_json.specs.TapeReading.{ReadsTape}
 use Rattle.dag_json.specs.declared.read_error.ReadError.{ReadError}
 use Rattle.dag_json.specs.declared.read_error.ReadErrorKind.TheVariants as json
 use Rattle.ipld_block.specs.Blocks.{IsInvalid, MadeOfJson}
@@ -22,17 +21,12 @@ use Rattle.ipld_block.specs.declared.error.CheckError.TheVariants.{Memory, Inval
 use Rattle.ipld_show.specs.Blocks.{StandsForJson, IsNoBlock, IsShown}
 use Rattle.ipld_show.specs.declared.error.ShowError.{ShowError}
 
--- what isn't read as a tape isn't read as a tree
-not_read : (limits : Limits) (s : List ℕ) (e : ReadError) → ReadsTape limits s (Err e) → ReadsBytes true limits s (Err e)
-not_read limits s e (inl read) = inl read
-not_read limits s e (inr other) = inr other
-
-block_error : (limits : Limits) (s : List ℕ) (e : ReadError) → limits ≡ limits_of s → (e.kind ≡ json.Memory → ⊥) → ReadsTape limits s (Err e) → SaysWhere true limits s e → IsBlockError true s e
+block_error : (limits : Limits) (s : List ℕ) (e : ReadError) → limits ≡ limits_of s → (e.kind ≡ json.Memory → ⊥) → ReadsBytes true limits s (Err e) → SaysWhere true limits s e → IsBlockError true s e
 block_error limits s e are other exact stopped =
-    subst (λ (l : Limits). (e.kind ≡ json.Memory → ⊥) × ReadsBytes true l s (Err e) × SaysWhere true l s e) are (other, not_read limits s e exact, stopped)
+    subst (λ (l : Limits). (e.kind ≡ json.Memory → ⊥) × ReadsBytes true l s (Err e) × SaysWhere true l s e) are (other, exact, stopped)
 
 -- what is said of bytes that are no DAG-JSON
-pub no_json : (limits : Limits) (s : List ℕ) (e : ReadError) (checked : CheckError) (made : ShowError) → limits ≡ limits_of s → ReadsTape limits s (Err e) → SaysWhere true limits s e
+pub no_json : (limits : Limits) (s : List ℕ) (e : ReadError) (checked : CheckError) (made : ShowError) → limits ≡ limits_of s → ReadsBytes true limits s (Err e) → SaysWhere true limits s e
     → MadeOfJson e checked → IsShown checked made → IsNoBlock DagJson s made
 no_json limits s e Memory made are exact stopped m is = subst (IsNoBlock DagJson s) (sym is) tt
 no_json limits s e (Invalid why) made are exact stopped m is =

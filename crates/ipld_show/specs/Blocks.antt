@@ -16,6 +16,7 @@ use Rattle.dag_cbor_tape.specs.Canonical.{Orders}
 use Rattle.dag_cbor_tape.specs.Describes.{Describes}
 use Rattle.dag_json.specs.Encodes.{EncodesTreeIn}
 use Rattle.dag_json.specs.Tape.{IsTape}
+use Rattle.dag_json.specs.TapeReading.{IsTooLong}
 use Rattle.dag_pb.specs.Node.{NodeParts, IsNode}
 use Rattle.ipld_block.specs.Blocks.{IsInvalid}
 use Rattle.ipld_block.specs.declared.codec.BlockCodec.{BlockCodec}
@@ -28,7 +29,7 @@ use Rattle.ipld_show.specs.JsonText.{IsJson, IsJsonError}
 use Rattle.ipld_show.specs.Node.{node_tree}
 use Rattle.ipld_show.specs.TreeText.{IsTreeText}
 use Rattle.ipld_show.specs.declared.error.ShowError.{ShowError}
-use Rattle.ipld_show.specs.declared.error.ShowError.TheVariants.{Memory, Write, Invalid, Reserved}
+use Rattle.ipld_show.specs.declared.error.ShowError.TheVariants.{Memory, Write, Invalid, TooLong, Reserved}
 
 -- True if the bytes are a node of DAG-PB, and the block is the canonical encoding of its tree.
 pub record StandsForNode (bytes block : List ℕ) : Type 0 where
@@ -52,11 +53,18 @@ pub record StandsForJson (bytes block : List ℕ) : Type 0 where
   pub orders : Orders item in_turn block
   pub is_block : error_in true block ≡ None
 
--- True if the error is that of a failed allocation, or the bytes are not a block of the codec and
--- it is their error, with its offset.
+-- True if the codec is DAG-JSON, and the tape of the tree that the bytes encode has an entry with a
+-- length of 2^32 or more.
+abbrev pub HasLongTape : BlockCodec → List ℕ → Type 0
+HasLongTape DagJson bytes = (t : Tree) × EncodesTreeIn true t bytes × IsTooLong t
+HasLongTape _ bytes = ⊥
+
+-- True if the error is that of a failed allocation or of a tape that is too long, or the bytes are
+-- not a block of the codec and it is their error, with its offset.
 abbrev pub IsNoBlock : BlockCodec → List ℕ → ShowError → Type 0
 IsNoBlock codec bytes Memory = Unit {0}
 IsNoBlock codec bytes (Invalid why) = IsInvalid codec bytes why
+IsNoBlock codec bytes TooLong = HasLongTape codec bytes
 IsNoBlock codec bytes _ = ⊥
 
 -- True if the error is that of a failed allocation, or the bytes are not a block of DAG-PB and it
@@ -78,11 +86,12 @@ IsCborOf Raw bytes block = canonical (tree.bytes bytes) ≡ Some block
 abbrev pub IsItemOf : BlockCodec → List ℕ → DataItem → Type 0
 IsItemOf codec bytes d = (block : List ℕ) × IsCborOf codec bytes block × BeginsWithItem d block []
 
--- True if `P` holds for the data item of the block, or an allocation failed, or the bytes are not a
--- block of the codec and the result is their error.
+-- True if `P` holds for the data item of the block, or an allocation failed, or the block's tape is
+-- too long, or the bytes are not a block of the codec and the result is their error.
 abbrev pub OfBlock : {T : Type 0} → BlockCodec → List ℕ → Result T ShowError → (DataItem → Type 0) → Type 0
 OfBlock codec bytes (Err Memory) P = Unit {0}
 OfBlock codec bytes (Err (Invalid why)) P = IsInvalid codec bytes why
+OfBlock codec bytes (Err TooLong) P = HasLongTape codec bytes
 OfBlock codec bytes r P = (d : DataItem) × IsItemOf codec bytes d × P d
 
 -- True if the text of the tree of the item at the path was appended, or the error is that of the

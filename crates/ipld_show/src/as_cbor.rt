@@ -13,7 +13,7 @@ use crate::error::ShowError;
 use dag_cbor_format::Major;
 use dag_cbor_format::write::{write_bytes, write_head, write_link, write_text};
 use dag_cbor_tape::encode_tape;
-use dag_json::{block_limits, tape_from_slice};
+use dag_json::{JsonTapeError, block_limits, tape_from_slice};
 use dag_pb::{PbLink, PbNode, read_node};
 use ipld_block::{BlockCodec, CheckError, check};
 use std::alloc::{AllocError, Global};
@@ -129,7 +129,8 @@ pub(crate) fn json_as_cbor(alloc: Global, bytes: &[u8]) -> Result<Vec<u8>, ShowE
 {
     let tape = match tape_from_slice(alloc, bytes, &block_limits(bytes)) {
         Ok(tape) => tape,
-        Err(error) => return Err(ShowError::from(CheckError::from(error))),
+        Err(JsonTapeError::Text(error)) => return Err(ShowError::from(CheckError::from(error))),
+        Err(JsonTapeError::TooLong) => return Err(ShowError::TooLong),
     };
     let block = match encode_tape(alloc, &tape.entries, &tape.contents) {
         Ok(block) => block,

@@ -102,6 +102,8 @@ fn show_at<W: Write>(
 ///
 /// - `Invalid` if the bytes are not a block of this codec. Nothing was written then.
 /// - `NoSegment` or `NotAContainer` if the path leads to nothing. Nothing was written then.
+/// - `TooLong` if the block is DAG-JSON, and a length in its tape has more than 32 bits. Nothing was
+///   written then.
 /// - `Reserved` if DAG-JSON has no form for the value. Nothing was written then.
 /// - `Write` if the writer fails, and `Memory` if an allocation fails.
 pub fn show<W: Write>(
@@ -134,6 +136,7 @@ pub fn show<W: Write>(
 ///
 /// - `Invalid` if the bytes are not a block of this codec.
 /// - `NoSegment` or `NotAContainer` if the path leads to nothing in the block.
+/// - `TooLong` if the block is DAG-JSON, and a length in its tape has more than 32 bits.
 /// - `Memory` if an allocation fails. A block of DAG-PB, DAG-JSON or plain bytes is converted to
 ///   DAG-CBOR first.
 pub fn link_on_path(

@@ -19,6 +19,9 @@ pub enum ShowError {
     Write(ErrorKind),
     /// The bytes are not a block of their codec.
     Invalid(InvalidBlock),
+    /// In a block of DAG-JSON a string, bytes or a key have 2^32 bytes or more, or a list or a map
+    /// spans 2^32 entries or more of a tape.
+    TooLong,
     /// The path leads to nothing at the segment with this number, counted from 1. The segments
     /// before it lead to a map that doesn't have it as a key, or to a list that doesn't have it as
     /// an index.
@@ -46,6 +49,9 @@ impl fmt::Display for ShowError {
             ShowError::Memory => f.write_str("out of memory"),
             ShowError::Write(kind) => write!(f, "cannot write: {kind}"),
             ShowError::Invalid(why) => why.fmt(f),
+            ShowError::TooLong => f.write_str(
+                "too long for a tape: a string of 2^32 bytes, or a list or a map of 2^32 entries",
+            ),
             ShowError::NoSegment(segment) => write_number(
                 f,
                 "the path leads to no key or index at segment ",

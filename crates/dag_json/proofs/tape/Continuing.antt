@@ -1,17 +1,23 @@
 -- What is left to write comes to the same, one iteration after another.
-use Rattle.std.proofs.Common.{◌≡◌, ◌<◌, ◌+◌, ◌*◌, ℕ, suc, Result, Ok, Err, OnOk, List, [], ◌∷◌, ◌++◌, map, length, Option, Some, None, option_map, string_bytes, String, Global, Vec, BTreeMap, refl, sym, ap, ap₂, ◌∙◌, arith}
+use Rattle.std.proofs.Common.{◌≡◌, ◌<◌, ◌+◌, ◌-◌, ◌*◌, ◌^◌, nat_lt, ℕ, suc, false, Result, Ok, Err, List, [], ◌∷◌, ◌++◌, map, length, Option, Some, None, option_map, string_bytes, String, Global, Vec, BTreeMap, refl, sym, subst, ap, ap₂, ◌∙◌, rules, arith}
 use Rattle.std.specs.Map.{values_of}
+use Rattle.std.proofs.lemmas.Bool.{and_right}
 use Rattle.ipld_tree.specs.Size.{size, total}
+use Rattle.ipld_tree.specs.Tree.{Tree, text}
 use Rattle.ipld_tree.specs.TreeOf.{tree_of, items_of, members_of}
-use Rattle.ipld_tree.specs.declared.ipld.Ipld.{Ipld, List as Ipld-List, Map as Ipld-Map}
+use Rattle.ipld_tree.specs.declared.ipld.Ipld.{Ipld, List as Ipld-List, Map as Ipld-Map, String as Ipld-String, the_lemmas}
 use Rattle.ipld_tree.proofs.Sizes.{size_list, size_map, total_cons}
 use Rattle.ipld_tree.proofs.Trees.{tree_of-List, tree_of-Map}
-use Rattle.dag_json.specs.TapeOpen.{Pending, left_of, kind_of, all_written, closed_container, finish, load, Enters}
+use Rattle.dag_cbor_blocks.specs.Tape.{entry, all_short}
+use Rattle.dag_json.proofs.tape.Describing.{long_written, long_keyed}
+use Rattle.dag_json.specs.TapeOpen.{Pending, left_of, kind_of, all_written, closed_container, finish, load, Enters, Steps}
 use Rattle.dag_json.specs.Tape.{item_count, member_count}
-use Rattle.dag_json.specs.TapeWriting.{Written, keyed, closed, written, items_written, members_written}
+use Rattle.dag_json.specs.TapeWriting.{Written, front, keyed, closed, written, items_written, members_written, Writes}
 use Rattle.dag_json.specs.declared.tape.open.OpenContainer.{OpenContainer}
 use Rattle.dag_json.specs.declared.tape.open.Rest.{Rest}
 use Rattle.dag_json.specs.declared.tape.open.Rest.TheVariants as rest
+use Rattle.dag_json.specs.declared.tape.write.WriteError.{WriteError}
+use Rattle.dag_json.specs.declared.tape.write.WriteError.TheVariants.{Memory, TooLong}
 
 -- a key and a value
 abbrev Entry : Type 0
@@ -110,20 +116,29 @@ module _ (c d : OpenContainer) (same_key : d.key ≡ c.key) (same_count : d.coun
       ∙ ap (λ k. keyed (option_map string_bytes c.key) (closed k c.count c.behind (all_written (left_of d.rest) w))) same_kind
       ∙ ap (λ x. keyed (option_map string_bytes c.key) (closed (kind_of c.rest) c.count c.behind x)) e
 
+  pub same_taken : (cs os : List OpenContainer) (p : Pending) (w : Written) → os ≡ cs ++ c ∷ [] → left_of c.rest ≡ left_of d.rest ++ p ∷ []
+      → finish (cs ++ d ∷ []) (keyed p.0 (written (tree_of p.1) w)) ≡ finish os w
+  same_taken cs os p w is left =
+      finish-append cs d (keyed p.0 (written (tree_of p.1) w))
+      ∙ ap (finish cs) (parts (keyed p.0 (written (tree_of p.1) w)) w (sym (all-append (left_of d.rest) p w) ∙ ap (λ ps. all_written ps w) (sym left)))
+      ∙ sym (finish-append cs c w) ∙ ap (λ o. finish o w) (sym is)
+
   pub taken : (cs os after : List OpenContainer) (p : Pending) (w v : Written) → os ≡ cs ++ c ∷ [] → left_of c.rest ≡ left_of d.rest ++ p ∷ []
       → finish after v ≡ finish (cs ++ d ∷ []) (keyed p.0 (written (tree_of p.1) w)) → load after < load (cs ++ d ∷ []) + 2 * size p.1
       → (finish after v ≡ finish os w) × (load after < load os)
   taken cs os after p w v is left same less = (
-    same ∙ finish-append cs d (keyed p.0 (written (tree_of p.1) w))
-        ∙ ap (finish cs) (parts (keyed p.0 (written (tree_of p.1) w)) w (sym (all-append (left_of d.rest) p w) ∙ ap (λ ps. all_written ps w) (sym left)))
-        ∙ sym (finish-append cs c w) ∙ ap (λ o. finish o w) (sym is),
+    same ∙ same_taken cs os p w is left,
     omega (arith, load-append cs d, load-append cs c, ap load is, values-append (left_of d.rest) p, ap (λ ps. total (map (λ (q : Pending). q.1) ps)) left),
   )
+
+  pub same_left : (cs os : List OpenContainer) (w : Written) → os ≡ cs ++ c ∷ [] → left_of c.rest ≡ [] → left_of d.rest ≡ [] → finish cs (closed_container d w) ≡ finish os w
+  same_left cs os w is none none' =
+      ap (finish cs) (parts w w (ap (λ ps. all_written ps w) (none' ∙ sym none))) ∙ sym (finish-append cs c w) ∙ ap (λ o. finish o w) (sym is)
 
   pub left : (cs os : List OpenContainer) (w v : Written) → os ≡ cs ++ c ∷ [] → left_of c.rest ≡ [] → left_of d.rest ≡ [] → v ≡ closed_container d w
       → (finish cs v ≡ finish os w) × (load cs < load os)
   left cs os w v is none none' e = (
-    ap (finish cs) (e ∙ parts w w (ap (λ ps. all_written ps w) (none' ∙ sym none))) ∙ sym (finish-append cs c w) ∙ ap (λ o. finish o w) (sym is),
+    ap (finish cs) e ∙ same_left cs os w is none none',
     omega (arith, load-append cs c, ap load is),
   )
 
@@ -131,8 +146,33 @@ module _ (c d : OpenContainer) (same_key : d.key ≡ c.key) (same_count : d.coun
 pub closes : (c : OpenContainer) (w v : Written) → left_of c.rest ≡ [] → v ≡ keyed (option_map string_bytes c.key) (closed (kind_of c.rest) c.count c.behind w) → v ≡ closed_container c w
 closes c w v none e = e ∙ ap (λ ps. keyed (option_map string_bytes c.key) (closed (kind_of c.rest) c.count c.behind (all_written ps w))) (sym none)
 
--- ---- results
+-- ---- an entry that is too long stays there
 
-pub on_ok : {T E P Q : Type 0} (r : Result T E) → (P → Q) → OnOk r P → OnOk r Q
-on_ok (Ok x) f p = f p
-on_ok (Err e) f p = tt
+long_all : (ps : List Pending) (w : Written) → all_short w.entries ≡ false → all_short (all_written ps w).entries ≡ false
+long_all [] w long = long
+long_all (p ∷ ps) w long = long_keyed p.0 (written (tree_of p.1) (all_written ps w)) (long_written (tree_of p.1) (all_written ps w) (long_all ps w long))
+
+pub long_finished : (cs : List OpenContainer) (w : Written) → all_short w.entries ≡ false → all_short (finish cs w).entries ≡ false
+long_finished [] w long = long
+long_finished (c ∷ cs) w long =
+    let inner = all_written (left_of c.rest) (finish cs w) in
+    let e = entry (kind_of c.rest) (length inner.entries - c.behind + 1) c.count in
+    long_keyed (option_map string_bytes c.key) (front e inner) (and_right (nat_lt e.len (2 ^ 32)) (all_short inner.entries) (long_all (left_of c.rest) (finish cs w) (long_finished cs w long)))
+
+pub finished : (cs : List OpenContainer) (w after : Written) (r : Result (Unit {0}) WriteError) → Writes w r after → Writes (finish cs w) r (finish cs after)
+finished cs w after (Ok u) h = ap (finish cs) h
+finished cs w after (Err Memory) h = tt
+finished cs w after (Err TooLong) h = long_finished cs w h
+
+-- the same for a value, by what is put for it
+pub value_written : (cs : List OpenContainer) (k : Option (List ℕ)) (t u : Tree) (before put after : Written) (r : Result (Unit {0}) WriteError) → t ≡ u → put ≡ written u before → Writes (keyed k put) r after
+    → Writes (finish cs (keyed k (written t before))) r (finish cs after)
+value_written cs k t u before put after r same is h =
+    finished cs (keyed k (written t before)) after r (subst (λ v. Writes (keyed k v) r after) (is ∙ ap (λ v. written v before) (sym same)) h)
+
+pub tree_of-String : (s : String Global) → tree_of (Ipld-String s) ≡ text (string_bytes s)
+tree_of-String s = search (rules, the_lemmas)
+
+pub failed : (w after : Written) (e : WriteError) (os os' : List OpenContainer) (before last : Written) → Writes w (Err e) after → w ≡ finish os before → Steps (Err e) os before os' last
+failed w after Memory os os' before last h is = tt
+failed w after TooLong os os' before last h is = subst (λ (v : Written). all_short v.entries ≡ false) is h

@@ -1,18 +1,21 @@
 -- What is written of a tree are its entries.
-use Rattle.std.proofs.Common.{◌≡◌, ◌+◌, ◌-◌, ℕ, suc, true, false, List, [], ◌∷◌, ◌++◌, length, Option, Some, None, refl, sym, ap, ap₂, subst, ◌∙◌, append_assoc, length-append, arith}
+use Rattle.std.proofs.Common.{◌≡◌, ◌+◌, ◌-◌, ◌^◌, nat_lt, ℕ, suc, true, false, List, [], ◌∷◌, ◌++◌, length, Option, Some, None, Err, refl, sym, ap, ap₂, subst, ◌∙◌, append_assoc, length-append, arith}
 use Rattle.std.specs.Int.{w64, to_be_bytes}
+use Rattle.std.proofs.lemmas.Bool.{and_right}
 use Rattle.std.proofs.lemmas.List.{append-nil}
 use Rattle.ipld_cid.specs.Bytes.{bytes_of}
 use Rattle.ipld_tree.specs.Tree.{Tree, null, boolean, integer, text, bytes, list, entries, link, Items, no_items, item, Members, no_members, member}
-use Rattle.dag_cbor_blocks.specs.Tape.{entry}
+use Rattle.dag_cbor_blocks.specs.Tape.{entry, all_short}
 use Rattle.dag_cbor_blocks.specs.declared.tape.TapeEntry.{TapeEntry}
 use Rattle.dag_json.specs.Floats.{number_as}
 use Rattle.dag_json.specs.declared.floats.Number.{Number}
 use Rattle.dag_json.specs.declared.floats.Number.TheVariants.{Unsigned, Negative, Float}
-use Rattle.dag_json.specs.TapeReading.{IsTapeOf}
+use Rattle.dag_json.specs.TapeReading.{IsTapeOf, IsTooLong}
 use Rattle.dag_json.specs.Tape.{item_count, member_count, HasContent, IsNumberTape, IsTape, AreTapes, ArePairs}
-use Rattle.dag_json.specs.TapeWriting.{Written, nothing, front, with_content, number_written, written, items_written, members_written, tape_view}
+use Rattle.dag_json.specs.TapeWriting.{Written, nothing, front, with_content, keyed, number_written, written, items_written, members_written, tape_view, Writes, WritesTape}
 use Rattle.dag_json.specs.declared.tape.Tape.{Tape}
+use Rattle.dag_json.specs.declared.tape.write.WriteError.{WriteError}
+use Rattle.dag_json.specs.declared.tape.write.WriteError.TheVariants.{Memory, TooLong}
 
 -- Entries come before the others, and data behind the data. They are this, whatever data come behind these.
 record Before (P : List ℕ → List TapeEntry → Type 0) (w v : Written) : Type 0 where
@@ -117,9 +120,33 @@ mutual
       }
 
 -- the whole of it
-pub described : (t : Tree) (tape : Tape) → tape_view tape ≡ written t nothing → IsTapeOf t tape
-described t tape e =
+whole : (t : Tree) → IsTape (written t nothing).contents t (written t nothing).entries
+whole t =
     let b = tape_before t nothing in
     let v = written t nothing in
-    let holds : IsTape v.contents t v.entries = subst (λ es. IsTape v.contents t es) (sym (append-nil b.here) ∙ sym b.entries) (subst (λ over. IsTape over t b.here) (append-nil v.contents) (b.holds [])) in
-    subst (λ (w : Written). IsTape w.contents t w.entries) (sym e) holds
+    subst (λ es. IsTape v.contents t es) (sym (append-nil b.here) ∙ sym b.entries) (subst (λ over. IsTape over t b.here) (append-nil v.contents) (b.holds []))
+
+pub described : (t : Tree) (tape : Tape) → tape_view tape ≡ written t nothing → IsTapeOf t tape
+described t tape e = subst (λ (w : Written). IsTape w.contents t w.entries) (sym e) (whole t)
+
+too_long : (t : Tree) → all_short (written t nothing).entries ≡ false → IsTooLong t
+too_long t long = ((written t nothing).contents, (written t nothing).entries, whole t, long)
+
+pub failed : (t : Tree) (e : WriteError) (after : Written) → Writes (written t nothing) (Err e) after → WritesTape t (Err e)
+failed t Memory after h = tt
+failed t TooLong after h = too_long t h
+
+-- ---- an entry that is too long stays there
+
+long_behind : (here es : List TapeEntry) → all_short es ≡ false → all_short (here ++ es) ≡ false
+long_behind [] es long = long
+long_behind (e ∷ here) es long = and_right (nat_lt e.len (2 ^ 32)) (all_short (here ++ es)) (long_behind here es long)
+
+pub long_written : (t : Tree) (w : Written) → all_short w.entries ≡ false → all_short (written t w).entries ≡ false
+long_written t w long =
+    let b = tape_before t w in
+    ap all_short b.entries ∙ long_behind b.here w.entries long
+
+pub long_keyed : (k : Option (List ℕ)) (w : Written) → all_short w.entries ≡ false → all_short (keyed k w).entries ≡ false
+long_keyed None w long = long
+long_keyed (Some k) w long = long_behind (entry 11 (length k) (length w.contents) ∷ []) w.entries long

@@ -1,17 +1,16 @@
 //! The decoding of texts to tapes.
 
-ghost use Rattle.std.specs.Prelude.{◌≡◌, true, IfOk, IfErr};
+ghost use Rattle.std.specs.Prelude.{true, IfOk, IfErr};
 ghost use Rattle.ipld_tree.specs.Tree.{Tree};
 ghost use Rattle.dag_json.specs.Encodes.{EncodesWithinIn};
-ghost use Rattle.dag_json.specs.Offset.{SaysWhere};
-ghost use Rattle.dag_json.specs.TapeReading.{IsTapeOf, ReadsTape, UnlessMemory};
+ghost use Rattle.dag_json.specs.TapeReading.{IsTapeOf, IsTapeError, MakesTape};
 
 use crate::floats::from_slice;
-use crate::tape::Tape;
-use crate::tape::write::tape_of;
+use crate::tape::write::{WriteError, tape_of};
+use crate::tape::{JsonTapeError, Tape};
 use crate::{ReadError, ReadErrorKind};
 use ipld_tree::Limits;
-use std::alloc::{AllocError, Global};
+use std::alloc::Global;
 
 /// Decodes a text in DAG-JSON, which may have floats, to a tape. It is for untrusted input.
 ///
@@ -27,25 +26,26 @@ use std::alloc::{AllocError, Global};
 ///
 /// # Errors
 ///
-/// Those of [`dag_json::floats::from_slice`]. It also returns `Memory` if a string or bytes have
-/// 2^32 bytes or more, or if a list or a map spans 2^32 entries or more.
-pub fn tape_from_slice(alloc: Global, bytes: &[u8], limits: &Limits) -> Result<Tape, ReadError>
+/// - `Text` with the error of [`dag_json::floats::from_slice`], or with `Memory` if an allocation of
+///   the tape fails.
+/// - `TooLong` if a length of an entry would have more than 32 bits, in a text that has no other
+///   error.
+pub fn tape_from_slice(alloc: Global, bytes: &[u8], limits: &Limits) -> Result<Tape, JsonTapeError>
     ensures found { IfOk result (λ tape. (t : Tree) × EncodesWithinIn true limits.now t bytes.now
         × IsTapeOf t tape) }
-    ensures only { (t : Tree) → EncodesWithinIn true limits.now t bytes.now
-        → UnlessMemory result (IsTapeOf t) }
-    ensures exact { ReadsTape limits.now bytes.now result }
-    ensures stopped { IfErr result (SaysWhere true limits.now bytes.now) }
+    ensures only { (t : Tree) → EncodesWithinIn true limits.now t bytes.now → MakesTape t result }
+    ensures rejected { IfErr result (IsTapeError limits.now bytes.now) }
 {
     let tree = match from_slice(alloc, bytes, limits) {
         Ok(tree) => tree,
-        Err(error) => return Err(error),
+        Err(error) => return Err(JsonTapeError::Text(error)),
     };
     match tape_of(alloc, tree) {
         Ok(tape) => Ok(tape),
-        Err(AllocError) => Err(ReadError {
+        Err(WriteError::TooLong) => Err(JsonTapeError::TooLong),
+        Err(WriteError::Memory) => Err(JsonTapeError::Text(ReadError {
             kind: ReadErrorKind::Memory,
             offset: 0,
-        }),
+        })),
     }
 }

@@ -11,9 +11,9 @@ returns-in-Ok g c =
     let i = item_in c.args.codec c.args.bytes.now c.cbor_or.result.now of in
     record {
       shown = λ plain.
-          of_block c.args.codec c.args.bytes.now c.cbor_or.result.now c.args.path.now of (λ d r. IsTreeAt d c.args.path.now r old new) (λ d why at. at) c.show_at.result (λ d b. c.show_at.ensures.shown d b plain);
+          of_block c.args.codec c.args.bytes.now c.cbor_or.result.now c.args.path.now of (λ d r. IsTreeAt d c.args.path.now r old new) (λ d why at. at) (λ d at. at) c.show_at.result (λ d b. c.show_at.ensures.shown d b plain);
       shown_as_json = λ json.
-          of_block c.args.codec c.args.bytes.now c.cbor_or.result.now c.args.path.now of (λ d r. IsJsonAt d c.args.path.now r old new) (λ d why at. at) c.show_at.result
+          of_block c.args.codec c.args.bytes.now c.cbor_or.result.now c.args.path.now of (λ d r. IsJsonAt d c.args.path.now r old new) (λ d why at. at) (λ d at. at) c.show_at.result
           (λ d b. c.show_at.ensures.shown_as_json d b json);
       unwritten = c.show_at.ensures.unwritten i.0 i.1;
     }
