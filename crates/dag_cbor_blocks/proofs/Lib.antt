@@ -7,6 +7,7 @@ pub mod BlockSteps
 pub mod WithinSteps
 pub mod Visits
 pub mod Blocks
+pub mod Hinting
 pub mod BlockLimits
 pub mod Measuring
 pub mod OrderChecks

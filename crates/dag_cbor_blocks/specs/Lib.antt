@@ -13,6 +13,7 @@ pub mod LinkPositions
 pub mod OrderChecker
 pub mod Tape
 pub mod TapeWriter
+pub mod Hints
 pub mod Reader
 pub mod Tokens
 pub mod TokensSource

@@ -1,7 +1,8 @@
 //! A position in a block: the lists and maps that are open there, and the bytes that follow.
 
-ghost use Rattle.std.specs.Prelude.{◌≡◌, ◌+◌, ◌-◌, ◌<◌, ◌≤◌, ◌++◌, ◌∷◌, [], length, IfErr, OnOk, MatchOption};
+ghost use Rattle.std.specs.Prelude.{◌≡◌, ◌+◌, ◌-◌, ◌<◌, ◌≤◌, ◌++◌, ◌∷◌, [], length, IfErr, OnOk};
 ghost use Rattle.dag_cbor_format.specs.Reading.{many, pairs as pairs_frame};
+ghost use Rattle.dag_cbor_blocks.specs.Hints.{HintIs};
 ghost use Rattle.dag_cbor_blocks.specs.Position.{framed, inside, frames_of, is_open, TakesKey, NextIn};
 
 use crate::keys::Keys;
@@ -75,6 +76,7 @@ impl<'a> Position<'a> {
     pub(crate) fn new(alloc: Global, bytes: &'a [u8]) -> Self
         ensures frames { frames_of result ≡ [] }
         ensures rest { result.rest.now ≡ bytes.entry.now }
+        ensures uncounted { result.uncounted ≡ length bytes.entry.now }
     {
         Position {
             alloc,
@@ -91,9 +93,7 @@ impl<'a> Position<'a> {
     // that no other hint counts on.
     #[inline(always)]
     pub(crate) fn capacity_hint(&mut self, items: u64) -> Option<usize>
-        ensures hint { MatchOption result
-            ((self.old.uncounted < items) × (self.new.uncounted ≡ self.old.uncounted))
-            (λ n. (n ≡ items) × (n + self.new.uncounted ≡ self.old.uncounted)) }
+        ensures hint { HintIs items self.old.uncounted self.new.uncounted result }
         ensures frames { frames_of self.new ≡ frames_of self.old }
         ensures rest { self.new.rest.now ≡ self.old.rest.now }
         ensures outer { length self.new.outer.items ≡ length self.old.outer.items }
@@ -112,6 +112,7 @@ impl<'a> Position<'a> {
         ensures outer { OnOk result (length self.new.outer.items ≤ length self.old.outer.items
             + 1) }
         ensures begun { OnOk result (self.new.begun ≡ self.old.begun) }
+        ensures uncounted { OnOk result (self.new.uncounted ≡ self.old.uncounted) }
         ensures unchanged { IfErr result (λ _. (frames_of self.new ≡ frames_of self.old)
             × (self.new.rest.now ≡ self.old.rest.now)) }
     {
@@ -138,6 +139,7 @@ impl<'a> Position<'a> {
             × (self.new.outer.items ≡ self.old.outer.items)) }
         ensures rest { self.new.rest.now ≡ self.old.rest.now }
         ensures begun { self.new.begun ≡ self.old.begun }
+        ensures uncounted { self.new.uncounted ≡ self.old.uncounted }
     {
         match self.outer.push(innermost) {
             Ok(()) => Ok(()),
@@ -156,6 +158,7 @@ impl<'a> Position<'a> {
         ensures outer { OnOk result (length self.new.outer.items ≤ length self.old.outer.items
             + 1) }
         ensures begun { OnOk result (self.new.begun ≡ self.old.begun) }
+        ensures uncounted { OnOk result (self.new.uncounted ≡ self.old.uncounted) }
         ensures unchanged { IfErr result (λ _. (frames_of self.new ≡ frames_of self.old)
             × (self.new.rest.now ≡ self.old.rest.now)) }
     {
@@ -171,6 +174,7 @@ impl<'a> Position<'a> {
         ensures outer { OnOk result (length self.new.outer.items ≤ length self.old.outer.items
             + 1) }
         ensures begun { OnOk result (self.new.begun ≡ self.old.begun) }
+        ensures uncounted { OnOk result (self.new.uncounted ≡ self.old.uncounted) }
         ensures unchanged { IfErr result (λ _. (frames_of self.new ≡ frames_of self.old)
             × (self.new.rest.now ≡ self.old.rest.now)) }
     {
@@ -185,6 +189,7 @@ impl<'a> Position<'a> {
         ensures frames { frames_of self.new ≡ inside self.old.outer.items [] }
         ensures rest { self.new.rest.now ≡ self.old.rest.now }
         ensures outer { length self.new.outer.items ≡ length self.old.outer.items - 1 }
+        ensures uncounted { self.new.uncounted ≡ self.old.uncounted }
     {
         let outer = self.outer.pop().unwrap_or(Level::Whole);
         if let Level::Map(map) = mem::replace(&mut self.innermost, outer) {
@@ -198,7 +203,8 @@ impl<'a> Position<'a> {
     // level at its end.
     #[inline(always)]
     pub(crate) fn advance(&mut self) -> Result<Next<'a>, CborError>
-        ensures { NextIn self.old result self.new }
+        ensures next { NextIn self.old result self.new }
+        ensures uncounted { OnOk result (self.new.uncounted ≡ self.old.uncounted) }
     {
         let end = match &mut self.innermost {
             Level::List(items) => {

@@ -1,8 +1,9 @@
 //! A block read token by token.
 
-ghost use Rattle.std.specs.Prelude.{◌≡◌, ◌∷◌, []};
+ghost use Rattle.std.specs.Prelude.{◌≡◌, ◌∷◌, [], length};
 ghost use Rattle.dag_cbor_format.specs.Reading.{one};
-ghost use Rattle.dag_cbor_blocks.specs.Reader.{frames_of, Steps};
+ghost use Rattle.dag_cbor_blocks.specs.Hints.{announced, Hinted};
+ghost use Rattle.dag_cbor_blocks.specs.Reader.{frames_of, next_of, Steps};
 
 use crate::link::read_link_cid;
 use crate::position::{Next, Position};
@@ -34,6 +35,7 @@ impl<'a> Reader<'a> {
     pub(crate) fn new(alloc: Global, bytes: &'a [u8]) -> Self
         ensures frames { frames_of result ≡ one ∷ [] }
         ensures rest { result.position.rest.now ≡ bytes.entry.now }
+        ensures uncounted { result.position.uncounted ≡ length bytes.entry.now }
     {
         Reader {
             stage: TokenStage::Item,
@@ -44,7 +46,9 @@ impl<'a> Reader<'a> {
     // Reads the first token of an item.
     fn read_item(&mut self) -> Result<Option<Token<'a>>, CborError>
         requires { self.old.stage ≡ TokenStage.Item }
-        ensures { Steps self.old self.new result }
+        ensures steps { Steps self.old self.new result }
+        ensures hints { Hinted (announced (next_of self.old)) self.old.position.uncounted
+            self.new.position.uncounted result }
     {
         let (item_header, rest) = read_header(self.position.rest)?;
         match item_header {
@@ -78,7 +82,9 @@ impl<'a> Reader<'a> {
     // Reads the bytes of a link.
     fn read_link(&mut self) -> Result<Option<Token<'a>>, CborError>
         requires { self.old.stage ≡ TokenStage.LinkBytes }
-        ensures { Steps self.old self.new result }
+        ensures steps { Steps self.old self.new result }
+        ensures hints { Hinted (announced (next_of self.old)) self.old.position.uncounted
+            self.new.position.uncounted result }
     {
         match read_link_cid(self.position.rest) {
             Ok((_cid, encoded, rest)) => {
@@ -93,7 +99,9 @@ impl<'a> Reader<'a> {
     // Reads the next part of the innermost list or map, or the end.
     fn read_part(&mut self) -> Result<Option<Token<'a>>, CborError>
         requires { self.old.stage ≡ TokenStage.Inside }
-        ensures { Steps self.old self.new result }
+        ensures steps { Steps self.old self.new result }
+        ensures hints { Hinted (announced (next_of self.old)) self.old.position.uncounted
+            self.new.position.uncounted result }
     {
         while self.position.is_open() {
             match self.position.advance()? {
@@ -120,7 +128,9 @@ impl<'a> Reader<'a> {
     /// Returns the next token, or `None` once a whole item was returned and no byte follows it. If
     /// an allocation fails, the reader does not advance.
     pub(crate) fn advance(&mut self) -> Result<Option<Token<'a>>, CborError>
-        ensures { Steps self.old self.new result }
+        ensures steps { Steps self.old self.new result }
+        ensures hints { Hinted (announced (next_of self.old)) self.old.position.uncounted
+            self.new.position.uncounted result }
     {
         match self.stage {
             TokenStage::Item => self.read_item(),

@@ -5,12 +5,12 @@ use Rattle.ipld_tree.specs.Tree.{Tree}
 use Rattle.ipld_tokens.specs.Token.{TokenModel}
 use Rattle.dag_cbor_format.specs.Encoding.{EncodesTree}
 use Rattle.dag_cbor_format.specs.WithFloats.{EncodesIn, EncodesTreeIn}
-use Rattle.dag_cbor_format.specs.Reading.{Frame, one, Out, ended, rejected, yields, step_in, Ran, of_block}
+use Rattle.dag_cbor_format.specs.Reading.{Frame, one, Out, ended, rejected, yields, step_in, Ran, ahead, of_block}
 use Rattle.dag_cbor_format.specs.Trace.{tokens_in, Trace, traced, trace, trace_of}
 use Rattle.dag_cbor_format.proofs.FloatLaws.{has_encoding, item_encoded}
 use Rattle.dag_cbor_format.proofs.OpenFrames.{Completes, Forward, forward}
 use Rattle.dag_cbor_format.proofs.ItemHeaderLaws.{CidLaws}
-use Rattle.dag_cbor_format.proofs.Running.{weight, trace_is, erased_block}
+use Rattle.dag_cbor_format.proofs.Running.{weight, ran_of, trace_is, erased_ahead, erased_block}
 
 -- the bytes complete what is open, and these are its tokens
 abbrev Left : Bool → List Frame → List ℕ → List TokenModel → Type 0
@@ -27,6 +27,12 @@ sound : CidLaws → (floats : Bool) (k : ℕ) (fs : List Frame) (bs : List ℕ) 
 sound laws floats zero fs bs e = absurd (cc e)
 sound laws floats (suc k) fs bs e =
     sound_at floats k (length bs) (Left floats fs bs) (step_in floats fs bs) (sound laws floats k) (forward floats (Unit {0}) laws fs bs) e
+
+-- what is read to the end completes the frames
+pub completes : CidLaws → (fs : List Frame) (bs : List ℕ) → (ahead fs bs).error ≡ None → Completes false (Unit {0}) fs bs (ahead fs bs).tokens
+completes laws fs bs e =
+    let same = ap ran_of (trace_is false fs bs) ∙ erased_ahead fs bs in
+    subst (Left false fs bs) (ap (λ (r : Ran). r.tokens) same) (sound laws false (suc (weight fs bs)) fs bs (ap (λ (r : Ran). r.error) same ∙ e))
 
 -- a block that is read to its end encodes a tree
 pub encodes_tree_in : CidLaws → (floats : Bool) (bs : List ℕ) → (trace_of floats bs).error ≡ None → (t : Tree) × EncodesTreeIn floats t bs

@@ -16,7 +16,7 @@ returns-in_err-advance g c =
     let p = c.args.position.now in
     let error = err_from_is_err_and c.from_residual.result c.from_residual.ensures.1 in
     rw (error.1, error.2) (
-    elim c.in_err-advance.ensures [
+    elim c.in_err-advance.ensures.next [
       | inl (memory, frames, rest) ↦ inl memory
       | inr r ↦ inr (
           rw r.1 (
@@ -30,7 +30,7 @@ pub returns-in-Item : goal.returns-in-Item
 returns-in-Item g c =
     let p = c.args.position.now in
     let q = c.advance.new.self in
-    let next = rw c.in-Item.is at c.in_ok-advance.ensures in
+    let next = rw c.in-Item.is at c.in_ok-advance.ensures.next in
     let floats = is_on g.row.FLOATS in
     let answer = g.V.BorrowingVisitor.answer in
     let step = item_step_in floats (frames_of q) q.rest.now in
@@ -45,7 +45,7 @@ pub returns-in-Outside : goal.returns-in-Outside
 returns-in-Outside g c =
     let p = c.args.position.now in
     let q = c.advance.new.self in
-    let next = rw c.in-Outside.is at c.in_ok-advance.ensures in
+    let next = rw c.in-Outside.is at c.in_ok-advance.ensures.next in
     let floats = is_on g.row.FLOATS in
     nothing_taken floats g.V.BorrowingVisitor.answer c.args.visitor.now (kinds_of p) (ahead_of floats p) (length p.rest.now) (steps_left p) q
     (ap (λ fs. trace_ahead floats fs p.rest.now) next.0.0 ∙ ap (trace_ahead floats (frames_of q)) next.0.1) (ap length next.0.1) next.2 (next.1 c.requires)
@@ -54,7 +54,7 @@ pub returns-in_ok-visit-in-Value : goal.returns-in_ok-visit-in-Value
 returns-in_ok-visit-in-Value g c =
     let p = c.args.position.now in
     let q = c.advance.new.self in
-    let next = rw c.in-Value.is at c.in_ok-advance.ensures in
+    let next = rw c.in-Value.is at c.in_ok-advance.ensures.next in
     let t = atom (text c.in-Value.key.now) in
     let n = length q.rest.now in
     reads_after (is_on g.row.FLOATS) g.V.BorrowingVisitor.answer c.args.visitor.now c.visit.new.self c.read_item-in-Value.new.visitor (kinds_of p) (kinds_of q) next.2.0 (ahead_of (is_on g.row.FLOATS) p) (item_ahead (is_on g.row.FLOATS) q) (text c.in-Value.key.now)
@@ -68,7 +68,7 @@ pub returns-in_ok-visit-in-EndOfList : goal.returns-in_ok-visit-in-EndOfList
 returns-in_ok-visit-in-EndOfList g c =
     let p = c.args.position.now in
     let q = c.advance.new.self in
-    let next = rw c.in-EndOfList.is at c.in_ok-advance.ensures in
+    let next = rw c.in-EndOfList.is at c.in_ok-advance.ensures.next in
     end_taken (is_on g.row.FLOATS) g.V.BorrowingVisitor.answer c.args.visitor.now c.visit-in-EndOfList.new.self (kinds_of p) in_list (ahead_of (is_on g.row.FLOATS) p) (length p.rest.now) (steps_left p) q seq_end (after_a_key (frames_of q))
     (ahead_by cid_laws (is_on g.row.FLOATS) (frames_of p) p.rest.now (yields seq_end (frames_of q) q.rest.now) (next.0 (is_on g.row.FLOATS))) (c.in_ok-visit-in-EndOfList.ensures (after_a_key (frames_of q))) (λ values. refl) next.2 (next.1 c.requires)
 
@@ -76,6 +76,6 @@ pub returns-in_ok-visit-in-EndOfMap : goal.returns-in_ok-visit-in-EndOfMap
 returns-in_ok-visit-in-EndOfMap g c =
     let p = c.args.position.now in
     let q = c.advance.new.self in
-    let next = rw c.in-EndOfMap.is at c.in_ok-advance.ensures in
+    let next = rw c.in-EndOfMap.is at c.in_ok-advance.ensures.next in
     end_taken (is_on g.row.FLOATS) g.V.BorrowingVisitor.answer c.args.visitor.now c.visit-in-EndOfMap.new.self (kinds_of p) in_map (ahead_of (is_on g.row.FLOATS) p) (length p.rest.now) (steps_left p) q map_end (after_a_key (frames_of q))
     (ahead_by cid_laws (is_on g.row.FLOATS) (frames_of p) p.rest.now (yields map_end (frames_of q) q.rest.now) (next.0 (is_on g.row.FLOATS))) (c.in_ok-visit-in-EndOfMap.ensures (after_a_key (frames_of q))) (λ values. refl) next.2 (next.1 c.requires)

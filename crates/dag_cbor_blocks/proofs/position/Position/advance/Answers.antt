@@ -7,22 +7,22 @@ use Rattle.dag_cbor_format.proofs.CidLaws.{cid_laws}
 use Rattle.dag_cbor_blocks.proofs.Levels.{key_read, item_read}
 use Rattle.dag_cbor_blocks.proofs.position.Position.advance.Goals as goal
 
-pub returns-then-map-gt0 : goal.returns-then-map-gt0
-returns-then-map-gt0 c =
+pub returns-then-map-gt0-clause-next : goal.returns-then-map-gt0-clause-next
+returns-then-map-gt0-clause-next c =
     let old = c.args.self.now in
     let map = c.in-Map.map in
     let out = inside old.outer.items [] in
     key_read cid_laws (frames_of old) out map.pairs c.read_key.new.self.pairs (seen_in map.keys) (seen_in c.read_key.new.self.keys) old.rest.now c.in_ok-key-in-Map.rest.now _
     (length old.outer.items) (ap (λ l. framed l out) c.in-Map.is) (λ floats. c.in_ok-key-in-Map.ensures.1 floats out)
 
-pub returns-then-items-gt0 : goal.returns-then-items-gt0
-returns-then-items-gt0 c =
+pub returns-then-items-gt0-clause-next : goal.returns-then-items-gt0-clause-next
+returns-then-items-gt0-clause-next c =
     let old = c.args.self.now in
     let out = inside old.outer.items [] in
     item_read (frames_of old) out c.in-List.items _ old.rest.now (length old.outer.items) (ap (λ l. framed l out) c.in-List.is) c.if-items-gt0.true refl
 
-pub returns-in_err-key-in-Map : goal.returns-in_err-key-in-Map
-returns-in_err-key-in-Map c =
+pub returns-in_err-key-in-Map-clause-next : goal.returns-in_err-key-in-Map-clause-next
+returns-in_err-key-in-Map-clause-next c =
     let old = c.args.self.now in
     let out = inside old.outer.items [] in
     let error = err_from_is_err_and c.from_residual.result c.from_residual.ensures.1 in

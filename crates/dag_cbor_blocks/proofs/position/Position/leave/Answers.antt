@@ -14,4 +14,5 @@ returns-in_default c =
       frames = left c.args.self.now.outer.items c.pop.new.self.items c.pop.result c.replace.new.dest c.pop.ensures.items (c.replace.ensures.after ∙ c.unwrap_or-outer.ensures);
       rest = search rules;
       outer = search rules;
+      uncounted = search rules;
     }

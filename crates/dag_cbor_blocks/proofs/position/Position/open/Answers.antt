@@ -9,6 +9,7 @@ returns-then-len-capacity c = record {
   rest = refl;
   outer = search rules;
   begun = refl;
+  uncounted = refl;
   unchanged = tt;
 }
 
@@ -22,5 +23,6 @@ returns-else-len-capacity c =
       rest = on_ok c.grow.result g.rest;
       outer = not_longer c.grow.result new.innermost c.replace.new.dest c.args.level c.replace.result old.innermost new.outer.items old.outer.items g.outer;
       begun = on_ok c.grow.result g.begun;
+      uncounted = on_ok c.grow.result g.uncounted;
       unchanged = put_back c.grow.result new.innermost c.replace.new.dest c.args.level c.replace.result old.innermost new.outer.items old.outer.items new.rest.now old.rest.now g.restored c.replace.ensures.value g.rest;
     }

@@ -5,14 +5,14 @@ use Rattle.dag_cbor_blocks.specs.Position.{frames_of}
 use Rattle.dag_cbor_blocks.specs.Reader.{in_stage}
 use Rattle.dag_cbor_blocks.proofs.reader.Reader.read_link.Goals as goal
 
-pub returns-in-Ok : goal.returns-in-Ok
-returns-in-Ok c =
+pub returns-in-Ok-clause-steps : goal.returns-in-Ok-clause-steps
+returns-in-Ok-clause-steps c =
     let block = c.args.self.now.position.rest.now in
     let fs = frames_of c.args.self.now.position in
     (fs, ap (λ s. step (in_stage s fs) block) c.requires ∙ ap (after_link fs (link_error block)) c.in-Ok.ensures.encoded, refl)
 
-pub returns-in-Err : goal.returns-in-Err
-returns-in-Err c =
+pub returns-in-Err-clause-steps : goal.returns-in-Err-clause-steps
+returns-in-Err-clause-steps c =
     let block = c.args.self.now.position.rest.now in
     let fs = frames_of c.args.self.now.position in
     let missing = c.in-Err.ensures.encoded in
