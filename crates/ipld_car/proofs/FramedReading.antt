@@ -23,8 +23,8 @@ framed_none limit room old new size r = r
 -- the length is none
 pub framed_no_length : (limit room : ℕ) (old new : Option (List ℕ)) (size : List ℕ) (kind : CarErrorKind) → ReadsLength room old new size (Err kind)
     → ReadsFramed limit room old new size (Err kind)
-framed_no_length limit room old new size Memory r = inl r
-framed_no_length limit room old new size (Read error) r = (inl r.0, r.1)
+framed_no_length limit room old new size Memory r = (inl r.0, r.1)
+framed_no_length limit room old new size (Read error) r = (inl r.0, r.1, r.2)
 framed_no_length limit room old new size UnexpectedEnd r = (inl r.0, r.1, r.2)
 framed_no_length limit room old new size LengthNotShortest r = r
 framed_no_length limit room old new size LengthTooLarge r = r
@@ -86,17 +86,19 @@ framed_over limit room old mid new size after n count r within all over f = (
 )
 
 fault_of_reader : (limit room : ℕ) (old new : Option (List ℕ)) (after : List ℕ) (kind : CarErrorKind) → IsReaderError kind → IsCut limit after
-    → FramingFault limit room old new after kind
-fault_of_reader limit room old new after Memory e c = c
-fault_of_reader limit room old new after (Read error) e c = (c, e)
-fault_of_reader limit room old new after _ e c = absurd e
+    → length after < room → FramingFault limit room old new after kind
+fault_of_reader limit room old new after Memory e c few = (c, few)
+fault_of_reader limit room old new after (Read error) e c few = (c, e, few)
+fault_of_reader limit room old new after _ e c few = absurd e
 
 -- the reader failed
 pub framed_fails : (limit room : ℕ) (old mid new : Option (List ℕ)) (size after : List ℕ) (n count : ℕ) (kind : CarErrorKind) → ReadsLength room old mid size (Ok (Some n))
-    → n ≤ limit → count ≤ n → Fills mid new size after count (Err kind)
+    → n ≤ limit → count ≤ n → count ≤ room - length size → Fills mid new size after count (Err kind)
     → ReadsFramed limit room old new after (Err kind)
-framed_fails limit room old mid new size after n count kind r within few f =
-    fault_of_reader limit room old new after kind f.outcome.1 (cut limit n size f.got after r.0 within (let s = f.outcome.0 in omega arith) f.behind)
+framed_fails limit room old mid new size after n count kind r within few fits f =
+    let s = f.outcome.0 in
+    fault_of_reader limit room old new after kind f.outcome.1 (cut limit n size f.got after r.0 within (omega arith) f.behind)
+    (let e = ap length f.behind ∙ length-append size f.got in omega arith)
 
 -- no more was taken than may be
 pub framed_within : (mid new : Option (List ℕ)) (size after : List ℕ) (room count : ℕ) (result : Result Bool CarErrorKind)

@@ -65,16 +65,18 @@ pub length_ends : (old mid new : Option (List ℕ)) (taken after : List ℕ) (va
     → TakesByte room mid new taken after (Ok None) → Consumes old new after
 length_ends old mid new taken after value place room g t = rw t.0 (kept old mid new taken g.consumed t.1)
 
-fault_of_reader : (room : ℕ) (old new : Option (List ℕ)) (taken : List ℕ) (kind : CarErrorKind) → IsReaderError kind → BeginsVarint taken → LengthFault room old new taken kind
-fault_of_reader room old new taken Memory e b = b
-fault_of_reader room old new taken (Read error) e b = (b, e)
-fault_of_reader room old new taken _ e b = absurd e
+fault_of_reader : (room : ℕ) (old new : Option (List ℕ)) (taken : List ℕ) (kind : CarErrorKind) → IsReaderError kind → BeginsVarint taken → length taken < room
+    → LengthFault room old new taken kind
+fault_of_reader room old new taken Memory e b few = (b, few)
+fault_of_reader room old new taken (Read error) e b few = (b, e, few)
+fault_of_reader room old new taken _ e b few = absurd e
 
 -- the reader failed
 pub length_fails : (old mid new : Option (List ℕ)) (taken after : List ℕ) (value place room : ℕ) (kind : CarErrorKind) → ReadsGroups old mid taken value place room
     → TakesByte room mid new taken after (Err kind) → ReadsLength room old new after (Err kind) × Consumes old new after
 length_fails old mid new taken after value place room kind g t =
-    rw t.0 (fault_of_reader room old new taken kind t.2 (begins old mid taken value place room g), kept old mid new taken g.consumed t.1)
+    let few : length taken < room = let p = g.placed in let w = g.within in let r = t.3 in omega arith in
+    rw t.0 (fault_of_reader room old new taken kind t.2 (begins old mid taken value place room g) few, kept old mid new taken g.consumed t.1)
 
 -- one byte more
 pub length_more : (old mid new : Option (List ℕ)) (taken after : List ℕ) (value place room byte : ℕ) → ReadsGroups old mid taken value place room

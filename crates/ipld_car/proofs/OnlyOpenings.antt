@@ -179,7 +179,7 @@ no_version2_fault before rest got left known new size UnexpectedEnd place b e is
     let whole = before_long before size b in
     absurd (elim f.2 [
       | inl few ↦ omega arith
-      | inr few ↦ omega arith
+      | inr cut ↦ let few = cut.1 in omega arith
     ])
 no_version2_fault before rest got left known new size NoPayload place b e is fits f =
     let behind = append_cancel_left pragma _ _ (sym (append_assoc pragma got left) ∙ sym e ∙ before_more before rest size b) in
@@ -209,10 +209,10 @@ no_fault_in_1 limit new error bytes rest roots h fits (in_header taken c f other
     let s = header_stands limit (2 ^ 64 - 1) bytes rest taken k.0 roots h fits k.2 in
     no_header_fault limit (2 ^ 64 - 1) block taken k.0 (bytes ++ rest) new (header_tree roots) error.kind f.place s k.1 e
     (header_allowed roots block e (let w = s.within_room in omega arith)) (λ kind framed o. no_other roots block e o) f.why
-no_fault_in_1 limit new error bytes rest roots h fits (in_version2 got c f) =
+no_fault_in_1 limit new error bytes rest roots h fits (in_version2 got limited c f) =
     let k = consumed_of (bytes ++ rest) (pragma ++ got) new c in
     absurd (no_pragma_before limit bytes rest (got ++ k.0) roots h (k.2 ∙ append_assoc pragma got k.0))
-no_fault_in_1 limit new error bytes rest roots h fits (in_payload before taken size b c f) =
+no_fault_in_1 limit new error bytes rest roots h fits (in_payload before taken size limited b short c f) =
     let k = consumed_of (bytes ++ rest) (before ++ taken) new c in
     absurd (no_pragma_before limit bytes rest (b.header ++ (b.padding ++ (taken ++ k.0))) roots h
     (k.2 ∙ append_assoc before taken k.0 ∙ before_more before (taken ++ k.0) size b))
@@ -227,10 +227,10 @@ no_fault_in_2 limit new error before header rest size roots b h few within fits 
     no_header_fault limit (2 ^ 64 - 1) pragma_block taken k.0 (before ++ (header ++ rest)) new pragma_tree error.kind f.place s k.1 pragma_encoded pragma_allowed
     (λ kind framed o. subst (IsNoPragma taken) kind other
     (pragma_is limit (2 ^ 64 - 1) taken f.place framed (framed_is limit (2 ^ 64 - 1) pragma_block taken k.0 f.place s framed))) f.why
-no_fault_in_2 limit new error before header rest size roots b h few within fits (in_version2 got c f) =
+no_fault_in_2 limit new error before header rest size roots b h few within fits (in_version2 got limited c f) =
     let k = consumed_of (before ++ (header ++ rest)) (pragma ++ got) new c in
     no_version2_fault before (header ++ rest) got k.0 (before ++ (header ++ rest)) new size error.kind f.place b k.2 k.1 fits f.why
-no_fault_in_2 limit new error before header rest size roots b h few within fits (in_payload before_too taken size_too d c f) =
+no_fault_in_2 limit new error before header rest size roots b h few within fits (in_payload before_too taken size_too limited d short c f) =
     let k = consumed_of (before ++ (header ++ rest)) (before_too ++ taken) new c in
     let same = two_befores before (header ++ rest) before_too (taken ++ k.0) size size_too b d (k.2 ∙ append_assoc before_too taken k.0) in
     let block = h.header.block in

@@ -184,6 +184,7 @@ before_is start end old new t =
         encoded = sym (append_assoc pragma t.header t.padding);
         begins = t.places.begins ∙ sym long;
         spans = let e = t.places.ends in omega arith;
+        fits = let e = t.places.ends in let f = t.places.fits in omega arith;
       },
       long,
     )
@@ -228,10 +229,11 @@ version2_later old mid new before got UnexpectedEnd place c f = (f.0, read_out_l
 version2_later old mid new before got _ place c f = f
 
 version2_fault : (limit start end : ℕ) (old mid new : Option (List ℕ)) (taken : List ℕ) (error : CarError)
-    → TakesToPayload old mid start end → Consumes mid new taken → Fails start (PayloadFault limit (end - start) mid new taken) error → behind.FaultBehindPragma limit old new error
-version2_fault limit start end old mid new taken error t c f =
+    → TakesToPayload old mid start end → Consumes mid new taken → length taken ≤ end - start → Fails start (PayloadFault limit (end - start) mid new taken) error
+    → behind.FaultBehindPragma limit old new error
+version2_fault limit start end old mid new taken error t c within f =
     let before = before_is start end old mid t in
-    behind.in_payload (t.header ++ t.padding) taken (end - start) before.0 (Consumes-trans old mid new (t.header ++ t.padding) taken t.consumed c)
+    behind.in_payload (t.header ++ t.padding) taken (end - start) before.0 within (Consumes-trans old mid new (t.header ++ t.padding) taken t.consumed c)
     (record {
       place = f.place;
       section = f.section ∙ sym before.1;
@@ -243,7 +245,7 @@ pub version2_header : (limit start end : ℕ) (old mid new : Option (List ℕ)) 
     → TakesToPayload old mid start end → Consumes mid new taken → length taken ≤ end - start → found ≡ length taken
     → ReadsHeaderBlock (taking limit start end mid new taken) (Err error) → behind.FaultBehindPragma limit old new (short_payload (end - start) found error)
 version2_header limit start end old mid new taken found error t c within counted f = rw counted (
-    version2_fault limit start end old mid new taken (short_payload (end - start) (length taken) error) t c (record {
+    version2_fault limit start end old mid new taken (short_payload (end - start) (length taken) error) t c within (record {
       place = f.place;
       section = f.section;
       offset = f.offset;
@@ -254,8 +256,11 @@ pub version2_roots : (limit start end : ℕ) (old mid new : Option (List ℕ)) (
     → TakesToPayload old mid start end → Consumes mid new taken → ReadsHeaderBlock (taking limit start end mid new taken) (Ok place)
     → ReadsRootsAt (drop place taken) start place (Err error) → behind.FaultBehindPragma limit old new error
 version2_roots limit start end old mid new taken place error t c f r =
-    version2_fault limit start end old mid new taken error t c
+    version2_fault limit start end old mid new taken error t c f.within_room
     (record { place = place; section = r.0; offset = r.1; why = payload_roots limit (end - start) mid new taken place error.kind f r.2 })
+
+pragma_within : (limit room : ℕ) (taken : List ℕ) (start : ℕ) → IsFramed limit room taken start → drop start taken ≡ pragma_block → length pragma_block ≤ limit
+pragma_within limit room taken start f is = subst (λ xs. length xs ≤ limit) (sym (content_is limit room taken start f) ∙ is) f.within_limit
 
 -- the pragma and what is behind it
 pub version2_all : (limit : ℕ) (old mid new : Option (List ℕ)) (taken : List ℕ) (start : ℕ) (opening : Opening) → Consumes old mid taken
@@ -273,7 +278,7 @@ version2_all limit old mid new taken start opening c f is o =
         sym (append_assoc pragma o.before o.header),
         o.before_payload,
         o.is_header,
-        subst (λ xs. length xs ≤ limit) (sym (content_is limit (2 ^ 64 - 1) taken start f) ∙ is) f.within_limit,
+        pragma_within limit (2 ^ 64 - 1) taken start f is,
         o.start,
         o.ends,
       );
@@ -288,11 +293,11 @@ pub version2_fails : (limit : ℕ) (old mid new : Option (List ℕ)) (taken : Li
     → OpenFault limit old new error
 version2_fails limit old mid new taken start error c f is (behind.before_payload got g w) =
     let first : Consumes old mid pragma = subst (Consumes old mid) (pragma_is limit (2 ^ 64 - 1) taken start f is) c in
-    in_version2 got (Consumes-trans old mid new pragma got first g)
+    in_version2 got (pragma_within limit (2 ^ 64 - 1) taken start f is) (Consumes-trans old mid new pragma got first g)
     (record { place = w.place; section = w.section; offset = w.offset; why = version2_later old mid new pragma got error.kind w.place first w.why })
-version2_fails limit old mid new taken start error c f is (behind.in_payload before header size b g w) =
+version2_fails limit old mid new taken start error c f is (behind.in_payload before header size b within g w) =
     let first : Consumes old mid pragma = subst (Consumes old mid) (pragma_is limit (2 ^ 64 - 1) taken start f is) c in
-    in_payload (pragma ++ before) header size b (subst (Consumes old new) (sym (append_assoc pragma before header)) (Consumes-trans old mid new pragma (before ++ header) first g))
+    in_payload (pragma ++ before) header size (pragma_within limit (2 ^ 64 - 1) taken start f is) b within (subst (Consumes old new) (sym (append_assoc pragma before header)) (Consumes-trans old mid new pragma (before ++ header) first g))
     (record { place = w.place; section = w.section; offset = w.offset; why = fault_later limit size old mid new pragma header error.kind w.place first w.why })
 
 pub version2_either : (limit : ℕ) (old mid new : Option (List ℕ)) (taken : List ℕ) (start : ℕ) (result : Result Opening CarError) → Consumes old mid taken

@@ -1,5 +1,5 @@
 -- Zeros that are allowed after the last section.
-use Rattle.std.proofs.Common.{◌≡◌, ℕ, ◌+◌, Bool, true, false, List, [], ◌∷◌, ◌++◌, length, Option, Some, None, inl, refl, sym, ap, ◌∙◌, arith, append_assoc}
+use Rattle.std.proofs.Common.{◌≡◌, ℕ, ◌+◌, ◌<◌, Bool, true, false, List, [], ◌∷◌, ◌++◌, length, Option, Some, None, inl, refl, sym, ap, ◌∙◌, arith, append_assoc}
 use Rattle.std.proofs.lemmas.Bool.{eqb-true}
 use Rattle.std.specs.Io.KnownBytes.{Keeps}
 use Rattle.ipld_cid.specs.declared.error.CidError.TheVariants.{End}
@@ -54,9 +54,9 @@ no_section (Some xs) bytes rest block is_zero z is_yes e is =
 
 -- the reader failed before a byte was taken
 pub look_fails : (limit room begin : ℕ) (old new : Option (List ℕ)) (taken : List ℕ) (kind : CarErrorKind) (error : CarError) → IsReaderError kind → taken ≡ []
-    → error ≡ record { kind = kind; section = begin; offset = begin + 0 } → Fails begin (SectionFault limit room old new taken) error
-look_fails limit room begin old new taken Memory error fault none made =
-    rw (made, none) (record { place = 0; section = refl; offset = refl; why = (inl nothing, refl) })
-look_fails limit room begin old new taken (Read e) error fault none made =
-    rw (made, none) (record { place = 0; section = refl; offset = refl; why = ((inl nothing, fault), refl) })
-look_fails limit room begin old new taken _ error fault none made = absurd fault
+    → 0 < room → error ≡ record { kind = kind; section = begin; offset = begin + 0 } → Fails begin (SectionFault limit room old new taken) error
+look_fails limit room begin old new taken Memory error fault none some made =
+    rw (made, none) (record { place = 0; section = refl; offset = refl; why = ((inl nothing, some), refl) })
+look_fails limit room begin old new taken (Read e) error fault none some made =
+    rw (made, none) (record { place = 0; section = refl; offset = refl; why = ((inl nothing, fault, some), refl) })
+look_fails limit room begin old new taken _ error fault none some made = absurd fault

@@ -8,7 +8,7 @@ use Rattle.ipld_car.specs.declared.error.CarError.{CarError}
 use Rattle.ipld_car.specs.declared.error.CarErrorKind.{CarErrorKind}
 use Rattle.ipld_car.specs.declared.error.CarErrorKind.TheVariants.{Memory, Read, UnexpectedEnd, Payload as NoPayload}
 use Rattle.ipld_car.specs.Taking.{Fills, IsReadOut, IsReaderError}
-use Rattle.ipld_car.specs.Version2.{start_in, HasNoPayload, PlacesPayload, SkipsPadding, Version2Fault, TakesToPayload, FailsBeforePayload}
+use Rattle.ipld_car.specs.Version2.{start_in, size_in, HasNoPayload, PlacesPayload, SkipsPadding, EndsBeforePayload, Version2Fault, TakesToPayload, FailsBeforePayload}
 use Rattle.ipld_car.proofs.Takings.{read_out_later}
 
 -- some of the padding was skipped, and some is left
@@ -94,14 +94,29 @@ start_kept header got sized =
     let behind : length (drop 16 header) ≡ 24 = let e = length-drop 16 header in omega arith in
     ap (from_le_bytes w64) (ap (take 8) (drop-append-le 16 header got (omega arith)) ∙ take-append-le 8 (drop 16 header) got (omega arith))
 
-cut_fault : (old new : Option (List ℕ)) (header got : List ℕ) (start : ℕ) → start_in header ≡ start → length header ≡ 40 → 51 ≤ start → length got < start - 51 → IsReadOut old new
-    → Version2Fault old new (header ++ got) UnexpectedEnd (length (header ++ got))
-cut_fault old new header got start e sized behind short out = (refl, out, inr (let k = start_kept header got sized in let a = length-append header got in omega arith))
+size_kept : (header got : List ℕ) → length header ≡ 40 → size_in (header ++ got) ≡ size_in header
+size_kept header got sized =
+    let behind : length (drop 24 header) ≡ 16 = let e = length-drop 24 header in omega arith in
+    ap (from_le_bytes w64) (ap (take 8) (drop-append-le 24 header got (omega arith)) ∙ take-append-le 8 (drop 24 header) got (omega arith))
 
-fault_of_reader : (old new : Option (List ℕ)) (got : List ℕ) (kind : CarErrorKind) → IsReaderError kind → Version2Fault old new got kind (length got)
-fault_of_reader old new got Memory e = refl
-fault_of_reader old new got (Read error) e = (refl, e)
-fault_of_reader old new got _ e = absurd e
+-- a header that places the payload, and some of the padding
+within_padding : (header got : List ℕ) (start end : ℕ) → length header ≡ 40 → PlacesPayload header start end → length got < start - 51 → EndsBeforePayload (header ++ got)
+within_padding header got start end sized p short =
+    let s = start_kept header got sized in
+    let z = size_kept header got sized in
+    let b = p.begins in let h = p.behind in let e = p.ends in let f = p.fits in
+    inr (
+      λ none. elim none [
+        | inl early ↦ omega arith
+        | inr late ↦ omega arith
+      ],
+      let a = length-append header got in omega arith,
+    )
+
+fault_of_reader : (old new : Option (List ℕ)) (got : List ℕ) (kind : CarErrorKind) → IsReaderError kind → EndsBeforePayload got → Version2Fault old new got kind (length got)
+fault_of_reader old new got Memory e cut = (refl, cut)
+fault_of_reader old new got (Read error) e cut = (refl, e, cut)
+fault_of_reader old new got _ e cut = absurd e
 
 -- the padding isn't all there
 pub payload_padding : (old mid new : Option (List ℕ)) (header : List ℕ) (start end : ℕ) (error : CarError) → Fills old mid [] header 40 (Ok true)
@@ -110,6 +125,7 @@ payload_padding old mid new header start end error f p s =
     let sized : length header ≡ 40 = ap length f.behind ∙ f.outcome in
     let taken = header_taken old mid header (Ok true) f in
     let both = length-append header s.got in
+    let cut = within_padding header s.got start end sized p s.outcome.0 in
     record {
       got = header ++ s.got;
       consumed = Consumes-trans old mid new header s.got taken s.consumed;
@@ -118,13 +134,16 @@ payload_padding old mid new header start end error f p s =
         section = s.outcome.1;
         offset = let o = s.outcome.2 in omega arith;
         why = elim s.outcome.3 [
-          | inl end_here ↦ rw end_here.0 (cut_fault old new header s.got start p.begins sized p.behind s.outcome.0 (read_out_later old mid new header taken end_here.1))
-          | inr failed ↦ fault_of_reader old new (header ++ s.got) error.kind failed
+          | inl end_here ↦ rw end_here.0 (refl, read_out_later old mid new header taken end_here.1, cut)
+          | inr failed ↦ fault_of_reader old new (header ++ s.got) error.kind failed cut
         ];
       };
     }
 
 -- the header isn't all there
+header_cut : (old new : Option (List ℕ)) (header : List ℕ) (kind : CarErrorKind) → (f : Fills old new [] header 40 (Err kind)) → EndsBeforePayload header
+header_cut old new header kind f = inl (let b = ap length f.behind in let o = f.outcome.0 in omega arith)
+
 pub payload_cut : (old new : Option (List ℕ)) (header : List ℕ) (error : CarError) → Fills old new [] header 40 (Ok false)
     → error ≡ record { kind = UnexpectedEnd; section = 11; offset = 11 + length header } → FailsBeforePayload old new error
 payload_cut old new header error f e = rw e (record {
@@ -138,7 +157,7 @@ pub payload_fails : (old new : Option (List ℕ)) (header : List ℕ) (kind : Ca
 payload_fails old new header kind error f e = rw e (record {
   got = header;
   consumed = header_taken old new header (Err kind) f;
-  fails = record { place = length header; section = refl; offset = refl; why = fault_of_reader old new header kind f.outcome.1 };
+  fails = record { place = length header; section = refl; offset = refl; why = fault_of_reader old new header kind f.outcome.1 (header_cut old new header kind f) };
 })
 
 -- the header places the payload where none can be

@@ -41,10 +41,11 @@ pub record IsCutShort (limit room : ℕ) (old new : Option (List ℕ)) (taken : 
   pub short : length taken < room
   pub ends : IsReadOut old new
 
--- True if the bytes taken are not a varint and the content that it counts, for this reason.
+-- True if the bytes taken are not a varint and the content that it counts, for this reason. An
+-- allocation or the reader fails only before `room` bytes were taken.
 abbrev pub FramingFault : ℕ → ℕ → Option (List ℕ) → Option (List ℕ) → List ℕ → CarErrorKind → Type 0
-FramingFault limit room old new taken Memory = IsCut limit taken
-FramingFault limit room old new taken (Read error) = IsCut limit taken × IsReadError error
+FramingFault limit room old new taken Memory = IsCut limit taken × (length taken < room)
+FramingFault limit room old new taken (Read error) = IsCut limit taken × IsReadError error × (length taken < room)
 FramingFault limit room old new taken UnexpectedEnd = IsCut limit taken × (taken ≢ []) × Ends room old new taken
 FramingFault limit room old new taken LengthNotShortest = IsNoVarint taken VarintNotShortest
 FramingFault limit room old new taken LengthTooLarge = IsNoVarint taken VarintTooLarge

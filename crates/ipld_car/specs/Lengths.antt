@@ -1,5 +1,5 @@
 -- The varint before a header or a section, by the bytes that were taken for it.
-use Rattle.std.specs.Prelude.{◌≡◌, ◌≢◌, ◌≤◌, ℕ, List, [], ◌∷◌, ◌++◌, length, Option, Some, None, Result, Ok, Err}
+use Rattle.std.specs.Prelude.{◌≡◌, ◌≢◌, ◌≤◌, ◌<◌, ℕ, List, [], ◌∷◌, ◌++◌, length, Option, Some, None, Result, Ok, Err}
 use Rattle.ipld_cid.specs.declared.error.CidError.{CidError}
 use Rattle.ipld_cid.specs.declared.error.CidError.TheVariants.{End, NotShortest as VarintNotShortest, VarintTooLarge}
 use Rattle.ipld_cid.specs.Varint.{IsVarint, read_varint}
@@ -26,10 +26,11 @@ pub record IsNoVarint (bytes : List ℕ) (error : CidError) : Type 0 where
   pub begins : BeginsVarint front
   pub error_is : read_varint bytes ≡ Err error
 
--- True if the bytes taken are not a varint, for this reason.
+-- True if the bytes taken are not a varint, for this reason. An allocation or the reader fails only
+-- before `room` bytes were taken.
 abbrev pub LengthFault : ℕ → Option (List ℕ) → Option (List ℕ) → List ℕ → CarErrorKind → Type 0
-LengthFault room old new taken Memory = BeginsVarint taken
-LengthFault room old new taken (Read error) = BeginsVarint taken × IsReadError error
+LengthFault room old new taken Memory = BeginsVarint taken × (length taken < room)
+LengthFault room old new taken (Read error) = BeginsVarint taken × IsReadError error × (length taken < room)
 LengthFault room old new taken UnexpectedEnd = BeginsVarint taken × (taken ≢ []) × Ends room old new taken
 LengthFault room old new taken LengthNotShortest = IsNoVarint taken VarintNotShortest
 LengthFault room old new taken LengthTooLarge = IsNoVarint taken VarintTooLarge

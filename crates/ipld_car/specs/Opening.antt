@@ -71,12 +71,13 @@ PayloadFault limit size old new taken UnexpectedEnd place = IsCut limit taken ×
 PayloadFault limit size old new taken kind place = HeaderFault limit size old new taken kind place
 
 -- True if the part before the sections cannot be read because of this error. It is in the header of
--- version 1, in the header of version 2, or in the header of its payload.
+-- version 1, in the header of version 2, or in the header of its payload. In version 2 the block of
+-- the pragma is within the limit, and nothing after the payload is taken.
 pub data OpenFault (limit : ℕ) (old new : Option (List ℕ)) (error : CarError) : Type 0 where
   in_header : (taken : List ℕ) → Consumes old new taken → Fails 0 (HeaderFault limit (2 ^ 64 - 1) old new taken) error → IsNoPragma taken error.kind
       → OpenFault limit old new error
-  in_version2 : (got : List ℕ) → Consumes old new (pragma ++ got) → Fails 11 (Version2Fault old new got) error → OpenFault limit old new error
-  in_payload : (before taken : List ℕ) (size : ℕ) → IsBeforePayload before size → Consumes old new (before ++ taken)
+  in_version2 : (got : List ℕ) → length pragma_block ≤ limit → Consumes old new (pragma ++ got) → Fails 11 (Version2Fault old new got) error → OpenFault limit old new error
+  in_payload : (before taken : List ℕ) (size : ℕ) → length pragma_block ≤ limit → IsBeforePayload before size → length taken ≤ size → Consumes old new (before ++ taken)
       → Fails (length before) (PayloadFault limit size old new taken) error → OpenFault limit old new error
 
 -- True if the block of a header was taken, which begins at `start`, or the error is why it was not.

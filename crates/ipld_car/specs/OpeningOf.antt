@@ -32,7 +32,7 @@ pub record OpensBehindPragma (limit : ℕ) (old new : Option (List ℕ)) (openin
 -- True if the error is why they were not taken: it is before the payload, or in its header.
 pub data FaultBehindPragma (limit : ℕ) (old new : Option (List ℕ)) (error : CarError) : Type 0 where
   before_payload : (got : List ℕ) → Consumes old new got → Fails 11 (Version2Fault old new got) error → FaultBehindPragma limit old new error
-  in_payload : (before taken : List ℕ) (size : ℕ) → IsBeforePayload (pragma ++ before) size → Consumes old new (before ++ taken)
+  in_payload : (before taken : List ℕ) (size : ℕ) → IsBeforePayload (pragma ++ before) size → length taken ≤ size → Consumes old new (before ++ taken)
       → Fails (length (pragma ++ before)) (PayloadFault limit size old new taken) error → FaultBehindPragma limit old new error
 
 abbrev pub OpensVersion2 : ℕ → Option (List ℕ) → Option (List ℕ) → Result Opening CarError → Type 0

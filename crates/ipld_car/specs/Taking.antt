@@ -70,8 +70,8 @@ abbrev pub Ends : ℕ → Option (List ℕ) → Option (List ℕ) → List ℕ �
 Ends room old new taken = (length taken ≡ room) ⊎ IsReadOut old new
 
 -- True if one byte was taken, or no byte because the room is full, the reader is at its end, or it
--- failed.
+-- failed. If the room is full, it did not fail.
 abbrev pub TakesByte : ℕ → Option (List ℕ) → Option (List ℕ) → List ℕ → List ℕ → Result (Option ℕ) CarErrorKind → Type 0
 TakesByte room old new before after (Ok (Some byte)) = (after ≡ before ++ byte ∷ []) × Consumes old new (byte ∷ []) × (byte < 256) × (length before ≢ room)
 TakesByte room old new before after (Ok None) = (after ≡ before) × Consumes old new [] × Ends room old new before
-TakesByte room old new before after (Err kind) = (after ≡ before) × Consumes old new [] × IsReaderError kind
+TakesByte room old new before after (Err kind) = (after ≡ before) × Consumes old new [] × IsReaderError kind × (length before ≢ room)

@@ -27,7 +27,7 @@ start_in header = from_le_bytes w64 (slice_range header 16 24)
 abbrev pub size_in : List ℕ → ℕ
 size_in header = from_le_bytes w64 (slice_range header 24 32)
 
--- True if the bytes are the part before a payload of `size` bytes.
+-- True if the bytes are the part before a payload of `size` bytes, which ends below 2^64.
 pub record IsBeforePayload (bytes : List ℕ) (size : ℕ) : Type 0 where
   pub header : List ℕ
   pub padding : List ℕ
@@ -35,16 +35,18 @@ pub record IsBeforePayload (bytes : List ℕ) (size : ℕ) : Type 0 where
   pub encoded : bytes ≡ pragma ++ header ++ padding
   pub begins : start_in header ≡ length bytes
   pub spans : size_in header ≡ size
+  pub fits : length bytes + size < 2 ^ 64
 
 -- True if the header places the payload before byte 51, or its end at 2^64 or more.
 abbrev pub HasNoPayload : List ℕ → Type 0
 HasNoPayload header = (start_in header < 51) ⊎ (2 ^ 64 ≤ start_in header + size_in header)
 
--- True if the header places the payload from `start` to `end`, after the header.
+-- True if the header places the payload from `start` to `end`, after the header and below 2^64.
 pub record PlacesPayload (header : List ℕ) (start end : ℕ) : Type 0 where
   pub begins : start_in header ≡ start
   pub behind : 51 ≤ start
   pub ends : start + size_in header ≡ end
+  pub fits : end < 2 ^ 64
 
 -- True if `count` bytes of padding were skipped, or the error is why they were not.
 pub record SkipsPadding (old new : Option (List ℕ)) (count : ℕ) (result : Result (Unit {0}) CarError) : Type 0 where
@@ -53,12 +55,17 @@ pub record SkipsPadding (old new : Option (List ℕ)) (count : ℕ) (result : Re
   pub outcome : MatchResult result (λ _. length got ≡ count)
       (λ error. (length got < count) × (error.section ≡ 11) × (error.offset ≡ 51 + length got) × (((error.kind ≡ UnexpectedEnd) × IsReadOut old new) ⊎ IsReaderError error.kind))
 
+-- True if the bytes after the pragma end within the header, or within the padding after a header
+-- that places the payload.
+abbrev pub EndsBeforePayload : List ℕ → Type 0
+EndsBeforePayload got = (length got < 40) ⊎ ((HasNoPayload got → ⊥) × (length got < start_in got - 11))
+
 -- True if the bytes after the pragma are not the rest of the part before a payload, for this reason
 -- and at this place.
 abbrev pub Version2Fault : Option (List ℕ) → Option (List ℕ) → List ℕ → CarErrorKind → ℕ → Type 0
-Version2Fault old new got Memory place = place ≡ length got
-Version2Fault old new got (Read error) place = (place ≡ length got) × IsReadError error
-Version2Fault old new got UnexpectedEnd place = (place ≡ length got) × IsReadOut old new × ((length got < 40) ⊎ (length got < start_in got - 11))
+Version2Fault old new got Memory place = (place ≡ length got) × EndsBeforePayload got
+Version2Fault old new got (Read error) place = (place ≡ length got) × IsReadError error × EndsBeforePayload got
+Version2Fault old new got UnexpectedEnd place = (place ≡ length got) × IsReadOut old new × EndsBeforePayload got
 Version2Fault old new got NoPayload place = (place ≡ 16) × (length got ≡ 40) × HasNoPayload got
 Version2Fault old new got _ place = ⊥
 

@@ -10,7 +10,8 @@ returns-in-Ok-true-clause-only g c = λ block bytes rest known is few fits. no_s
 
 pub returns-in-Err-clause-read : goal.returns-in-Err-clause-read
 returns-in-Err-clause-read g c =
-    look_fails c.args.self.now.limit _ c.args.self.now.offset _ _ (taken_of c.clear-in-Err.new.self) c.in-Err.kind _ c.in-Err.ensures.fault c.clear-in-Err.ensures.taken c.section_error.ensures
+    look_fails c.args.self.now.limit _ c.args.self.now.offset _ _ (taken_of c.clear-in-Err.new.self) c.in-Err.kind _ c.in-Err.ensures.fault c.clear-in-Err.ensures.taken (omega arith)
+    c.section_error.ensures
 
 pub returns-clause-only : goal.returns-clause-only
 returns-clause-only g c = λ block bytes rest known is few fits.
