@@ -16,8 +16,8 @@ use Rattle.dag_pb.specs.Node.{LinkParts, NodeParts, IsNode}
 use Rattle.dag_pb.specs.NodeReading.{Field, link, read_part, empty_node, with_field, joined, hashes, read_fields, in_block, read_node, links_found}
 use Rattle.dag_pb.specs.Views.{parts_of_link, part_of, IsLinkField, IsOutOfMemory}
 use Rattle.pb_wire.proofs.Steps.{bind_ok, same_ok}
-use Rattle.dag_pb.proofs.FieldSteps.{ends, goes_on, stops_at}
-use Rattle.dag_pb.proofs.NodeLaws.{node_sound, node_complete}
+use Rattle.dag_pb.specs.Lemmas.FieldSteps.{ends, goes_on, stops_at}
+use Rattle.dag_pb.specs.Lemmas.NodeLaws.{node_sound, node_complete}
 
 -- ---- the loops
 

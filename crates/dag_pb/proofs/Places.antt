@@ -22,7 +22,7 @@ use Rattle.pb_wire.specs.Reading.{number_field}
 use Rattle.dag_pb.specs.NodeReading.{Field, link, content, with_field, first_some, joined, empty_node}
 use Rattle.dag_pb.specs.Views.{parts_of_link, part_of}
 use Rattle.dag_pb.specs.Spans.{StandsAt, MayStandAt, LinkStandsAt, LinksStandAt, NodeStandsAt, EndsAt, MayEndAt, LinkIsAt, SpannedField, spanned_link, spanned_data, FieldIsAt, FieldsAreAt, links_among, link_spans_among, data_among, last_or, span_before, spans_of_link, LinkEndsBefore, BeginsBehindKey, BeginsWithField, Spans}
-use Rattle.dag_pb.proofs.LinkLaws.{hash_sound, name_sound, end_sound, link_parts}
+use Rattle.dag_pb.specs.Lemmas.LinkLaws.{hash_sound, name_sound, end_sound, link_parts}
 use Rattle.pb_wire.proofs.Fields.{field_parts}
 use Rattle.pb_wire.proofs.Optional.{number_sound}
 

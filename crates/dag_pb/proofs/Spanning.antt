@@ -9,7 +9,7 @@ use Rattle.dag_pb.specs.NodeReading.{read_node}
 use Rattle.dag_pb.specs.Spans.{NodeStandsAt, AreSpansOf}
 use Rattle.dag_pb.specs.Views.{IsOutOfMemory}
 use Rattle.pb_wire.proofs.Steps.{same_ok}
-use Rattle.dag_pb.proofs.NodeLaws.{node_sound, node_complete}
+use Rattle.dag_pb.specs.Lemmas.NodeLaws.{node_sound, node_complete}
 use Rattle.dag_pb.proofs.Collecting.{node_offset}
 
 abbrev pub Told : List ℕ → Result PbNodeSpans PbError → Type 0

@@ -2,6 +2,8 @@
 use Rattle.std.specs.Prelude.{ℕ, List, ◌++◌, ◌/◌, ◌%◌, codes}
 use Rattle.std.specs.Fmt.{decimal}
 use Rattle.ipld_cid.specs.Error as cid
+use Rattle.dag_pb.specs.declared.codec_error.PbCodecError.{PbCodecError}
+use Rattle.dag_pb.specs.declared.codec_error.PbCodecError.TheVariants as codec
 use Rattle.dag_pb.specs.declared.encode_error.PbEncodeError.{PbEncodeError}
 use Rattle.dag_pb.specs.declared.encode_error.PbEncodeError.TheVariants as encode
 use Rattle.dag_pb.specs.declared.error.PbError.{PbError}
@@ -43,3 +45,19 @@ encode_name_of (encode.LinkOrder index) = codes "LinkOrder"
 abbrev pub encode_sentence : PbEncodeError → List ℕ
 encode_sentence encode.Memory = codes "out of memory"
 encode_sentence (encode.LinkOrder index) = codes "the links are not sorted by name: the first out of order has the index " ++ decimal index
+
+-- the name of an error of the codec
+abbrev pub codec_name_of : PbCodecError → List ℕ
+codec_name_of codec.Memory = codes "Memory"
+codec_name_of codec.Read = codes "Read"
+codec_name_of codec.Write = codes "Write"
+codec_name_of (codec.Block error) = name_of error.kind
+codec_name_of (codec.LinkOrder index) = codes "LinkOrder"
+
+-- the sentence of an error of the codec
+abbrev pub codec_sentence : PbCodecError → List ℕ
+codec_sentence codec.Memory = codes "out of memory"
+codec_sentence codec.Read = codes "the reader failed"
+codec_sentence codec.Write = codes "the writer failed"
+codec_sentence (codec.Block error) = sentence_of error
+codec_sentence (codec.LinkOrder index) = encode_sentence (encode.LinkOrder index)

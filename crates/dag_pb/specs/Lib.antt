@@ -6,4 +6,6 @@ pub mod NodeReading
 pub mod Writing
 pub mod Views
 pub mod Spans
+pub mod Equal
 pub mod Codec
+pub mod Lemmas

@@ -18,15 +18,18 @@
 //! link, a field that appears twice or out of order, and another wire type. A [`PbError`] has the
 //! kind of the error, and the byte of the block at which its field begins. No call recurses.
 //!
-//! [`DagPbCodec`] has the trait `Links` of `ipld_codec`.
+//! [`DagPbCodec`] has the traits `Links` and `Codec` of `ipld_codec`. Its values are [`PbNodeBuf`]s,
+//! which own their names and data.
 #![tactic(auto)]
 
 mod codec;
+mod codec_error;
 mod encode_error;
 mod error;
 pub mod laws;
 mod link;
 mod node;
+mod owned;
 mod reader;
 mod spans;
 #[cfg(test)]
@@ -34,9 +37,11 @@ mod tests;
 mod writer;
 
 pub use codec::DagPbCodec;
+pub use codec_error::PbCodecError;
 pub use encode_error::PbEncodeError;
 pub use error::{PbError, PbErrorKind};
 pub use link::PbLink;
 pub use node::{PbNode, links_of_block, read_node};
+pub use owned::{PbLinkBuf, PbNodeBuf};
 pub use spans::{PbLinkSpans, PbNodeSpans, PbSpan, node_spans};
 pub use writer::encode_node;

@@ -1,7 +1,12 @@
-//! Blocks that the tests of JavaScript's `@ipld/dag-pb` have, and links that are not sorted.
+//! Blocks that the tests of JavaScript's `@ipld/dag-pb` have, links that are not sorted, and the
+//! codec.
 
-use crate::{PbEncodeError, PbLink, PbNode, encode_node, read_node};
+use crate::{
+    DagPbCodec, PbCodecError, PbEncodeError, PbError, PbErrorKind, PbLink, PbNode, PbNodeBuf,
+    encode_node, read_node,
+};
 use ipld_cid::Cid;
+use ipld_codec::{Codec, FaultReader, FaultWriter};
 use std::alloc::{AllocError, Global};
 use std::test::Fail;
 
@@ -119,5 +124,57 @@ fn order_of_links(rt: HostRuntime) -> Result<(), Fail> {
     let unsorted = [Some("a"), Some("b"), None];
     let error = encode_names(rt.alloc(), &unsorted)?;
     assert!(rt; error == Some(PbEncodeError::LinkOrder(2)));
+    Ok(())
+}
+
+// A node with two links, the second without a name, and data: the links after the data.
+const DATA_FIRST: &[u8] =
+    b"\x0a\x02hi\x12\x0e\x0a\x09\x01\x55\x00\x05\x00\x01\x02\x03\x04\x12\x01a\x12\x0d\x0a\x09\x01\x55\x00\x05\x00\x01\x02\x03\x04\x18\x07";
+
+// The canonical block of this node with its links sorted.
+const SORTED: &[u8] =
+    b"\x12\x0d\x0a\x09\x01\x55\x00\x05\x00\x01\x02\x03\x04\x18\x07\x12\x0e\x0a\x09\x01\x55\x00\x05\x00\x01\x02\x03\x04\x12\x01a\x0a\x02hi";
+
+// Returns the error of a call.
+fn error_of<T: Drop>(outcome: Result<T, PbCodecError>) -> Option<PbCodecError> {
+    match outcome {
+        Ok(_) => None,
+        Err(error) => Some(error),
+    }
+}
+
+#[test]
+fn codec(rt: HostRuntime) -> Result<(), Fail> {
+    let alloc = rt.alloc();
+    let mut reader = SORTED;
+    let node: PbNodeBuf = DagPbCodec::decode(alloc, &mut reader)?;
+    assert!(rt; reader.is_empty() && node.links.len() == 2);
+    assert!(rt; node.links[0].name.is_none() && node.links[0].tsize == Some(7));
+    let mut block = Vec::new(alloc);
+    DagPbCodec::encode(alloc, &mut block, &node)?;
+    assert_eq!(rt; block.as_slice(), SORTED);
+    let same = DagPbCodec::encode_to_vec(alloc, &node)?;
+    assert_eq!(rt; same.as_slice(), SORTED);
+    let full = DagPbCodec::encode(alloc, &mut FaultWriter::new(0), &node);
+    assert!(rt; error_of(full) == Some(PbCodecError::Write));
+    Ok(())
+}
+
+#[test]
+fn codec_rejects(rt: HostRuntime) -> Result<(), Fail> {
+    let alloc = rt.alloc();
+    let unsorted: PbNodeBuf = DagPbCodec::decode_from_slice(alloc, DATA_FIRST)?;
+    let mut block = Vec::new(alloc);
+    let rejected = DagPbCodec::encode(alloc, &mut block, &unsorted);
+    assert!(rt; block.is_empty() && error_of(rejected) == Some(PbCodecError::LinkOrder(1)));
+    let mut broken = FaultReader::new(SORTED, 4);
+    let unread: Result<PbNodeBuf, PbCodecError> = DagPbCodec::decode(alloc, &mut broken);
+    assert!(rt; error_of(unread) == Some(PbCodecError::Read));
+    let cut: Result<PbNodeBuf, PbCodecError> = DagPbCodec::decode_from_slice(alloc, &SORTED[..33]);
+    let error = PbError {
+        kind: PbErrorKind::End,
+        offset: 31,
+    };
+    assert!(rt; error_of(cut) == Some(PbCodecError::Block(error)));
     Ok(())
 }

@@ -1,7 +1,7 @@
 use Rattle.std.proofs.Common.{◌≡◌, ◌∙◌, sym, refl}
 use Rattle.dag_pb.specs.Node.{NodeParts}
 use Rattle.pb_wire.proofs.Steps.{same_ok}
-use Rattle.dag_pb.proofs.NodeLaws.{node_sound, node_complete}
+use Rattle.dag_pb.specs.Lemmas.NodeLaws.{node_sound, node_complete}
 use Rattle.dag_pb.proofs.laws.node_law.Goals as goal
 
 pub returns : goal.returns

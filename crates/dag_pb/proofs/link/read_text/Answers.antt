@@ -1,4 +1,4 @@
-use Rattle.dag_pb.proofs.Names.{text_read, text_rejected}
+use Rattle.dag_pb.specs.Lemmas.Names.{text_read, text_rejected}
 use Rattle.dag_pb.proofs.link.read_text.Goals as goal
 
 pub returns-in-Ok : goal.returns-in-Ok

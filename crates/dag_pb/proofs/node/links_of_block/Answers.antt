@@ -1,4 +1,4 @@
-use Rattle.dag_pb.proofs.NodeLaws.{node_complete}
+use Rattle.dag_pb.specs.Lemmas.NodeLaws.{node_complete}
 use Rattle.std.proofs.Common.{◌≡◌, refl, arith, map}
 use Rattle.ipld_cid.specs.LinkOf.{link_of}
 use Rattle.dag_pb.specs.Node.{NodeParts, IsNode}

@@ -2,7 +2,7 @@ use Rattle.std.proofs.Common.{◌≡◌, refl, arith}
 use Rattle.dag_pb.specs.Node.{IsNode}
 use Rattle.dag_pb.specs.NodeReading.{read_node}
 use Rattle.dag_pb.specs.Views.{parts_of_node}
-use Rattle.dag_pb.proofs.NodeLaws.{node_sound, node_complete}
+use Rattle.dag_pb.specs.Lemmas.NodeLaws.{node_sound, node_complete}
 use Rattle.dag_pb.proofs.Collecting.{told, told_only, told_offset, node_offset}
 use Rattle.dag_pb.proofs.node.read_node.Goals as goal
 

@@ -1,4 +1,4 @@
-use Rattle.dag_pb.proofs.NodeLaws.{node_complete}
+use Rattle.dag_pb.specs.Lemmas.NodeLaws.{node_complete}
 use Rattle.std.proofs.Common.{arith}
 use Rattle.dag_pb.proofs.Spanning.{spans_found, spans_only, spans_places, spans_errors, spans_offset}
 use Rattle.dag_pb.proofs.spans.node_spans.Goals as goal

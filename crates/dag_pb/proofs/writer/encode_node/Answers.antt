@@ -4,7 +4,7 @@ use Rattle.dag_pb.specs.Node.{IsLinks, IsNode}
 use Rattle.dag_pb.specs.Views.{parts_of_node}
 use Rattle.dag_pb.specs.Writing.{links_bytes, misplaced_link}
 use Rattle.dag_pb.specs.Views.{parts_of_link}
-use Rattle.dag_pb.proofs.NodeLaws.{node_complete}
+use Rattle.dag_pb.specs.Lemmas.NodeLaws.{node_complete}
 use Rattle.dag_pb.proofs.Written.{sorted, node_encoded, node_written, unsorted_written}
 use Rattle.dag_pb.proofs.writer.encode_node.Goals as goal
 use Rattle.std.specs.Prelude.{map, ◌++◌}

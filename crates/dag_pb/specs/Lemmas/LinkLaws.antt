@@ -14,12 +14,12 @@ use Rattle.pb_wire.specs.Wire.{IsContent, IsNumberOf, IsContentOf}
 use Rattle.dag_pb.specs.Node.{LinkParts, IsName, IsLink}
 use Rattle.pb_wire.specs.Reading.{read_varint, after_key, number_field, content_field}
 use Rattle.dag_pb.specs.LinkReading.{hash_in, hash_of, read_hash, text_in, name_of, read_name, misplaced, read_end, read_link}
-use Rattle.dag_pb.proofs.Names.{text_read, text_sound}
+use Rattle.dag_pb.specs.Lemmas.Names.{text_read, text_sound}
 use Rattle.pb_wire.proofs.Steps.{bind_ok, same_ok, with_error_ok}
 use Rattle.pb_wire.proofs.Varints.{Front}
 use Rattle.pb_wire.proofs.Fields.{ContentFront}
 use Rattle.pb_wire.proofs.Optional.{ContentOfFront, content_field_sound, content_field_complete, content_there, number_sound, number_complete, from_number, no_key}
-use Rattle.dag_pb.proofs.FieldSteps.{at_ok, at_wire_ok}
+use Rattle.dag_pb.specs.Lemmas.FieldSteps.{at_ok, at_wire_ok}
 
 -- ---- the hash
 

@@ -17,8 +17,8 @@ use Rattle.dag_pb.specs.NodeReading.{Field, link, content, after_link, after_dat
 use Rattle.pb_wire.proofs.Steps.{bind_ok, same_ok}
 use Rattle.pb_wire.proofs.Varints.{Front, varint_sound, varint_complete}
 use Rattle.pb_wire.proofs.Fields.{content_sound, content_complete, other_key, ContentFront, content_front, content_opened, content_has_byte}
-use Rattle.dag_pb.proofs.FieldSteps.{at_wire_ok, before_ok, ends, goes_on, part_shorter}
-use Rattle.dag_pb.proofs.LinkLaws.{link_sound, link_complete}
+use Rattle.dag_pb.specs.Lemmas.FieldSteps.{at_wire_ok, before_ok, ends, goes_on, part_shorter}
+use Rattle.dag_pb.specs.Lemmas.LinkLaws.{link_sound, link_complete}
 
 -- ---- one field that was read
 
