@@ -1,6 +1,6 @@
 -- The bytes that a CID names as a file (UnixFS specification). Nothing here says where blocks come
 -- from: a block is that of a CID if it has the CID's digest.
-use Rattle.std.specs.Prelude.{◌≡◌, ◌≢◌, ◌⊎◌, ◌+◌, ℕ, List, [], ◌∷◌, ◌++◌, length, sum, unwrap_or, Option, Some, None, IfSome}
+use Rattle.std.specs.Prelude.{◌≡◌, ◌≢◌, ◌⊎◌, ◌+◌, ◌-◌, ◌<◌, ◌≤◌, ℕ, List, [], ◌∷◌, ◌++◌, length, take, drop, sum, unwrap_or, option_map, Option, Some, None, IfSome}
 use Rattle.ipld_cid.specs.Cid.{Link}
 use Rattle.dag_pb.specs.Node.{LinkParts}
 use Rattle.unixfs.specs.declared.data.DataType.{DataType}
@@ -101,10 +101,46 @@ mutual
         → Names hashing child.link first → HasSize child.size (length first) → NamesAll hashing children rest → content ≡ first ++ rest
         → NamesAll hashing (child ∷ children) content
 
--- How far a walk over a file has come: the bytes that it took, and the parts that remain. A bad
--- block can't be a step of it.
-pub data Walks (hashing : Hashing) (root : Link) : List ℕ → List Child → Type 0 where
-  starts : {taken : List ℕ} {remain : List Child} → taken ≡ [] → remain ≡ whole root ∷ [] → Walks hashing root taken remain
-  takes : {taken : List ℕ} {remain : List Child} (before : List ℕ) (next : Child) (others : List Child) (head : List ℕ) (children : List Child) (size : ℕ)
-      → Walks hashing root before (next ∷ others) → IsPart hashing next.link head children size → HasSize next.size size
-      → taken ≡ before ++ head → remain ≡ children ++ others → Walks hashing root taken remain
+-- a range of the bytes of a file: the number of bytes before it, and the number of bytes in it at
+-- most, if it doesn't go to the end
+pub record Range : Type 0 where
+  pub start : ℕ
+  pub count : Option ℕ
+
+-- the range of all bytes
+abbrev pub everything : Range
+everything = record { start = 0; count = None }
+
+-- this many bytes at most, if there is a number
+abbrev pub at_most : Option ℕ → List ℕ → List ℕ
+at_most None bytes = bytes
+at_most (Some n) bytes = take n bytes
+
+-- the bytes in a range
+abbrev pub slice : Range → List ℕ → List ℕ
+slice range bytes = at_most range.count (drop range.start bytes)
+
+-- the range in what follows the first n bytes
+abbrev pub past : ℕ → Range → Range
+past n range = record { start = range.start - n; count = option_map (λ (count : ℕ). count - (n - range.start)) range.count }
+
+-- True if none of the first n bytes is in the range: it begins after them, or has no bytes.
+abbrev pub IsOutside : ℕ → Range → Type 0
+IsOutside n range = ((0 < range.start) × (n ≤ range.start)) ⊎ (range.count ≡ Some 0)
+
+-- How far a walk over a range of a file has come: the bytes of the range that it took, the parts
+-- that remain, and the range in them. A bad block can't be a step of it. A part that is outside of
+-- the range is skipped by the size that the block above it states.
+pub data Walks (hashing : Hashing) (root : Link) (range : Range) : List ℕ → List Child → Range → Type 0 where
+  starts : {taken : List ℕ} {remain : List Child} {left : Range} → taken ≡ [] → remain ≡ whole root ∷ [] → left ≡ range → Walks hashing root range taken remain left
+  takes : {taken : List ℕ} {remain : List Child} {left : Range} (before : List ℕ) (next : Child) (others : List Child) (was : Range) (head : List ℕ) (children : List Child) (size : ℕ)
+      → Walks hashing root range before (next ∷ others) was → IsPart hashing next.link head children size → HasSize next.size size
+      → taken ≡ before ++ slice was head → remain ≡ children ++ others → left ≡ past (length head) was → Walks hashing root range taken remain left
+  skips : {taken : List ℕ} {remain : List Child} {left : Range} (next : Child) (was : Range) (size : ℕ)
+      → Walks hashing root range taken (next ∷ remain) was → next.size ≡ Some size → IsOutside size was → left ≡ past size was → Walks hashing root range taken remain left
+
+-- the part of a content that a walk over a range has yet to take
+pub record Untaken (hashing : Hashing) (range : Range) (content taken : List ℕ) (remain : List Child) (left : Range) : Type 0 where
+  pub rest : List ℕ
+  pub named : NamesAll hashing remain rest
+  pub is : slice range content ≡ taken ++ slice left rest

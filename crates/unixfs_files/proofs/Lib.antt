@@ -1,5 +1,6 @@
 mod Totals
 mod Parts
+mod Lengths
 mod Children
 mod Walks
 mod Storing

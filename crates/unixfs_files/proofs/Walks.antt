@@ -1,19 +1,20 @@
 -- The steps of a walk.
-use Rattle.std.proofs.Common.{◌≡◌, ℕ, zero, suc, ◌+◌, ◌-◌, ◌≤◌, ◌<◌, Bool, true, false, List, [], ◌∷◌, ◌++◌, length, map, Option, Some, None, inl, inr, refl, sym, ap, subst, ◌∙◌, arith, length-append, append_assoc}
-use Rattle.std.specs.Prelude.{◌==◌, not, if◌then◌else◌, nat_lt, ◌^◌, reverse, option_to_list, unwrap_or, sum}
-use Rattle.std.proofs.lemmas.Bool.{ltb-false, eqb-true, eq-eqb}
-use Rattle.std.proofs.lemmas.List.{map-append, reverse-append}
+use Rattle.std.proofs.Common.{◌≡◌, ℕ, zero, suc, ◌+◌, ◌-◌, ◌≤◌, ◌<◌, Bool, true, false, List, [], ◌∷◌, ◌++◌, length, map, Option, Some, None, inl, inr, refl, sym, ap, subst, ◌∙◌, arith, length-append, length-drop, length-take, append-nil, drop, min}
+use Rattle.std.specs.Prelude.{◌==◌, not, if◌then◌else◌, nat_lt, ◌^◌, reverse, option_to_list, unwrap_or, IsSome}
+use Rattle.std.proofs.lemmas.Bool.{ltb-false, eqb-true}
+use Rattle.std.proofs.lemmas.List.{reverse-append}
+use Rattle.std.proofs.lemmas.List.Elements.{All-nil}
 use Rattle.std.proofs.lemmas.Option.{none-some}
 use Rattle.ipld_block.specs.Digest.{digest_by}
 use Rattle.ipld_cid.specs.Cid.{Link}
 use Rattle.ipld_cid.specs.LinkOf.{link_of}
-use Rattle.unixfs.specs.Files.{Child, HasSize, IsPart}
+use Rattle.unixfs.specs.Files.{Child, HasSize, Range, at_most, slice, past, IsOutside, IsPart}
 use Rattle.unixfs_files.specs.declared.error.PartError.{PartError}
 use Rattle.unixfs_files.specs.declared.error.PartError.TheVariants.{PartSize, TooLarge, TooManyBlocks, TooDeep, TooManyParts}
 use Rattle.unixfs_files.specs.declared.state.FileWalk.{FileWalk}
 use Rattle.unixfs_files.specs.declared.state.WaitingPart.{WaitingPart}
 use Rattle.unixfs_files.specs.Parts.{Part, agrees}
-use Rattle.unixfs_files.specs.Walking.{child_of, parts_left, remain_of, excess, Takes}
+use Rattle.unixfs_files.specs.Walking.{range_of, at_most_number, count_in, parts_left, excess, HaveLevel, Skips, skips_none, skips_one}
 
 -- ---- what comes next
 
@@ -46,7 +47,7 @@ agreed None size is = tt
 agreed (Some stated) size is = eqb-true stated size is
 
 -- there is nothing, if there is no value
-nothing : {A : Type 0} (o : Option A) → ((x : A) → o ≡ Some x → ⊥) → o ≡ None
+pub nothing : {A : Type 0} (o : Option A) → ((x : A) → o ≡ Some x → ⊥) → o ≡ None
 nothing None none = refl
 nothing (Some x) none = absurd (none x refl)
 
@@ -54,7 +55,7 @@ nothing (Some x) none = absurd (none x refl)
 pub record Fits (walk : FileWalk) (next : WaitingPart) (size : ℕ) : Type 0 where
   pub has_size : HasSize next.size size
   pub blocks : 1 ≤ walk.blocks_left
-  pub bytes : size ≤ walk.bytes_left
+  pub bytes : count_in (range_of walk.range) size ≤ walk.bytes_left
 
 not_zero : (n : ℕ) → (n == 0) ≡ false → 1 ≤ n
 not_zero zero is = absurd (let no : true ≡ false = is in cc)
@@ -63,40 +64,82 @@ not_zero (suc n) is = omega arith
 pub fits : (walk : FileWalk) (next : WaitingPart) (size count : ℕ) → excess walk next size count ≡ None → Fits walk next size
 unfolding excess
 fits walk next size count e =
-    let kept = none_broken (agrees next.size size) (walk.blocks_left == 0) (nat_lt walk.bytes_left size) _ e in
-    record { has_size = agreed next.size size kept.0; blocks = not_zero walk.blocks_left kept.1; bytes = ltb-false walk.bytes_left size kept.2 }
+    let kept = none_broken (agrees next.size size) (walk.blocks_left == 0) (nat_lt walk.bytes_left (count_in (range_of walk.range) size)) _ e in
+    record { has_size = agreed next.size size kept.0; blocks = not_zero walk.blocks_left kept.1; bytes = ltb-false walk.bytes_left (count_in (range_of walk.range) size) kept.2 }
 
--- the same, where the limits were asked for and nothing came
-pub fitting : (walk : FileWalk) (next : WaitingPart) (size count : ℕ) (o : Option PartError) → o ≡ excess walk next size count → ((x : PartError) → o ≡ Some x → ⊥) → Fits walk next size
-fitting walk next size count o is none = fits walk next size count (sym is ∙ nothing o none)
+-- the limits were asked for, and nothing came
+pub none_over : (walk : FileWalk) (next : WaitingPart) (size count : ℕ) (o : Option PartError) → o ≡ excess walk next size count → ((x : PartError) → o ≡ Some x → ⊥) → excess walk next size count ≡ None
+none_over walk next size count o is none = sym is ∙ nothing o none
 
 -- a part has at least its own bytes
 pub long_enough : (link : Link) (head : List ℕ) (children : List Child) (size : ℕ) → IsPart digest_by link head children size → length head ≤ size
 long_enough link head children size (inl raw) = omega (arith, raw.is_size)
 long_enough link head children size (inr file) = omega (arith, file.is_file.is_size)
 
+pub clash : (b : Bool) → b ≡ true → b ≡ false → ⊥
+clash b is isnt = let both : true ≡ false = sym is ∙ isnt in cc
+
+pub count_some : (o : Option ℕ) (n count r : ℕ) → o ≡ Some count → r ≡ min n count → r ≡ at_most_number o n
+count_some o n count r is same = same ∙ ap (λ (p : Option ℕ). at_most_number p n) (sym is)
+
+pub count_none : (o : Option ℕ) (n r : ℕ) → o ≡ None → r ≡ n → r ≡ at_most_number o n
+count_none o n r is same = same ∙ ap (λ (p : Option ℕ). at_most_number p n) (sym is)
+
+-- the range in bytes is no longer than that in a part which has them
+counted : (o : Option ℕ) (bytes : List ℕ) (n : ℕ) → length bytes ≤ n → length (at_most o bytes) ≤ at_most_number o n
+counted None bytes n fits = fits
+counted (Some count) bytes n fits = omega (arith, length-take count bytes, fits)
+
+pub slice_fits : (range : Range) (bytes : List ℕ) (size : ℕ) → length bytes ≤ size → length (slice range bytes) ≤ count_in range size
+slice_fits range bytes size fits = counted range.count (drop range.start bytes) (size - range.start) (omega (arith, length-drop range.start bytes, fits))
+
+no_longer : (o : Option ℕ) (bytes : List ℕ) → length (at_most o bytes) ≤ length bytes
+no_longer None bytes = omega arith
+no_longer (Some count) bytes = omega (arith, length-take count bytes)
+
+-- the range in bytes is no longer than the bytes
+pub slice_within : (range : Range) (bytes : List ℕ) → length (slice range bytes) ≤ length bytes
+slice_within range bytes = omega (arith, no_longer range.count (drop range.start bytes), length-drop range.start bytes)
+
 -- ---- what remains
 
-reversed : {A : Type 0} (xs : List A) (o : Option A) → reverse (xs ++ option_to_list o) ≡ option_to_list o ++ reverse xs
-reversed xs None = reverse-append xs []
-reversed xs (Some x) = reverse-append xs (x ∷ [])
+-- the parts that wait, in the order of the file
+pub in_order : (waiting less : List WaitingPart) (part : WaitingPart) → waiting ≡ less ++ part ∷ [] → reverse waiting ≡ part ∷ reverse less
+in_order waiting less part is = ap (λ (ps : List WaitingPart). reverse ps) is ∙ reverse-append less (part ∷ [])
+
+-- the first of them has bytes in the range
+pub stops_at : (waiting less : List WaitingPart) (range : Range) (part : WaitingPart) → waiting ≡ less ++ part ∷ [] → ((size : ℕ) → part.size ≡ Some size → IsOutside size range → ⊥)
+    → Skips (reverse waiting) range (part ∷ reverse less) range
+stops_at waiting less range part is meets = subst (λ (ps : List WaitingPart). Skips ps range (part ∷ reverse less) range) (sym (in_order waiting less part is)) (skips_none meets refl refl)
+
+-- the first of them is outside of the range
+pub steps_over : (waiting less : List WaitingPart) (range next : Range) (part : WaitingPart) (size : ℕ) (left : List WaitingPart) (rest : Range) → waiting ≡ less ++ part ∷ [] → part.size ≡ Some size
+    → IsOutside size range → next ≡ past size range → Skips (reverse less) next left rest → Skips (reverse waiting) range left rest
+steps_over waiting less range next part size left rest is sized outside is_next more =
+    skips_one part (reverse less) size (in_order waiting less part is) sized outside (subst (λ (r : Range). Skips (reverse less) r left rest) is_next more)
+
+no_parts : (ps : List WaitingPart) → (1 ≤ length ps → ⊥) → ps ≡ []
+no_parts [] none = refl
+no_parts (p ∷ ps) none = absurd (none (omega arith))
+
+no_some : (o : Option WaitingPart) → o ≡ None → IsSome o → ⊥
+no_some None is some = let no : IsSome {T = WaitingPart} None = some in cc
+no_some (Some p) is some = none-some p (sym is)
+
+-- none of them is left
+pub ends_at : (waiting less : List WaitingPart) (o : Option WaitingPart) (range : Range) → waiting ≡ less ++ option_to_list o → o ≡ None → (1 ≤ length waiting → IsSome o) → Skips (reverse waiting) range (reverse less) range
+ends_at waiting less o range joined none has =
+    let empty : waiting ≡ [] = no_parts waiting (λ some. no_some o none (has some)) in
+    let less_empty : less ≡ [] = sym (append-nil less) ∙ ap (λ (p : Option WaitingPart). less ++ option_to_list p) (sym none) ∙ sym joined ∙ empty in
+    subst (λ (ps : List WaitingPart). Skips (reverse ps) range (reverse less) range) (sym empty) (skips_none tt (ap (λ (ps : List WaitingPart). reverse ps) less_empty) refl)
 
 -- the children come before the parts that waited
-pub remains : (waited found all left : List WaitingPart) (o : Option WaitingPart) (children : List Child) → map child_of (reverse found) ≡ children → all ≡ waited ++ found → all ≡ left ++ option_to_list o
-    → map child_of (option_to_list o ++ reverse left) ≡ children ++ map child_of (reverse waited)
-remains waited found all left o children are joined split =
-    ap (λ (ps : List WaitingPart). map child_of ps) (sym (reversed left o) ∙ ap (λ (ps : List WaitingPart). reverse ps) (sym split ∙ joined) ∙ reverse-append waited found)
-    ∙ map-append child_of (reverse found) (reverse waited) ∙ ap (λ (cs : List Child). cs ++ map child_of (reverse waited)) are
+pub waits : (waited found all : List WaitingPart) (was next : Range) (left : List WaitingPart) (rest : Range) → all ≡ waited ++ found → next ≡ was → Skips (reverse all) next left rest
+    → Skips (reverse found ++ reverse waited) was left rest
+waits waited found all was next left rest joined same skips =
+    subst (λ (ps : List WaitingPart). Skips ps was left rest) (ap (λ (ps : List WaitingPart). reverse ps) joined ∙ reverse-append waited found) (subst (λ (r : Range). Skips (reverse all) r left rest) same skips)
 
-pub taken : (walk : FileWalk) (next : WaitingPart) (head : List ℕ) (children remain : List Child) (size : ℕ) → walk.next ≡ Some next → IsPart digest_by (link_of next.cid) head children size
-    → Fits walk next size → remain ≡ children ++ map child_of (behind walk) → Takes (remain_of walk) remain head
-taken walk next head children remain size is part fit becomes = record {
-  next = child_of next;
-  others = map child_of (behind walk);
-  children = children;
-  size = size;
-  was = ap (λ (ps : List WaitingPart). map child_of ps) (is_next walk next is);
-  is_part = part;
-  has_size = fit.has_size;
-  becomes = becomes;
-}
+-- parts have another level, if it is the same wherever there is a part
+pub levelled : (level other : ℕ) (ps : List WaitingPart) → HaveLevel level ps → (1 ≤ length ps → level ≡ other) → HaveLevel other ps
+levelled level other [] are same = All-nil (λ (p : WaitingPart). p.level ≡ other)
+levelled level other (p ∷ ps) are same = subst (λ (n : ℕ). HaveLevel n (p ∷ ps)) (same (omega arith)) are

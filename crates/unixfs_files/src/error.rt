@@ -31,7 +31,7 @@ pub enum PartError {
     FileSize,
     /// The node has another number of bytes than the node above it states.
     PartSize,
-    /// The file has more bytes than the limit.
+    /// The range of the file has more bytes than the limit.
     TooLarge,
     /// The file has more blocks than the limit. A block that is linked twice counts twice.
     TooManyBlocks,

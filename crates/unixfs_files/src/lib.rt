@@ -1,11 +1,11 @@
-//! Files of UnixFS, read out of blocks that nobody trusts. The bytes that a walk returns are those
-//! that the root names.
+//! Files of UnixFS, read out of blocks that nobody trusts, in whole or a range of their bytes. The
+//! bytes that a walk returns are those that the root names.
 //!
 //! ```rust
-//! use unixfs_files::{FileLimits, FileWalk};
+//! use unixfs_files::{FileLimits, FileRange, FileWalk};
 //!
 //! // A walk says which block it wants next, and returns the bytes of the file in that block.
-//! let mut walk = FileWalk::new(alloc, root, &FileLimits::DEFAULT);
+//! let mut walk = FileWalk::new(alloc, root, FileRange::WHOLE, &FileLimits::DEFAULT);
 //! while let Some(cid) = walk.wanted() {
 //!     let block = fetch(cid)?;
 //!     let bytes = walk.take(alloc, &block)?;
@@ -19,6 +19,7 @@
 
 mod error;
 mod part;
+mod range;
 mod state;
 mod store;
 #[cfg(test)]
@@ -26,5 +27,5 @@ mod tests;
 mod walk;
 
 pub use error::PartError;
-pub use state::{FileLimits, FileWalk};
+pub use state::{FileLimits, FileRange, FileWalk};
 pub use store::{BlockStore, FileError, FileErrorKind, write_file};

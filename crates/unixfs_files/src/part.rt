@@ -1,6 +1,6 @@
 //! The part of a file that is in one block.
 
-ghost use Rattle.std.specs.Prelude.{◌≡◌, ◌⊎◌, ◌+◌, ◌<◌, ◌^◌, Ok, Err, IfOk, IsOkAnd, MatchResult, length, sum};
+ghost use Rattle.std.specs.Prelude.{◌≡◌, ◌⊎◌, ◌+◌, ◌<◌, ◌≤◌, ◌^◌, Ok, Err, IfOk, IsOkAnd, MatchResult, length, sum};
 ghost use Rattle.ipld_cid.specs.LinkOf.{link_of};
 ghost use Rattle.ipld_block.specs.Digest.{digest_by};
 ghost use Rattle.unixfs.specs.Files.{IsBlockOf, IsFileOf, IsPart};
@@ -82,6 +82,7 @@ fn read_part<'a>(alloc: Global, codec: u64, block: &'a [u8]) -> Result<FilePart<
     ensures only { (part : Part) → IsPartIn codec block.entry.now part → part.size < 2 ^ 64
         → MatchResult result (λ found. part_of found ≡ part) (λ error. error ≡ PartError.Memory) }
     ensures counted { IfOk result (λ part. length part.links.items ≡ length part.sizes.items) }
+    ensures within { IfOk result (λ part. length part.head.now ≤ length block.entry.now) }
     ensures exact { MatchResult result
         (λ part. parts.read_part codec block.entry.now ≡ Ok (part_of part))
         (λ error. (error ≡ PartError.Memory) ⊎ (parts.read_part codec block.entry.now ≡ Err error)) }
@@ -113,6 +114,7 @@ pub(crate) fn verified_part<'a>(
         → IsPartIn (link_of cid.now).codec block.entry.now part → part.size < 2 ^ 64
         → MatchResult result (λ found. part_of found ≡ part) (λ error. error ≡ PartError.Memory) }
     ensures counted { IfOk result (λ part. length part.links.items ≡ length part.sizes.items) }
+    ensures within { IfOk result (λ part. length part.head.now ≤ length block.entry.now) }
     ensures exact { MatchResult result
         (λ part. IsBlockOf digest_by (link_of cid.now) block.entry.now
         × (parts.read_part (link_of cid.now).codec block.entry.now ≡ Ok (part_of part)))

@@ -5,10 +5,27 @@ ghost use Rattle.std.specs.Option.{ForNone};
 
 use ipld_cid::Cid;
 
+/// A range of the bytes of a file.
+#[derive(Clone, Copy, Debug, PartialEq, Eq)]
+pub struct FileRange {
+    /// The number of bytes before the range. If the file has no more bytes, the range is empty.
+    pub start: u64,
+    /// The number of bytes in the range at most, or `None` if it goes to the end of the file.
+    pub length: Option<u64>,
+}
+
+impl FileRange {
+    /// All bytes of the file.
+    pub const WHOLE: FileRange = FileRange {
+        start: 0,
+        length: None,
+    };
+}
+
 /// What a walk over a file may take at most.
 #[derive(Clone, Copy, Debug, PartialEq, Eq)]
 pub struct FileLimits {
-    /// The number of bytes of the file.
+    /// The number of bytes in the range.
     pub bytes: u64,
     /// The number of blocks. A block that is linked twice counts twice.
     pub blocks: u64,
@@ -42,8 +59,8 @@ pub(crate) struct WaitingPart {
     pub(crate) level: usize,
 }
 
-/// A walk over the blocks of a file, in the order of its bytes. It does no input and no output: it
-/// says which block it wants, and returns the bytes of the file in that block.
+/// A walk over the blocks of a file that hold a range of its bytes, in the order of the bytes. It
+/// does no input and no output: it says which block it wants, and returns the bytes in that block.
 ///
 /// It keeps the CIDs of the blocks that it has yet to read, and nothing of those that it has read.
 #[derive(Drop)]
@@ -51,6 +68,8 @@ pub struct FileWalk {
     pub(crate) next: Option<WaitingPart>,
     // The others, in reverse order.
     pub(crate) waiting: Vec<WaitingPart>,
+    // The range that is left, in the parts that wait.
+    pub(crate) range: FileRange,
     pub(crate) limits: FileLimits,
     pub(crate) bytes_left: u64,
     pub(crate) blocks_left: u64,

@@ -3,13 +3,14 @@
 ghost use Rattle.std.specs.Prelude.{◌≡◌, IfErr, OnOk};
 ghost use Rattle.ipld_cid.specs.LinkOf.{link_of};
 ghost use Rattle.unixfs_files.specs.Storing.{WritesFile, StopsAt};
+ghost use Rattle.unixfs_files.specs.Walking.{range_of};
 
 use crate::error::PartError;
-use crate::state::{FileLimits, FileWalk};
+use crate::state::{FileLimits, FileRange, FileWalk};
 use ipld_cid::Cid;
 use std::alloc::Global;
 use std::io::{self, Write};
-use unixfs::laws::walk_law;
+use unixfs::laws::{range_law, walk_law};
 
 /// A store of blocks by their CIDs. Nobody has to trust it: what it returns is verified.
 pub trait BlockStore {
@@ -51,7 +52,9 @@ impl<E> FileError<E> {
     }
 }
 
-/// Writes the file of a CID, whose blocks the store has.
+/// Writes a range of the file of a CID, whose blocks the store has.
+///
+/// Blocks before the range or after it are neither read nor verified.
 ///
 /// Each block is verified, and its bytes are written before the next is asked for. The writer is
 /// not flushed. It allocates for each block's children.
@@ -59,21 +62,23 @@ impl<E> FileError<E> {
 /// # Errors
 ///
 /// The CID of the first block that isn't taken, and the reason. What was written is a beginning of
-/// the file, up to that block. If the writer failed, it may have taken a part of the block's bytes.
+/// the range, up to that block. If the writer failed, it may have taken a part of the block's bytes.
 pub fn write_file<S: BlockStore, W: Write>(
     alloc: Global,
     root: &Cid,
+    range: FileRange,
     limits: &FileLimits,
     store: &mut S,
     writer: &mut W,
 ) -> Result<(), FileError<S::Fault>>
-    ensures done { OnOk result (WritesFile (link_of root.now) limits.now.bytes
+    ensures done { OnOk result (WritesFile (link_of root.now) (range_of range) limits.now.bytes
         (W.contents writer.old) (W.contents writer.new)) }
-    ensures failed { IfErr result (StopsAt (link_of root.now) limits.now.bytes
+    ensures failed { IfErr result (StopsAt (link_of root.now) (range_of range) limits.now.bytes
         (W.contents writer.old) (W.contents writer.new)) }
 {
     walk_law();
-    let mut walk = FileWalk::new(alloc, root, limits);
+    range_law();
+    let mut walk = FileWalk::new(alloc, root, range, limits);
     while let Some(cid) = walk.wanted() {
         let block = match store.block(&cid) {
             Ok(Some(block)) => block,

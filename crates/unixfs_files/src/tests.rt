@@ -1,7 +1,7 @@
 //! A file that `ipfs` made of `foobar` and a line feed in chunks of two bytes. The CID of its root
 //! was computed apart from this crate.
 
-use crate::{BlockStore, FileErrorKind, FileLimits, FileWalk, PartError, write_file};
+use crate::{BlockStore, FileErrorKind, FileLimits, FileRange, FileWalk, PartError, write_file};
 use ipld_cid::Cid;
 use std::alloc::{AllocError, Global};
 use std::test::Fail;
@@ -49,7 +49,7 @@ impl BlockStore for InOrder {
 #[test]
 fn walk(rt: HostRuntime) -> Result<(), Fail> {
     let root = Cid::try_from(ROOT_CID)?;
-    let mut walk = FileWalk::new(rt.alloc(), &root, &FileLimits::DEFAULT);
+    let mut walk = FileWalk::new(rt.alloc(), &root, FileRange::WHOLE, &FileLimits::DEFAULT);
     assert!(rt; matches!(walk.take(rt.alloc(), LEAVES[0]), Err(PartError::Verify(_))));
     assert!(rt; walk.wanted() == Some(root));
     assert!(rt; walk.take(rt.alloc(), ROOT)?.is_empty());
@@ -63,12 +63,44 @@ fn walk(rt: HostRuntime) -> Result<(), Fail> {
     Ok(())
 }
 
+#[test]
+fn range(rt: HostRuntime) -> Result<(), Fail> {
+    let root = Cid::try_from(ROOT_CID)?;
+    let mut range = FileRange {
+        start: 3,
+        length: Some(2),
+    };
+    let mut limits = FileLimits::DEFAULT;
+    limits.bytes = 2;
+    let mut walk = FileWalk::new(rt.alloc(), &root, range, &limits);
+    assert!(rt; walk.take(rt.alloc(), ROOT)?.is_empty());
+    assert_eq!(rt; walk.take(rt.alloc(), LEAVES[1])?, b"b".as_slice());
+    assert_eq!(rt; walk.take(rt.alloc(), LEAVES[2])?, b"a".as_slice());
+    assert!(rt; walk.wanted().is_none());
+    limits.bytes = 1;
+    let mut walk = FileWalk::new(rt.alloc(), &root, range, &limits);
+    assert!(rt; matches!(walk.take(rt.alloc(), ROOT), Err(PartError::TooLarge)));
+    range.length = None;
+    range.start = 6;
+    let mut walk = FileWalk::new(rt.alloc(), &root, range, &limits);
+    assert!(rt; walk.take(rt.alloc(), ROOT)?.is_empty());
+    assert_eq!(rt; walk.take(rt.alloc(), LEAVES[3])?, b"\n".as_slice());
+    assert!(rt; walk.wanted().is_none());
+    range.start = u64::MAX;
+    let mut walk = FileWalk::new(rt.alloc(), &root, range, &limits);
+    assert!(rt; walk.take(rt.alloc(), ROOT)?.is_empty());
+    assert!(rt; walk.wanted().is_none());
+    Ok(())
+}
+
 // Returns the error of the root within these limits.
 fn error_of_root(alloc: Global, limits: &FileLimits) -> Option<PartError> {
     let Ok(root) = Cid::try_from(ROOT_CID) else {
         return None;
     };
-    FileWalk::new(alloc, &root, limits).take(alloc, ROOT).err()
+    FileWalk::new(alloc, &root, FileRange::WHOLE, limits)
+        .take(alloc, ROOT)
+        .err()
 }
 
 #[test]
@@ -102,6 +134,7 @@ fn write(rt: HostRuntime) -> Result<(), Fail> {
     let written = write_file(
         rt.alloc(),
         &root,
+        FileRange::WHOLE,
         &FileLimits::DEFAULT,
         &mut store,
         &mut writer,
@@ -113,6 +146,7 @@ fn write(rt: HostRuntime) -> Result<(), Fail> {
     let stopped = write_file(
         rt.alloc(),
         &root,
+        FileRange::WHOLE,
         &FileLimits::DEFAULT,
         &mut store,
         &mut writer,

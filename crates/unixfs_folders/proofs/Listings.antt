@@ -2,12 +2,11 @@
 use Rattle.std.proofs.Common.{◌≡◌, ℕ, true, false, List, [], ◌∷◌, ◌++◌, length, Option, Some, None, refl, sym, ap, subst, ◌∙◌, drop, take, inl, inr}
 use Rattle.std.specs.Prelude.{◌⊎◌, bytes_eq, IfSome}
 use Rattle.std.proofs.lemmas.Bool.{cases_Bool}
-use Rattle.std.proofs.lemmas.Option.{same_Some}
 use Rattle.std.proofs.lemmas.Slice.Eq.{bytes_eq-Decides}
 use Rattle.ipld_cid.specs.Cid.{Link}
-use Rattle.dag_pb.specs.Node.{LinkParts, NodeParts, IsNode}
+use Rattle.dag_pb.specs.Node.{LinkParts}
 use Rattle.pb_wire.proofs.Steps.{same_ok}
-use Rattle.unixfs.specs.Data.{DataParts, IsData}
+use Rattle.unixfs.specs.Data.{DataParts}
 use Rattle.unixfs.specs.Files.{Hashing, Collision}
 use Rattle.unixfs.specs.Nodes.{UnixFsParts, IsParsed}
 use Rattle.unixfs_folders.specs.Folders.{EntryParts, SlotParts, FolderParts, plain, shard, IsFolderOf, IsFolder, NamesFolder, Has, HasLink, hash_of, Leads, leads_here, leads_below, IsPlainEntry, HasEntry}
@@ -16,37 +15,28 @@ use Rattle.unixfs_folders.proofs.Parsing.{folder_complete}
 
 -- ---- one folder
 
--- bytes are at most one node, and at most one message
-abbrev pub OneNode : Type 0
-OneNode = (bytes : List ℕ) (node other : NodeParts) → IsNode node bytes → IsNode other bytes → node ≡ other
-
-abbrev pub OneMessage : Type 0
-OneMessage = (bytes : List ℕ) (d other : DataParts) → IsData d bytes → IsData other bytes → d ≡ other
-
-parsed_once : OneNode → OneMessage → (block : List ℕ) (links links' : List LinkParts) (parts parts' : DataParts) → IsParsed block links parts → IsParsed block links' parts' → (links ≡ links') × (parts ≡ parts')
-parsed_once one_node one_message block links links' parts parts' p q =
-    let node = one_node block p.node q.node p.is_node q.is_node in
-    let message : p.message ≡ q.message = same_Some p.message q.message (sym p.has_message ∙ ap (λ (n : NodeParts). n.content) node ∙ q.has_message) in
-    (p.are_links ∙ ap (λ (n : NodeParts). n.links) node ∙ sym q.are_links, one_message q.message parts parts' (subst (λ (m : List ℕ). IsData parts m) message p.is_data) q.is_data)
+-- a block is a node of UnixFS in at most one way
+abbrev pub OneParse : Type 0
+OneParse = (block : List ℕ) (links others : List LinkParts) (message other : DataParts) → IsParsed block links message → IsParsed block others other → (links ≡ others) × (message ≡ other)
 
 folder_of_once : (links : List LinkParts) (message : DataParts) (f g : FolderParts) → IsFolderOf links message f → IsFolderOf links message g → f ≡ g
 folder_of_once links message f g is also =
     let node : UnixFsParts = record { links = links; message = message } in
     same_ok (λ (x : FolderParts). f ≡ x) f g (sym (folder_complete node f is) ∙ folder_complete node g also) refl
 
-folder_once : OneNode → OneMessage → (block : List ℕ) (f g : FolderParts) → IsFolder block f → IsFolder block g → f ≡ g
-folder_once n m block f g is also =
-    let parsed = parsed_once n m block is.links also.links is.message also.message is.is_parsed also.is_parsed in
+folder_once : OneParse → (block : List ℕ) (f g : FolderParts) → IsFolder block f → IsFolder block g → f ≡ g
+folder_once one block f g is also =
+    let parsed = one block is.links also.links is.message also.message is.is_parsed also.is_parsed in
     folder_of_once also.links also.message f g
     (subst (λ (ls : List LinkParts). IsFolderOf ls also.message f) parsed.0 (subst (λ (d : DataParts). IsFolderOf is.links d f) parsed.1 is.is_folder)) also.is_folder
 
 -- a CID names one folder, or there is a collision
-pub named_once : OneNode → OneMessage → (h : Hashing) (link : Link) (f g : FolderParts) → NamesFolder h link f → NamesFolder h link g → (f ≡ g) ⊎ Collision h
-named_once n m h link f g (block, is) (other, also) =
+pub named_once : OneParse → (h : Hashing) (link : Link) (f g : FolderParts) → NamesFolder h link f → NamesFolder h link g → (f ≡ g) ⊎ Collision h
+named_once one h link f g (block, is) (other, also) =
     elim (cases_Bool (bytes_eq block other)) [
       | inl same ↦
           let e = (bytes_eq-Decides block other).0 same in
-          inl (folder_once n m other f g (subst (λ (b : List ℕ). IsFolder b f) e is.is_folder) also.is_folder)
+          inl (folder_once one other f g (subst (λ (b : List ℕ). IsFolder b f) e is.is_folder) also.is_folder)
       | inr differ ↦
           inr (record {
             code = link.code;
@@ -270,15 +260,15 @@ shard_is ss ss' is = cc
 pub not_both : (es : List EntryParts) (ss : List SlotParts) → plain es ≡ shard ss → ⊥
 not_both es ss is = absurd cc
 
-leads_down : OneNode → OneMessage → (h : Hashing) (next : Waiting) (ss : List SlotParts) (name : List ℕ) (target : Link) (hash : List ℕ) → NamesFolder h next.link (shard ss) → IsLedTo next.path name
+leads_down : OneParse → (h : Hashing) (next : Waiting) (ss : List SlotParts) (name : List ℕ) (target : Link) (hash : List ℕ) → NamesFolder h next.link (shard ss) → IsLedTo next.path name
     → drop (length next.path) (hash_of name) ≡ hash → Leads h name target next.link hash → Visited h (entries_of ss) (shards_of next.path ss) name target
-leads_down n m h next ss name target hash named led left (leads_here slot rest slots is_hash is_shard link) =
-    elim (named_once n m h next.link (shard slots) (shard ss) is_shard named) [
+leads_down one h next ss name target hash named led left (leads_here slot rest slots is_hash is_shard link) =
+    elim (named_once one h next.link (shard slots) (shard ss) is_shard named) [
       | inl same ↦ inl (inl (link_entry ss slot name target (subst (λ (xs : List SlotParts). HasLink xs slot (Some name) target) (shard_is slots ss same) link)))
       | inr collision ↦ inr collision
     ]
-leads_down n m h next ss name target hash named led left (leads_below slot rest slots to is_hash is_shard link leads) =
-    elim (named_once n m h next.link (shard slots) (shard ss) is_shard named) [
+leads_down one h next ss name target hash named led left (leads_below slot rest slots to is_hash is_shard link leads) =
+    elim (named_once one h next.link (shard slots) (shard ss) is_shard named) [
       | inl same ↦
           let join = led_join next.path slot rest (hash_of name) led (left ∙ is_hash) in
           inl (inr (link_below h next.path ss slot to name target (subst (λ (xs : List SlotParts). HasLink xs slot None to) (shard_is slots ss same) link) join.0
@@ -287,52 +277,52 @@ leads_down n m h next ss name target hash named led left (leads_below slot rest 
     ]
 
 -- a plain folder leads nowhere by a hash
-pub leads_plain : OneNode → OneMessage → (h : Hashing) (from : Link) (es : List EntryParts) (name : List ℕ) (target : Link) (hash : List ℕ) → NamesFolder h from (plain es) → Leads h name target from hash → Collision h
-leads_plain n m h from es name target hash named (leads_here slot rest slots is_hash is_shard link) =
-    elim (named_once n m h from (plain es) (shard slots) named is_shard) [
+pub leads_plain : OneParse → (h : Hashing) (from : Link) (es : List EntryParts) (name : List ℕ) (target : Link) (hash : List ℕ) → NamesFolder h from (plain es) → Leads h name target from hash → Collision h
+leads_plain one h from es name target hash named (leads_here slot rest slots is_hash is_shard link) =
+    elim (named_once one h from (plain es) (shard slots) named is_shard) [
       | inl same ↦ absurd (not_both es slots same)
       | inr collision ↦ collision
     ]
-leads_plain n m h from es name target hash named (leads_below slot rest slots to is_hash is_shard link leads) =
-    elim (named_once n m h from (plain es) (shard slots) named is_shard) [
+leads_plain one h from es name target hash named (leads_below slot rest slots to is_hash is_shard link leads) =
+    elim (named_once one h from (plain es) (shard slots) named is_shard) [
       | inl same ↦ absurd (not_both es slots same)
       | inr collision ↦ collision
     ]
 
-visit_down : OneNode → OneMessage → (h : Hashing) (next : Waiting) (f : FolderParts) (entries : List EntryParts) (below : List Waiting) (name : List ℕ) (target : Link) → NamesFolder h next.link f → IsVisit next f entries below
+visit_down : OneParse → (h : Hashing) (next : Waiting) (f : FolderParts) (entries : List EntryParts) (below : List Waiting) (name : List ℕ) (target : Link) → NamesFolder h next.link f → IsVisit next f entries below
     → Holds h next name target → Visited h entries below name target
-visit_down n m h next (plain es) entries below name target named visit (inl has) = inr (leads_plain n m h next.link es name target (drop (length next.path) (hash_of name)) named has.1)
-visit_down n m h next (plain es) entries below name target named visit (inr (root, (es', also, has))) =
-    elim (named_once n m h next.link (plain es') (plain es) also named) [
+visit_down one h next (plain es) entries below name target named visit (inl has) = inr (leads_plain one h next.link es name target (drop (length next.path) (hash_of name)) named has.1)
+visit_down one h next (plain es) entries below name target named visit (inr (root, (es', also, has))) =
+    elim (named_once one h next.link (plain es') (plain es) also named) [
       | inl same ↦ inl (inl (subst (λ (xs : List EntryParts). Has xs name target) (plain_is es' es same ∙ sym visit.1) has))
       | inr collision ↦ inr collision
     ]
-visit_down n m h next (shard ss) entries below name target named visit (inl has) =
+visit_down one h next (shard ss) entries below name target named visit (inl has) =
     subst (λ (xs : List EntryParts). Visited h xs below name target) (sym visit.1) (subst (λ (ws : List Waiting). Visited h (entries_of ss) ws name target) (sym visit.2)
-    (leads_down n m h next ss name target (drop (length next.path) (hash_of name)) named has.0 refl has.1))
-visit_down n m h next (shard ss) entries below name target named visit (inr (root, (es', also, has))) =
-    elim (named_once n m h next.link (plain es') (shard ss) also named) [
+    (leads_down one h next ss name target (drop (length next.path) (hash_of name)) named has.0 refl has.1))
+visit_down one h next (shard ss) entries below name target named visit (inr (root, (es', also, has))) =
+    elim (named_once one h next.link (plain es') (shard ss) also named) [
       | inl same ↦ absurd (not_both es' ss same)
       | inr collision ↦ inr collision
     ]
 
 -- what the root has was listed, or remains, or there is a collision
-all_down : OneNode → OneMessage → (h : Hashing) (root : Link) (listed : List EntryParts) (remain : List Waiting) (name : List ℕ) (target : Link) → Lists h root listed remain → HasEntry h root name target → Visited h listed remain name target
-all_down n m h root listed remain name target (lists_none none is) has =
+all_down : OneParse → (h : Hashing) (root : Link) (listed : List EntryParts) (remain : List Waiting) (name : List ℕ) (target : Link) → Lists h root listed remain → HasEntry h root name target → Visited h listed remain name target
+all_down one h root listed remain name target (lists_none none is) has =
     inl (inr (subst (λ (ws : List Waiting). OneHolds h ws name target) (sym is) (inl (root_holds h root name target has))))
-all_down n m h root listed remain name target (lists_more before old block entries lists takes is) has =
+all_down one h root listed remain name target (lists_more before old block entries lists takes is) has =
     let visits = takes.visits in
     let named : NamesFolder h takes.next.link visits.folder = (block, visits.is_folder) in
     let listed_so = λ (x : Has (before ++ entries) name target). subst (λ (es : List EntryParts). Has es name target) (sym is) x in
     let remains = λ (x : OneHolds h (takes.below ++ takes.others) name target). subst (λ (ws : List Waiting). OneHolds h ws name target) (sym takes.remain) x in
-    elim (all_down n m h root before old name target lists has) [
+    elim (all_down one h root before old name target lists has) [
       | inr collision ↦ inr collision
       | inl (inl front) ↦ inl (inl (listed_so (has_front before entries name target front)))
       | inl (inr waits) ↦
           elim (subst (λ (ws : List Waiting). OneHolds h ws name target) takes.is_next waits) [
             | inr others ↦ inl (inr (remains (holds_back h takes.below takes.others name target others)))
             | inl here ↦
-                elim (visit_down n m h takes.next visits.folder entries takes.below name target named visits.is_visit here) [
+                elim (visit_down one h takes.next visits.folder entries takes.below name target named visits.is_visit here) [
                   | inr collision ↦ inr collision
                   | inl (inl entry) ↦ inl (inl (listed_so (has_back before entries name target entry)))
                   | inl (inr below) ↦ inl (inr (remains (holds_front h takes.below takes.others name target below)))
@@ -340,9 +330,9 @@ all_down n m h root listed remain name target (lists_more before old block entri
           ]
     ]
 
-pub found_listed : OneNode → OneMessage → (h : Hashing) (root : Link) (listed : List EntryParts) (name : List ℕ) (target : Link) → Lists h root listed [] → HasEntry h root name target → Has listed name target ⊎ Collision h
-found_listed n m h root listed name target lists has =
-    elim (all_down n m h root listed [] name target lists has) [
+pub found_listed : OneParse → (h : Hashing) (root : Link) (listed : List EntryParts) (name : List ℕ) (target : Link) → Lists h root listed [] → HasEntry h root name target → Has listed name target ⊎ Collision h
+found_listed one h root listed name target lists has =
+    elim (all_down one h root listed [] name target lists has) [
       | inl (inl listed_is) ↦ inl listed_is
       | inl (inr remains) ↦ absurd remains
       | inr collision ↦ inr collision

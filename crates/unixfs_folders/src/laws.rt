@@ -7,8 +7,7 @@ ghost use Rattle.unixfs_folders.specs.Folders.{EntryParts, SlotParts, AreSlots, 
 ghost use Rattle.unixfs_folders.specs.Laws.{AllDiffer, number_of, bits_of, HasNoZeros};
 ghost use Rattle.unixfs_folders.specs.Listing.{Waiting, Lists};
 
-use dag_pb::laws::node_law;
-use unixfs::laws::data_law;
+use unixfs::laws::parsed_law;
 
 /// States the laws of entries. A call does nothing.
 ///
@@ -24,8 +23,7 @@ pub fn entry_law()
         → HasEntry hashing folder name target → HasNoEntry hashing folder name
         → Collision hashing }
 {
-    node_law();
-    data_law();
+    parsed_law();
 }
 
 /// States the laws of listings. A call does nothing.
@@ -46,8 +44,7 @@ pub fn listing_law()
     ensures all_differ { (hashing : Hashing) (root : Link) (listed : List EntryParts)
         (remain : List Waiting) → Lists hashing root listed remain → AllDiffer listed }
 {
-    node_law();
-    data_law();
+    parsed_law();
 }
 
 /// States the laws of bit fields. A call does nothing.

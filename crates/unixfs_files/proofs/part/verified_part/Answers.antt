@@ -9,6 +9,7 @@ returns-in-Err c = record {
   found = tt;
   only = λ part is_block is_part fits. absurd (verified (link_of c.args.cid.now) c.args.block.now c.in-Err.error is_block c.in-Err.ensures);
   counted = tt;
+  within = tt;
   exact = unverified c.in-Err.error refl c.in-Err.ensures;
 }
 

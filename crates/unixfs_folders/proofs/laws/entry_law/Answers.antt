@@ -3,6 +3,6 @@ use Rattle.unixfs_folders.proofs.laws.entry_law.Goals as goal
 
 pub returns : goal.returns
 returns c = record {
-  one_entry = entry_once c.node_law.ensures.one_node c.data_law.ensures.one_message;
-  one_or_none = one_or_none c.node_law.ensures.one_node c.data_law.ensures.one_message;
+  one_entry = entry_once c.parsed_law.ensures;
+  one_or_none = one_or_none c.parsed_law.ensures;
 }
