@@ -109,6 +109,7 @@ said "Rust, over a shared library: ok"
 "$tests/venv/bin/python" test/calls.py
 "$tests/venv/bin/python" test/car.py
 "$tests/venv/bin/python" test/multibase.py
+PYTHONPATH=$PWD/.. "$tests/venv/bin/python" -B test/files.py
 "$tests/venv/bin/python" test/random_blocks.py "$blocks"
 "$tests/venv/bin/python" test/random_pb.py "$blocks"
 "$tests/venv/bin/python" test/random_cars.py "$blocks"

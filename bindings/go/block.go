@@ -112,7 +112,8 @@ func (o Options) ToJSON(block []byte) ([]byte, error) {
 // and the keys of an object in any order.
 //
 // It fails with an ErrJSON status for the first invalid token, with ErrTooDeep or ErrTooMany if the
-// text exceeds a limit, and with ErrNoMemory. The error has the offset in the text.
+// text exceeds a limit, and with ErrNoMemory. The error has the offset in the text. It also fails
+// with ErrTooLong if a value has 2^32 bytes or parts, or more.
 func FromJSON(text []byte) ([]byte, error) {
 	return Options{}.FromJSON(text)
 }

@@ -1,7 +1,7 @@
 /* This header belongs to kombilad.c. It differs from that of the library for x86-64 in the sizes in
  * records, which are uint64_t. */
 /* libkombilad: reads content identifiers (CIDs), blocks of DAG-CBOR and DAG-PB, texts in DAG-JSON,
- * and CARs by proved code.
+ * CARs, and files of UnixFS by proved code.
  *
  *     #include <kombilad.h>
  *
@@ -10,9 +10,9 @@
  * Status. Each call returns KOMBILAD_OK or the number of an error below. A call that fails writes
  * nothing, except what its comment names.
  *
- * Memory. The caller owns all arguments. No call keeps a pointer after it returns, and no result
- * has to be freed. A call allocates by malloc and realloc, and frees all of it before it returns.
- * If an allocation fails, it returns KOMBILAD_NO_MEMORY.
+ * Memory. The caller owns all arguments. No call keeps a pointer after it returns. A call allocates
+ * by malloc and realloc, and frees all of it before it returns, except the walk of a kombilad_file,
+ * which kombilad_file_free frees. If an allocation fails, it returns KOMBILAD_NO_MEMORY.
  *
  * Pointers. A buffer of length 0 may be NULL. Any other pointer has to be valid. Memory that a call
  * writes to must not overlap another argument.
@@ -223,7 +223,54 @@ enum kombilad_status {
 
     /* A part of a CAR. */
     /* more bytes of the CAR are needed, which isn't an error */
-    KOMBILAD_CAR_MORE = 176
+    KOMBILAD_CAR_MORE = 176,
+
+    /* A walk over a file of UnixFS doesn't take the block: the first reason. The statuses of a
+     * block that isn't verified, of a node of DAG-PB and of a link are those above. */
+    /* all blocks of the file were taken, which isn't an error of kombilad_file_wanted */
+    KOMBILAD_FILE_DONE = 192,
+    /* the kombilad_file has no walk */
+    KOMBILAD_FILE_CLOSED = 193,
+    /* the codec of the CID is neither raw nor dag-pb */
+    KOMBILAD_FILE_CODEC = 194,
+    /* the node has no data */
+    KOMBILAD_FILE_NO_DATA = 195,
+    /* the node is a folder, a symbolic link or metadata */
+    KOMBILAD_FILE_NOT_FILE = 196,
+    /* the number of sizes in the node is not that of its links */
+    KOMBILAD_FILE_SIZE_COUNT = 197,
+    /* the size of the file in the node is not that of its bytes and its links */
+    KOMBILAD_FILE_SIZE = 198,
+    /* the node has another number of bytes of the file than the node above it states */
+    KOMBILAD_FILE_PART_SIZE = 199,
+    /* the file has more bytes than the limit */
+    KOMBILAD_FILE_TOO_LARGE = 200,
+    /* the file has more blocks than the limit */
+    KOMBILAD_FILE_TOO_MANY_BLOCKS = 201,
+    /* the blocks of the file nest deeper than the limit */
+    KOMBILAD_FILE_TOO_DEEP = 202,
+    /* more blocks of the file wait to be read than the limit */
+    KOMBILAD_FILE_TOO_MANY_PARTS = 203,
+
+    /* The data of the node are not a message of UnixFS: the leftmost error. */
+    /* the data end within a field */
+    KOMBILAD_UNIXFS_END = 208,
+    /* a varint encodes a number of 2^64 or more, or has more than ten bytes */
+    KOMBILAD_UNIXFS_VARINT_TOO_LARGE = 209,
+    /* the number and wire type of a field are not allowed there */
+    KOMBILAD_UNIXFS_UNKNOWN_FIELD = 210,
+    /* a field comes twice or out of order */
+    KOMBILAD_UNIXFS_FIELD_ORDER = 211,
+    /* the data do not begin with a type */
+    KOMBILAD_UNIXFS_NO_TYPE = 212,
+    /* no type has this number */
+    KOMBILAD_UNIXFS_UNKNOWN_TYPE = 213,
+    /* the mode has more than 32 bits */
+    KOMBILAD_UNIXFS_MODE_TOO_LARGE = 214,
+    /* the time does not begin with its seconds */
+    KOMBILAD_UNIXFS_NO_SECONDS = 215,
+    /* the nanoseconds of the time are not from 1 to 999,999,999 */
+    KOMBILAD_UNIXFS_NANOSECONDS = 216
 };
 
 /* Writes the sentence of a status: at most 80 bytes of ASCII, without a full stop and without a
@@ -462,15 +509,17 @@ uint32_t kombilad_block_to_json(const uint8_t *block, size_t len, size_t levels,
  * object in any order. A number with a fraction or an exponent is a float of 64 bits. The limits
  * count the arrays, objects and values of the text: a link is two values, one level deep, and bytes
  * are three values, two levels deep. It allocates the tree of the text, its tape and the block. It
- * also returns NO_MEMORY if a string or bytes have 2^32 bytes or more, or if a list or a map spans
+ * returns TOO_LONG if a string, bytes or a key have 2^32 bytes or more, or if a list or a map spans
  * 2^32 entries or more of a tape.
  *
  * With TOO_DEEP, TOO_MANY and KOMBILAD_JSON_* it writes to `offset` the first byte of the token at
  * fault, or the length of the text if it ends too early. For KOMBILAD_JSON_UTF8 that is the first
  * byte that is not part of a character. For JSON_LINK, JSON_BYTES and JSON_RESERVED it is the brace
- * that closes the object. With NO_MEMORY `offset` may be any number up to the length.
+ * that closes the object. With NO_MEMORY `offset` may be any number up to the length. With OK,
+ * TOO_SHORT and TOO_LONG nothing is written to it.
  *
- * Statuses: OK, TOO_SHORT, NO_MEMORY, TOO_DEEP, TOO_MANY, KOMBILAD_JSON_* except RESERVED_MAP. */
+ * Statuses: OK, TOO_SHORT, NO_MEMORY, TOO_DEEP, TOO_MANY, TOO_LONG, KOMBILAD_JSON_* except
+ * RESERVED_MAP. */
 uint32_t kombilad_block_of_json(const uint8_t *text, size_t len, size_t levels, size_t values,
                                 uint8_t *out, size_t out_len, size_t *needed, size_t *offset);
 
@@ -559,6 +608,76 @@ uint32_t kombilad_car_next_part(const uint8_t *bytes, size_t len, uint32_t is_al
  *
  * Statuses: OK, KOMBILAD_UNKNOWN_HASH, KOMBILAD_WRONG_DIGEST, KOMBILAD_CID_*. */
 uint32_t kombilad_verify(const uint8_t *cid, size_t cid_len, const uint8_t *block, size_t len);
+
+/* ---- Files of UnixFS
+ *
+ * A walk over the blocks of a file, in the order of its bytes. Nobody has to trust the source of
+ * the blocks: each block is verified before it is read, and each size in it is compared with the
+ * number of bytes.
+ *
+ *     kombilad_file file = {0};
+ *     status = kombilad_file_new(root, root_len, UINT64_MAX, KOMBILAD_FILE_BLOCKS,
+ *                                KOMBILAD_FILE_WAITING, KOMBILAD_FILE_LEVELS, &file);
+ *     while (status == KOMBILAD_OK) {
+ *         status = kombilad_file_wanted(&file, &cid);
+ *         if (status != KOMBILAD_OK) break;
+ *         get_block(&cid, block, &len); // from anywhere; `bytes` has room for as many bytes
+ *         status = kombilad_file_take(&file, block, len, bytes, len, &count, &offset);
+ *         if (status == KOMBILAD_OK) write(1, bytes, count);
+ *     }
+ *     kombilad_file_free(&file); // `status` is KOMBILAD_FILE_DONE at the end of the file
+ */
+
+/* Limits for untrusted files. A file of 1 TiB in chunks of 256 KiB, with 174 links in a block, has
+ * about 4,200,000 blocks in four levels, and fewer than 1,000 of them wait. */
+#define KOMBILAD_FILE_BLOCKS ((uint64_t)1 << 24)
+#define KOMBILAD_FILE_WAITING ((size_t)1 << 18)
+#define KOMBILAD_FILE_LEVELS ((size_t)64)
+
+/* A walk, or none if all its bytes are zero. A caller sets them to zero before the first call.
+ * After that only the calls below may read or write them. A kombilad_file may be moved, but only
+ * one copy of it may be used, by one call at a time. */
+typedef struct kombilad_file {
+    uint64_t is_open;
+    uint64_t walk;
+} kombilad_file;
+
+/* Begins a walk over the file of a CID, and frees the walk that the kombilad_file had. With an
+ * error the kombilad_file is as before. The limits are on:
+ * - `max_bytes`: the bytes of the file.
+ * - `max_blocks`: its blocks. A block that is linked twice counts twice.
+ * - `max_waiting`: the blocks that wait to be read while another is read. Each takes about 100
+ *   bytes of memory.
+ * - `max_levels`: the levels of blocks below the root.
+ *
+ * Statuses: OK, NO_MEMORY, KOMBILAD_CID_*. */
+uint32_t kombilad_file_new(const uint8_t *root, size_t root_len, uint64_t max_bytes,
+                           uint64_t max_blocks, size_t max_waiting, size_t max_levels,
+                           kombilad_file *file);
+
+/* Writes the CID of the block that the walk wants next. Does not allocate.
+ *
+ * Statuses: OK, KOMBILAD_FILE_DONE, KOMBILAD_FILE_CLOSED. */
+uint32_t kombilad_file_wanted(kombilad_file *file, kombilad_cid *cid);
+
+/* Takes the block that the walk wants, and writes the bytes of the file in it, which come next in
+ * the file. A block above others usually has none. With OK their number is written to `needed`. The
+ * buffer `bytes` needs as much room as the block. If it is shorter, the call writes the length of
+ * the block to `needed`, and returns TOO_SHORT. It allocates up to about 400 bytes for each link
+ * of the block.
+ *
+ * With any status except OK the walk is as before, and still wants this block. With KOMBILAD_PB_*
+ * and KOMBILAD_LINK_* the call writes to `offset` the first byte of the invalid field of the block,
+ * and with KOMBILAD_UNIXFS_* that of the node's data. With OK, TOO_SHORT and KOMBILAD_FILE_CLOSED
+ * nothing is written to it, and with other errors 0.
+ *
+ * Statuses: OK, TOO_SHORT, NO_MEMORY, KOMBILAD_UNKNOWN_HASH, KOMBILAD_WRONG_DIGEST,
+ * KOMBILAD_FILE_*, KOMBILAD_PB_*, KOMBILAD_LINK_*, KOMBILAD_UNIXFS_*. */
+uint32_t kombilad_file_take(kombilad_file *file, const uint8_t *block, size_t len, uint8_t *bytes,
+                            size_t bytes_len, size_t *needed, size_t *offset);
+
+/* Frees the walk, if the kombilad_file has one. It has none after that. */
+void kombilad_file_free(kombilad_file *file);
 
 /* ---- The library */
 

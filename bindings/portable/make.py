@@ -34,7 +34,7 @@ TOP = HERE.parent.parent
 sys.path.insert(0, str(HERE))
 import ir2c  # noqa: E402
 import modules  # noqa: E402
-from built import CRATES, NotBuilt, libraries, told  # noqa: E402
+from built import CRATES, NotBuilt, libraries, stands_on, told  # noqa: E402
 from ir import Unknown  # noqa: E402
 
 LIBRARY = "kombilad"
@@ -59,7 +59,7 @@ def crate_of(name):
 def sources(name):
     """Returns the files from which a C file is made."""
     crate = crate_of(name)
-    found = [TOP / "VERSION", TOP / "crates.txt", *TRANSLATOR]
+    found = [TOP / "VERSION", *TRANSLATOR]
     found += [HEADER if name == LIBRARY else HERE / "posix.c"]
     for it in (crate, *libraries(crate)):
         found += sorted((CRATES / it / "src").rglob("*.rt"))
@@ -67,8 +67,11 @@ def sources(name):
 
 
 def digest_of(name):
-    """Returns the digest of the sources of a name."""
+    """Returns the digest of the sources of a name, and of what its crates stand on."""
     digest = hashlib.sha256()
+    crate = crate_of(name)
+    for it in (crate, *libraries(crate)):
+        digest.update(f"{it}: {' '.join(stands_on()[it])}\n".encode())
     for path in sources(name):
         text = path.read_bytes()
         digest.update(f"{path.relative_to(TOP)} {len(text)}\n".encode() + text)

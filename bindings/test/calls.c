@@ -893,6 +893,185 @@ static uint32_t call_check_canonical(bytes block, void *out, size_t len, size_t 
     return kombilad_block_check_canonical(block.at, block.len, 100, 100, &offset);
 }
 
+/* ---- Files of UnixFS */
+
+/* The file "foobar\n" in chunks of two bytes, as go-ipfs packs it: the CID and the block of the
+ * root, and then of each leaf. */
+#define FILE_LINK(digest, total) "12280a221220" digest "120018" total
+#define FO "fef9fe1804942b35e19e145a03f9c9d5ca9c997dda0a9416f3f515a52f1b3ce1"
+#define OB "dfb94b75acb208fd4873d84872af58bd65c731770a7d4c0deeb4088e87390bfe"
+#define AR "054497ae4e89812c83276a48e3e679013a788b7c0eb02712df15095c02d6cd2c"
+#define LF "cc332ceb37dea7d3d7c00d1393117638d3ed963575836c6d44a24951e444cf5d"
+#define FILE_ROOT "12202bf7f75b76e336f34a04abd86af423b5063628ffd91e5392444078851dc31655"
+#define LYING_NODE "120b0a050155000161120018010a06080218022002"
+#define FOLDER "122059948439065f29619ef41280cbb932be52c56d99c5966b65e0111239f098bbef"
+
+static const struct {
+    const char *cid, *block, *bytes;
+} file_parts[] = {
+    {FILE_ROOT,
+     FILE_LINK(FO, "0a") FILE_LINK(OB, "0a") FILE_LINK(AR, "0a")
+         FILE_LINK(LF, "09") "0a0c080218072002200220022001",
+     ""},
+    {"1220" FO, "0a0808021202666f1802", "fo"},
+    {"1220" OB, "0a08080212026f621802", "ob"},
+    {"1220" AR, "0a080802120261721802", "ar"},
+    {"1220" LF, "0a07080212010a1801", "\n"},
+};
+
+/* Begins a walk with these limits on bytes, blocks, waiting blocks and levels. */
+static uint32_t begin_file(const char *digits, uint64_t size, uint64_t blocks, size_t waiting,
+                           size_t levels, kombilad_file *file) {
+    bytes root = from_hex(digits);
+    uint32_t status = kombilad_file_new(root.at, root.len, size, blocks, waiting, levels, file);
+    free(root.at);
+    return status;
+}
+
+/* Gives a block to a walk. The buffer has `short_by` bytes fewer than the block. Returns the status,
+ * and checks that nothing is written with an error, except the offset. */
+static uint32_t take_block(kombilad_file *file, const char *digits, size_t short_by,
+                           const char *expected, size_t at) {
+    bytes block = from_hex(digits);
+    size_t len = block.len - short_by, needed = 7, offset = 7;
+    uint8_t *out = malloc(len + 1);
+    memset(out, '#', len);
+    uint32_t status = kombilad_file_take(file, block.at, block.len, out, len, &needed, &offset);
+    if (status == KOMBILAD_OK) {
+        CHECK_OF(digits, needed == strlen(expected) && memcmp(out, expected, needed) == 0);
+        CHECK_OF(digits, is_all(out + needed, len - needed, '#') && offset == 7);
+    } else {
+        CHECK_OF(digits, is_all(out, len, '#'));
+        CHECK_OF(digits, needed == (status == KOMBILAD_TOO_SHORT ? block.len : 7));
+        CHECK_OF(digits, offset == at);
+    }
+    free(block.at), free(out);
+    return status;
+}
+
+static bool wants(kombilad_file *file, const char *digits) {
+    kombilad_cid cid;
+    bytes wanted = from_hex(digits);
+    bool same = kombilad_file_wanted(file, &cid) == KOMBILAD_OK && cid.len == wanted.len &&
+                memcmp(cid.bytes, wanted.at, cid.len) == 0;
+    free(wanted.at);
+    return same;
+}
+
+/* Begins a walk over the file, and gives it the first `count` of its blocks. */
+static void take_parts(kombilad_file *file, size_t count) {
+    CHECK(begin_file(FILE_ROOT, UINT64_MAX, KOMBILAD_FILE_BLOCKS, KOMBILAD_FILE_WAITING,
+                     KOMBILAD_FILE_LEVELS, file) == KOMBILAD_OK);
+    for (size_t at = 0; at < count; at++) {
+        CHECK(wants(file, file_parts[at].cid));
+        CHECK(take_block(file, file_parts[at].block, 1, "", 7) == KOMBILAD_TOO_SHORT);
+        CHECK(take_block(file, file_parts[at].block, 0, file_parts[at].bytes, 7) == KOMBILAD_OK);
+    }
+}
+
+/* Blocks that a walk doesn't take. Most CIDs have the block as their digest, by the hash identity. */
+static const struct {
+    const char *cid, *block;
+    uint32_t status;
+    size_t offset;
+} no_parts[] = {
+    {FILE_ROOT, "0a0808021202666f1802", KOMBILAD_WRONG_DIGEST, 0},
+    {"0170b32000", "", KOMBILAD_UNKNOWN_HASH, 0},
+    {"01710001a0", "a0", KOMBILAD_FILE_CODEC, 0},
+    {"01700000", "", KOMBILAD_FILE_NO_DATA, 0},
+    {FOLDER, "0a020801", KOMBILAD_FILE_NOT_FILE, 0},
+    {"0170000a0a080802180220022001", "0a080802180220022001", KOMBILAD_FILE_SIZE_COUNT, 0},
+    {"017000060a0408021801", "0a0408021801", KOMBILAD_FILE_SIZE, 0},
+    {"01700003120100", "120100", KOMBILAD_PB_NO_HASH, 2},
+    {"017000050a0308021a", "0a0308021a", KOMBILAD_UNIXFS_UNKNOWN_FIELD, 2},
+    {"017000040a020809", "0a020809", KOMBILAD_UNIXFS_UNKNOWN_TYPE, 0},
+};
+
+static const struct {
+    uint64_t size, blocks;
+    size_t waiting, levels, taken;
+    uint32_t status;
+} file_limits[] = {
+    {7, 5, 4, 1, 5, KOMBILAD_OK},
+    {6, 5, 4, 1, 0, KOMBILAD_FILE_TOO_LARGE},
+    {7, 0, 4, 1, 0, KOMBILAD_FILE_TOO_MANY_BLOCKS},
+    {7, 4, 4, 1, 4, KOMBILAD_FILE_TOO_MANY_BLOCKS},
+    {7, 5, 3, 1, 0, KOMBILAD_FILE_TOO_MANY_PARTS},
+    {7, 5, 4, 0, 0, KOMBILAD_FILE_TOO_DEEP},
+};
+
+static void check_files(void) {
+    long before = held;
+    kombilad_file file = {0};
+    kombilad_cid cid = {0};
+    CHECK(kombilad_file_wanted(&file, &cid) == KOMBILAD_FILE_CLOSED && cid.len == 0);
+    CHECK(take_block(&file, "00", 0, "", 7) == KOMBILAD_FILE_CLOSED);
+    kombilad_file_free(&file);
+    CHECK(begin_file("0170", 1, 1, 1, 1, &file) == KOMBILAD_CID_END && file.is_open == 0);
+
+    take_parts(&file, COUNT(file_parts));
+    CHECK(kombilad_file_wanted(&file, &cid) == KOMBILAD_FILE_DONE && cid.len == 0);
+    CHECK(take_block(&file, "00", 0, "", 0) == KOMBILAD_FILE_DONE);
+    CHECK(begin_file("0170", 1, 1, 1, 1, &file) == KOMBILAD_CID_END);
+    CHECK(kombilad_file_wanted(&file, &cid) == KOMBILAD_FILE_DONE);
+    /* A new walk frees the old one. A wrong block changes nothing. */
+    take_parts(&file, 3);
+    CHECK(take_block(&file, file_parts[2].block, 0, "", 0) == KOMBILAD_WRONG_DIGEST);
+    CHECK(wants(&file, file_parts[3].cid));
+    CHECK(take_block(&file, file_parts[3].block, 0, "ar", 7) == KOMBILAD_OK);
+    /* The record may be moved. */
+    kombilad_file moved = file;
+    file = (kombilad_file){0};
+    CHECK(wants(&moved, file_parts[4].cid));
+    kombilad_file_free(&moved);
+    CHECK(kombilad_file_wanted(&moved, &cid) == KOMBILAD_FILE_CLOSED);
+    kombilad_file_free(&moved);
+    CHECK(held == before);
+
+    for (size_t at = 0; at < COUNT(no_parts); at++) {
+        kombilad_file other = {0};
+        CHECK_OF(no_parts[at].cid, begin_file(no_parts[at].cid, 9, 9, 9, 9, &other) == KOMBILAD_OK);
+        uint32_t status = take_block(&other, no_parts[at].block, 0, "", no_parts[at].offset);
+        CHECK_OF(no_parts[at].cid, status == no_parts[at].status);
+        CHECK_OF(no_parts[at].cid, wants(&other, no_parts[at].cid));
+        kombilad_file_free(&other);
+    }
+    for (size_t at = 0; at < COUNT(file_limits); at++) {
+        kombilad_file other = {0};
+        CHECK(begin_file(FILE_ROOT, file_limits[at].size, file_limits[at].blocks,
+                         file_limits[at].waiting, file_limits[at].levels, &other) == KOMBILAD_OK);
+        for (size_t part = 0; part < file_limits[at].taken; part++)
+            CHECK(take_block(&other, file_parts[part].block, 0, file_parts[part].bytes, 7) ==
+                  KOMBILAD_OK);
+        if (file_limits[at].status != KOMBILAD_OK)
+            CHECK(take_block(&other, file_parts[file_limits[at].taken].block, 0, "", 0) ==
+                  file_limits[at].status);
+        kombilad_file_free(&other);
+    }
+    /* A leaf of one byte, which the block above it states to have two. */
+    CHECK(begin_file("01700015" LYING_NODE, 9, 9, 9, 9, &file) == KOMBILAD_OK);
+    CHECK(take_block(&file, LYING_NODE, 0, "", 7) == KOMBILAD_OK);
+    CHECK(take_block(&file, "61", 0, "", 0) == KOMBILAD_FILE_PART_SIZE);
+    kombilad_file_free(&file);
+    CHECK(held == before);
+}
+
+/* Walks over the file whose blocks are `file_blocks`. */
+static bytes file_blocks[COUNT(file_parts)];
+
+static uint32_t call_file(bytes root, void *out, size_t len, size_t *needed) {
+    kombilad_file file = {0};
+    uint8_t room[300];
+    size_t count, offset;
+    (void)out, (void)len, (void)needed;
+    uint32_t status = kombilad_file_new(root.at, root.len, 7, 5, 4, 1, &file);
+    for (size_t at = 0; at < COUNT(file_blocks) && status == KOMBILAD_OK; at++)
+        status = kombilad_file_take(&file, file_blocks[at].at, file_blocks[at].len, room,
+                                    sizeof room, &count, &offset);
+    kombilad_file_free(&file);
+    return status;
+}
+
 /* Makes the first allocation of the call fail, then the second, and so on, until none fails.
  * Returns the number of allocations. */
 static long refuse_each(call *made, bytes input, size_t len) {
@@ -938,6 +1117,12 @@ static void check_refused(void) {
     CHECK(refuse_each(call_pb_tape, node, sizeof pb_entries) > 0);
     free(node.at);
     CHECK(refuse_each(call_check_canonical, block, 1) > 0);
+    bytes root = from_hex(FILE_ROOT);
+    for (size_t at = 0; at < COUNT(file_blocks); at++)
+        file_blocks[at] = from_hex(file_parts[at].block);
+    CHECK(refuse_each(call_file, root, 1) > 2);
+    for (size_t at = 0; at < COUNT(file_blocks); at++) free(file_blocks[at].at);
+    free(root.at);
 
     /* These calls don't allocate. */
     kombilad_cid_parts parts;
@@ -1263,7 +1448,7 @@ static void check_sentences(void) {
         CHECK(kombilad_status_text(status, text, len, &needed) == KOMBILAD_OK && needed == len);
         for (size_t at = 0; at < len; at++) CHECK(' ' <= text[at] && text[at] <= '~');
         CHECK(text[len - 1] != '.' && text[len] == 0xaa);
-        if (status > KOMBILAD_CAR_MORE)
+        if (status > KOMBILAD_UNIXFS_NANOSECONDS)
             CHECK(reports(status, "the status is not one of this version"));
     }
     CHECK(reports(KOMBILAD_OK, "the call succeeded"));
@@ -1283,6 +1468,10 @@ static void check_sentences(void) {
     CHECK(reports(KOMBILAD_JSON_RESERVED_MAP,
                   "a map would be read as a link or as bytes in DAG-JSON"));
     CHECK(reports(KOMBILAD_CAR_MORE, "more bytes of the CAR are needed"));
+    CHECK(reports(KOMBILAD_FILE_TOO_MANY_PARTS,
+                  "more blocks of the file wait to be read than the limit"));
+    CHECK(reports(KOMBILAD_UNIXFS_NANOSECONDS,
+                  "the nanoseconds of the node's time are not from 1 to 999999999"));
 }
 
 int main(int count, char **words) {
@@ -1307,6 +1496,7 @@ int main(int count, char **words) {
     check_opened_parts();
     check_parts();
     check_digests();
+    check_files();
     check_threads();
     puts("calls: ok");
     return 0;

@@ -30,7 +30,11 @@ def defined():
         "encode": "TAPE_",
         "pb": "PB_",
         "json": "JSON_",
+        "message": "UNIXFS_",
+        "node": "FILE_",
+        "file": "FILE_",
     }
+    others = {"FILE_FILE_SIZE": "FILE_SIZE", "FILE_FINISHED": "FILE_DONE"}
     numbers = {}
     for kind, name, number in re.findall(
         r"^(\w+)_status \(?(?:\w+\.)?(\w+).*= (\d+)$",
@@ -46,10 +50,11 @@ def defined():
             numbers.setdefault("NO_MEMORY", set()).add(int(number))
         elif number == "15":
             numbers.setdefault("OTHER", set()).add(15)
-        elif kind == "limit" or name in ("TooDeep", "TooMany"):
+        elif kind == "limit" or kind == "json" and name in ("TooDeep", "TooMany"):
             numbers.setdefault(upper, set()).add(int(number))
         else:
-            numbers.setdefault(f"{prefixes[kind]}{upper}", set()).add(int(number))
+            named = f"{prefixes[kind]}{upper}"
+            numbers.setdefault(others.get(named, named), set()).add(int(number))
     return numbers
 
 

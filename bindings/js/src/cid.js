@@ -275,7 +275,7 @@ export class CID {
 /** The argument that only this package passes to the constructor, for bytes that were checked. */
 const CHECKED = Symbol('checked')
 
-function ownCid (value) {
+export function ownCid (value) {
   const cid = CID.asCID(value)
   if (cid === null) throw ofName('INPUT', undefined, ': a CID')
   return cid

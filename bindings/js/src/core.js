@@ -134,6 +134,12 @@ class Core {
   }
 }
 
+/**
+ * Returns a core that no other call uses, for what keeps memory of the core between two calls. It
+ * has the memory limit that is set now.
+ */
+export const separate = () => new Core()
+
 startBy(() => {
   try {
     run(() => {})

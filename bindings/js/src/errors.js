@@ -65,7 +65,28 @@ const NAMES = {
   167: 'JSON_BYTES',
   168: 'JSON_RESERVED',
   169: 'JSON_RESERVED_MAP',
-  176: 'CAR_MORE'
+  176: 'CAR_MORE',
+  192: 'FILE_DONE',
+  193: 'FILE_CLOSED',
+  194: 'FILE_CODEC',
+  195: 'FILE_NO_DATA',
+  196: 'FILE_NOT_FILE',
+  197: 'FILE_SIZE_COUNT',
+  198: 'FILE_SIZE',
+  199: 'FILE_PART_SIZE',
+  200: 'FILE_TOO_LARGE',
+  201: 'FILE_TOO_MANY_BLOCKS',
+  202: 'FILE_TOO_DEEP',
+  203: 'FILE_TOO_MANY_PARTS',
+  208: 'UNIXFS_END',
+  209: 'UNIXFS_VARINT_TOO_LARGE',
+  210: 'UNIXFS_UNKNOWN_FIELD',
+  211: 'UNIXFS_FIELD_ORDER',
+  212: 'UNIXFS_NO_TYPE',
+  213: 'UNIXFS_UNKNOWN_TYPE',
+  214: 'UNIXFS_MODE_TOO_LARGE',
+  215: 'UNIXFS_NO_SECONDS',
+  216: 'UNIXFS_NANOSECONDS'
 }
 
 /**
@@ -107,6 +128,7 @@ const OTHERS = {
   ENCODE_TOO_DEEP: 'lists and maps nest deeper than 1,024 levels, or contain themselves',
   WRONG_VERSION: 'only a CID of DAG-PB with SHA2-256 has a version 0',
   CAR_READ_ONCE: 'the blocks of an iterator were asked for a second time',
+  MISSING_BLOCK: 'a block is missing',
   NO_TAPE: 'this build of the core has no tapes',
   INPUT: 'the input is not of the type that the call takes',
   NOT_STARTED: 'the core can\'t be started here; in a browser call `await init()` first',
@@ -115,7 +137,8 @@ const OTHERS = {
 
 /**
  * Represents an error of this package. `code` is its name. `offset` is the byte of the input at
- * which it occurred, or undefined.
+ * which it occurred, or undefined. `cid` is the CID of the block at which `readFile` stopped, or
+ * undefined.
  */
 export class KombiladError extends Error {
   constructor (code, message, offset) {
@@ -123,6 +146,7 @@ export class KombiladError extends Error {
     this.name = 'KombiladError'
     this.code = code
     this.offset = offset
+    this.cid = undefined
   }
 }
 

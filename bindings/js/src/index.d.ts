@@ -28,6 +28,8 @@ export type ErrorCode =
   | 'CAR_UNEXPECTED_END' | 'CAR_LENGTH_NOT_SHORTEST' | 'CAR_LENGTH_TOO_LARGE' | 'CAR_EMPTY' | 'CAR_TOO_LONG' | 'CAR_NOT_A_HEADER' | 'CAR_PAYLOAD' | 'CAR_SHORT_PAYLOAD' | 'CAR_READ_ONCE'
   | 'PB_END' | 'PB_VARINT_TOO_LARGE' | 'PB_UNKNOWN_FIELD' | 'PB_FIELD_ORDER' | 'PB_NO_HASH' | 'PB_UTF8'
   | 'JSON_UTF8' | 'JSON_SYNTAX' | 'JSON_END' | 'JSON_FLOAT' | 'JSON_INTEGER_RANGE' | 'JSON_DUPLICATE_KEY' | 'JSON_LINK' | 'JSON_BYTES' | 'JSON_RESERVED' | 'JSON_RESERVED_MAP'
+  | 'MISSING_BLOCK' | 'FILE_CODEC' | 'FILE_NO_DATA' | 'FILE_NOT_FILE' | 'FILE_SIZE_COUNT' | 'FILE_SIZE' | 'FILE_PART_SIZE' | 'FILE_TOO_LARGE' | 'FILE_TOO_MANY_BLOCKS' | 'FILE_TOO_DEEP' | 'FILE_TOO_MANY_PARTS'
+  | 'UNIXFS_END' | 'UNIXFS_VARINT_TOO_LARGE' | 'UNIXFS_UNKNOWN_FIELD' | 'UNIXFS_FIELD_ORDER' | 'UNIXFS_NO_TYPE' | 'UNIXFS_UNKNOWN_TYPE' | 'UNIXFS_MODE_TOO_LARGE' | 'UNIXFS_NO_SECONDS' | 'UNIXFS_NANOSECONDS'
   | 'ENCODE_UNSUPPORTED' | 'ENCODE_NUMBER' | 'ENCODE_STRING' | 'ENCODE_TOO_DEEP' | 'WRONG_VERSION' | 'INPUT' | 'NO_TAPE' | 'NOT_STARTED' | 'TRAP'
 
 /** Reports why a call failed. */
@@ -38,6 +40,8 @@ export class KombiladError extends Error {
    * is the position of the invalid character.
    */
   readonly offset?: number
+  /** The CID of the block at which `readFile` stopped. */
+  readonly cid?: CID
 }
 
 /** A multihash. */
@@ -243,6 +247,29 @@ export interface BlockIndex {
   /** The offset of the block. */
   blockOffset: number
 }
+
+/** The limits on a file. For Infinity there is no limit. */
+export interface FileLimits {
+  /** The maximum number of bytes. By default there is no limit. */
+  bytes?: number
+  /** The maximum number of blocks: 2^24 by default. A block that is linked twice counts twice. */
+  blocks?: number
+  /** The maximum number of blocks that wait while another is read: 2^18 by default. */
+  waiting?: number
+  /** The maximum number of levels of blocks below the root: 64 by default. */
+  levels?: number
+}
+
+/**
+ * Iterates over the bytes of a file of UnixFS (IPFS), in order. `get` returns the block of a CID, or
+ * undefined if it is missing, or a promise of these. Nobody has to trust it: each block is verified
+ * before it is read, and each size in a block is compared with the number of bytes.
+ *
+ * Throws a `KombiladError` with the `cid` of the block if it is missing (`MISSING_BLOCK`), is not
+ * that of its CID or not a part of the file, or exceeds a limit. All bytes before are those of the
+ * file. Each call has an instance of the core with its own memory.
+ */
+export function readFile(get: (cid: CID) => Bytes | null | undefined | Promise<Bytes | null | undefined>, cid: CID, limits?: FileLimits): AsyncGenerator<Uint8Array, void, void>
 
 /** Iterates over the positions of the blocks of a CAR, in their order. */
 export class CarIndexer implements AsyncIterable<BlockIndex> {

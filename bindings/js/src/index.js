@@ -7,6 +7,7 @@ export { canonicalize, check, countLinks, decode, isCanonical, linkPositions, li
 export { encode } from './writer.js'
 export { fromJSON, toJSON } from './json.js'
 export { dagPb } from './pb.js'
+export { readFile } from './file.js'
 export { CarBlockIterator, CarCIDIterator, CarIndexer, CarReader } from './car.js'
 export { KombiladError } from './errors.js'
 export { init, setMemoryLimit } from './core.js'

@@ -91,6 +91,22 @@ describe('the heap', { skip: process.env.HEAP === undefined && 'HEAP names no mo
     assert.ok(bytes().length > 0)
   })
 
+  test('reuses what is freed after a block that stays', () => {
+    const heap = start()
+    const kept = heap.malloc(1000)
+    heap.bytes().fill(7, kept, kept + 1000)
+    const before = heap.size()
+    for (let round = 0; round < 1000; round++) {
+      const made = [0, 1, 2].map(() => heap.malloc(MEBIBYTE / 4))
+      // In any order, and one after it has moved.
+      const moved = heap.realloc(made[round % 2], MEBIBYTE / 2)
+      for (const at of [made[2], moved, made[1 - round % 2]]) heap.free(at)
+    }
+    assert.ok(heap.size() <= before + 4 * MEBIBYTE)
+    assert.ok(heap.bytes().subarray(kept, kept + 1000).every((byte) => byte === 7))
+    assert.equal(heap.kombilad_wasm_live(), 1)
+  })
+
   test('does not exceed its bound, and returns 0 instead', () => {
     const heap = start()
     heap.kombilad_wasm_bound(8 * MEBIBYTE)

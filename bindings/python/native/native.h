@@ -149,6 +149,9 @@ PyObject *open_part(PyObject *module, PyObject *arguments);
 PyObject *next_part(PyObject *module, PyObject *arguments);
 PyObject *verify(PyObject *module, PyObject *arguments);
 PyObject *decode_car(PyObject *module, PyObject *arguments);
+PyObject *file_new(PyObject *module, PyObject *arguments);
+PyObject *file_take(PyObject *module, PyObject *arguments);
+PyObject *file_wanted(PyObject *module, PyObject *capsule);
 
 /* Returns the canonical block of a value. */
 PyObject *encode(PyObject *module, PyObject *arguments);

@@ -1,6 +1,6 @@
 -- The part of a CAR before its sections, of which some bytes are at hand.
 use Rattle.std.proofs.Common.{◌≡◌, ℕ, ◌-◌, ◌<◌, ◌≤◌, ◌^◌, min, List, [], ◌∷◌, ◌++◌, length, drop, Option, Some, None, inl, inr, refl, sym, ap, subst, ◌∙◌, arith, append_assoc, append-nil, length-append}
-use Rattle.std.specs.Prelude.{◌⊎◌, unwrap_or}
+use Rattle.std.specs.Prelude.{unwrap_or}
 use Rattle.ipld_cid.specs.Cid.{Link}
 use Rattle.std.proofs.Math.Seq.{drop-append_seam}
 use Rattle.ipld_car.specs.declared.error.CarError.{CarError}
@@ -13,7 +13,7 @@ use Rattle.ipld_car.specs.declared.version.CarVersion.TheVariants.{V1, V2}
 use Rattle.ipld_car.specs.Opening.{IsFront, Opens, HeaderFault, PayloadFault, in_header, in_version2, in_payload}
 use Rattle.ipld_car.specs.Position.{FaultOf, stated_end}
 use Rattle.ipld_car.specs.Taking.{Ends}
-use Rattle.ipld_car.specs.Version2.{pragma, start_in, IsBeforePayload, Version2Fault}
+use Rattle.ipld_car.specs.Version2.{pragma, IsBeforePayload, EndsBeforePayload, Version2Fault}
 use Rattle.kombilad_c.proofs.CarParts.{IsShort}
 use Rattle.kombilad_c.specs.CarPart as part
 use Rattle.kombilad_c.specs.declared.car_place.CarPlace.{CarPlace}
@@ -80,8 +80,8 @@ before_long before size is =
 pub fault_further : (limit : ℕ) (car more : List ℕ) (error : CarError) → (IsShort error.kind → ⊥) → (IsEnd error.kind → 51 ≤ error.section)
     → FaultOf limit (Some car) error → FaultOf limit (Some (car ++ more)) error
 fault_further limit car more error short end (None, in_header taken consumed fails no_pragma) = absurd consumed
-fault_further limit car more error short end (None, in_version2 got consumed fails) = absurd consumed
-fault_further limit car more error short end (None, in_payload before taken size is consumed fails) = absurd consumed
+fault_further limit car more error short end (None, in_version2 got limited consumed fails) = absurd consumed
+fault_further limit car more error short end (None, in_payload before taken size limited is within consumed fails) = absurd consumed
 fault_further limit car more error short end (Some left, in_header taken consumed fails no_pragma) = (
   Some (left ++ more),
   in_header taken (further car more taken left consumed) (fails_by 0 (HeaderFault limit (2 ^ 64 - 1) (Some car) (Some left) taken)
@@ -89,15 +89,15 @@ fault_further limit car more error short end (Some left, in_header taken consume
       (λ place f. header_further limit (2 ^ 64 - 1) (Some car) (Some left) (Some (car ++ more)) (Some (left ++ more)) taken error.kind place
       (λ is. let far = end is in let s = fails.section in absurd (omega arith)) f) fails) no_pragma,
 )
-fault_further limit car more error short end (Some left, in_version2 got consumed fails) = (
+fault_further limit car more error short end (Some left, in_version2 got limited consumed fails) = (
   Some (left ++ more),
-  in_version2 got (further car more (pragma ++ got) left consumed) (fails_by 11 (Version2Fault (Some car) (Some left) got) (Version2Fault (Some (car ++ more)) (Some (left ++ more)) got) error
+  in_version2 got limited (further car more (pragma ++ got) left consumed) (fails_by 11 (Version2Fault (Some car) (Some left) got) (Version2Fault (Some (car ++ more)) (Some (left ++ more)) got) error
       (λ place f. version2_further (Some car) (Some left) (Some (car ++ more)) (Some (left ++ more)) got error.kind place
       (λ is. let far = end is in let s = fails.section in absurd (omega arith)) f) fails),
 )
-fault_further limit car more error short end (Some left, in_payload before taken size is consumed fails) = (
+fault_further limit car more error short end (Some left, in_payload before taken size limited is within consumed fails) = (
   Some (left ++ more),
-  in_payload before taken size is (further car more (before ++ taken) left consumed) (fails_by (length before) (PayloadFault limit size (Some car) (Some left) taken)
+  in_payload before taken size limited is within (further car more (before ++ taken) left consumed) (fails_by (length before) (PayloadFault limit size (Some car) (Some left) taken)
       (PayloadFault limit size (Some (car ++ more)) (Some (left ++ more)) taken) error
       (λ place f. payload_further limit size (Some car) (Some left) (Some (car ++ more)) (Some (left ++ more)) taken error.kind place short f) fails),
 )
@@ -132,31 +132,31 @@ header_needs limit car taken left _ place n few is e f needs = absurd is
 pub needs_in_header : (limit : ℕ) (car : List ℕ) (error : CarError) (n : ℕ) → length car < 2 ^ 64 - 1 → IsEnd error.kind → error.section ≡ 0 → FaultOf limit (Some car) error
     → ((l : ℕ) → IsCut l car → length car < 2 ^ 64 - 1 → NeedsMore l (2 ^ 64 - 1) car n) → NeedsFront limit car n
 needs_in_header limit car error n few end none (None, in_header taken consumed fails no_pragma) needs = absurd consumed
-needs_in_header limit car error n few end none (None, in_version2 got consumed fails) needs = absurd consumed
-needs_in_header limit car error n few end none (None, in_payload before taken size is consumed fails) needs = absurd consumed
+needs_in_header limit car error n few end none (None, in_version2 got limited consumed fails) needs = absurd consumed
+needs_in_header limit car error n few end none (None, in_payload before taken size limited is within consumed fails) needs = absurd consumed
 needs_in_header limit car error n few end none (Some left, in_header taken consumed fails no_pragma) needs =
     header_needs limit car taken left error.kind fails.place n few end consumed fails.why (needs limit)
-needs_in_header limit car error n few end none (Some left, in_version2 got consumed fails) needs = let s = fails.section in absurd (omega arith)
-needs_in_header limit car error n few end none (Some left, in_payload before taken size is consumed fails) needs =
+needs_in_header limit car error n few end none (Some left, in_version2 got limited consumed fails) needs = let s = fails.section in absurd (omega arith)
+needs_in_header limit car error n few end none (Some left, in_payload before taken size limited is within consumed fails) needs =
     let s = fails.section in let l = before_long before size is in absurd (omega arith)
 
 version2_needs : (limit : ℕ) (car got left : List ℕ) (kind : CarErrorKind) (place n : ℕ) → IsEnd kind → car ≡ (pragma ++ got) ++ left
     → Version2Fault (Some car) (Some left) got kind place
-    → ((gotten : List ℕ) → car ≡ pragma ++ gotten → (length gotten < 40) ⊎ (length gotten < start_in gotten - 11) → NeedsPayload gotten n)
+    → ((gotten : List ℕ) → car ≡ pragma ++ gotten → EndsBeforePayload gotten → NeedsPayload gotten n)
     → NeedsFront limit car n
 version2_needs limit car got left UnexpectedEnd place n is e f needs =
     let all = all_taken car (pragma ++ got) left e f.1 in part.in_version2 got all (needs got all f.2)
 version2_needs limit car got left _ place n is e f needs = absurd is
 
 pub needs_in_version2 : (limit : ℕ) (car : List ℕ) (error : CarError) (n : ℕ) → IsEnd error.kind → (error.section ≡ 0 → ⊥) → error.section < 51 → FaultOf limit (Some car) error
-    → ((got : List ℕ) → car ≡ pragma ++ got → (length got < 40) ⊎ (length got < start_in got - 11) → NeedsPayload got n) → NeedsFront limit car n
+    → ((got : List ℕ) → car ≡ pragma ++ got → EndsBeforePayload got → NeedsPayload got n) → NeedsFront limit car n
 needs_in_version2 limit car error n end some few (None, in_header taken consumed fails no_pragma) needs = absurd consumed
-needs_in_version2 limit car error n end some few (None, in_version2 got consumed fails) needs = absurd consumed
-needs_in_version2 limit car error n end some few (None, in_payload before taken size is consumed fails) needs = absurd consumed
+needs_in_version2 limit car error n end some few (None, in_version2 got limited consumed fails) needs = absurd consumed
+needs_in_version2 limit car error n end some few (None, in_payload before taken size limited is within consumed fails) needs = absurd consumed
 needs_in_version2 limit car error n end some few (Some left, in_header taken consumed fails no_pragma) needs = absurd (some fails.section)
-needs_in_version2 limit car error n end some few (Some left, in_version2 got consumed fails) needs =
+needs_in_version2 limit car error n end some few (Some left, in_version2 got limited consumed fails) needs =
     version2_needs limit car got left error.kind fails.place n end consumed fails.why needs
-needs_in_version2 limit car error n end some few (Some left, in_payload before taken size is consumed fails) needs =
+needs_in_version2 limit car error n end some few (Some left, in_payload before taken size limited is within consumed fails) needs =
     let s = fails.section in let l = before_long before size is in absurd (omega arith)
 
 payload_needs : (limit : ℕ) (car before taken left : List ℕ) (size start section n place : ℕ) (kind : CarErrorKind) (expected found : ℕ) → IsBeforePayload before size
@@ -177,13 +177,13 @@ pub needs_in_payload : (limit : ℕ) (car : List ℕ) (error : CarError) (start 
     → FaultOf limit (Some car) error
     → ((l : ℕ) → IsCut l (drop start car) → length (drop start car) < expected → NeedsMore l expected (drop start car) n) → NeedsFront limit car n
 needs_in_payload limit car error start n expected found same at (None, in_header taken consumed fails no_pragma) needs = absurd consumed
-needs_in_payload limit car error start n expected found same at (None, in_version2 got consumed fails) needs = absurd consumed
-needs_in_payload limit car error start n expected found same at (None, in_payload before taken size is consumed fails) needs = absurd consumed
+needs_in_payload limit car error start n expected found same at (None, in_version2 got limited consumed fails) needs = absurd consumed
+needs_in_payload limit car error start n expected found same at (None, in_payload before taken size limited is within consumed fails) needs = absurd consumed
 needs_in_payload limit car error start n expected found same at (Some left, in_header taken consumed fails no_pragma) needs =
     absurd (subst (λ k. HeaderFault limit (2 ^ 64 - 1) (Some car) (Some left) taken k fails.place) same fails.why).0
-needs_in_payload limit car error start n expected found same at (Some left, in_version2 got consumed fails) needs =
+needs_in_payload limit car error start n expected found same at (Some left, in_version2 got limited consumed fails) needs =
     absurd (subst (λ k. Version2Fault (Some car) (Some left) got k fails.place) same fails.why)
-needs_in_payload limit car error start n expected found same at (Some left, in_payload before taken size is consumed fails) needs =
+needs_in_payload limit car error start n expected found same at (Some left, in_payload before taken size limited is within consumed fails) needs =
     payload_needs limit car before taken left size start error.section n fails.place error.kind expected found is consumed fails.section at same fails.why needs
 
 -- ---- the whole CAR

@@ -7,3 +7,5 @@ pub mod PbTapes
 pub mod CarLengths
 pub mod CarParts
 pub mod CarFronts
+pub mod FilePlaces
+pub mod Files

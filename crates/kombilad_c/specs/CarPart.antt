@@ -15,7 +15,7 @@ use Rattle.ipld_car.specs.Opening.{Opens}
 use Rattle.ipld_car.specs.Position.{FaultOf}
 use Rattle.ipld_car.specs.Reading.{HasNoCid}
 use Rattle.ipld_car.specs.Section.{Block, content_of}
-use Rattle.ipld_car.specs.Version2.{pragma, start_in, IsBeforePayload}
+use Rattle.ipld_car.specs.Version2.{pragma, start_in, IsBeforePayload, HasNoPayload}
 use Rattle.kombilad_c.specs.declared.car_place.CarPlace.{CarPlace}
 use Rattle.kombilad_c.specs.declared.cid_record.CidBytes.{CidBytes}
 use Rattle.kombilad_c.specs.declared.positions.Span.{Span}
@@ -109,11 +109,12 @@ NeedsMore limit room bytes n =
     (length bytes < room) × (1 ≤ n) × ((BeginsVarint bytes × (n ≡ 1)) ⊎ IsShortBy limit room bytes n)
 
 -- True if `got` are too few bytes of what comes after the pragma of version 2 and before the
--- payload, and `n` more are the rest of its header or of the padding.
+-- payload, and `n` more are the rest of its header or, if the header places the payload, of the
+-- padding.
 abbrev pub NeedsPayload : (got : List ℕ) → (n : ℕ) → Type 0
 NeedsPayload got n =
     (1 ≤ n) × (((length got < 40) × (length got + n ≡ 40))
-    ⊎ ((40 ≤ length got) × (11 + length got + n ≡ start_in got)))
+    ⊎ ((40 ≤ length got) × (HasNoPayload got → ⊥) × (11 + length got + n ≡ start_in got)))
 
 -- True if the bytes are too few for the part of a CAR before its sections, and it needs at least
 -- `n` more: for the header of version 1 or the pragma, for what comes after the pragma, or for the

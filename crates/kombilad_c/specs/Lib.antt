@@ -1,5 +1,7 @@
 pub mod Status
 pub mod Fill
+pub mod FileHandle
+pub mod File
 pub mod CidRecord
 pub mod Cid
 pub mod Block

@@ -8,8 +8,9 @@ use Rattle.dag_cbor_tape.specs.Canonical.{Orders}
 use Rattle.dag_cbor_tape.specs.Describes.{Describes}
 use Rattle.dag_json.specs.Encodes.{EncodesWithinIn}
 use Rattle.dag_json.specs.Offset.{SaysWhere}
+use Rattle.dag_json.specs.ReadContract.{ReadsBytes}
 use Rattle.dag_json.specs.Tape.{IsTape}
-use Rattle.dag_json.specs.TapeReading.{ReadsTape}
+use Rattle.dag_json.specs.TapeReading.{IsTooLong}
 use Rattle.dag_json.specs.declared.read_error.ReadError.{ReadError}
 use Rattle.kombilad_c.specs.Fill.{Variable, Fills, IsUntouched}
 use Rattle.kombilad_c.specs.Status.{json_status}
@@ -32,22 +33,34 @@ pub record IsBlockOf (t : Tree) (block : List ℕ) : Type 0 where
 -- any byte up to the end.
 pub record IsUnread (limits : Limits) (text : List ℕ) (status offset : ℕ) : Type 0 where
   pub error : ReadError
-  pub reads : ReadsTape limits text (Err error)
+  pub reads : ReadsBytes true limits text (Err error)
   pub stops : SaysWhere true limits text error
   pub failed : status ≡ json_status error.kind
   pub place : offset ≡ error.offset
 
+-- True if the tape of the tree that the text encodes, within the limits, has an entry with a length
+-- of 2^32 or more. The status is 8, and the offset is as before.
+abbrev pub HasLongTape : Limits → List ℕ → (status : ℕ) → (offset : Variable ℕ) → Type 0
+HasLongTape limits text status offset =
+    (t : Tree) × EncodesWithinIn true limits t text × IsTooLong t × (status ≡ 8)
+    × (offset.after ≡ offset.before)
+
 -- True if the canonical block of the tree that the text encodes, within the limits, goes to the
--- buffer. Or reading the text stopped, and only the offset is written.
+-- buffer. Or an entry of the tree is too long, and nothing is written. Or reading the text stopped,
+-- and only the offset is written.
 abbrev pub ReadsJson :
     Limits → List ℕ → (status : ℕ) → Variable (List ℕ) → (needed offset : Variable ℕ) → Type 0
 ReadsJson limits text status buffer needed offset =
     ((t : Tree) × EncodesWithinIn true limits t text × (block : List ℕ) × IsBlockOf t block
     × Fills block status buffer.before buffer.after needed.after × (offset.after ≡ offset.before))
+    ⊎ (HasLongTape limits text status offset
+    × IsUntouched buffer.before buffer.after needed.before needed.after)
     ⊎ (IsUnread limits text status offset.after
     × IsUntouched buffer.before buffer.after needed.before needed.after)
 
--- True if the canonical block of the tree goes to the buffer, or an allocation failed.
+-- True if the canonical block of the tree goes to the buffer, or an entry of the tree is too long,
+-- or an allocation failed.
 abbrev pub WritesTree : Tree → (status : ℕ) → (before after : List ℕ) → (needed : ℕ) → Type 0
 WritesTree t status before after needed =
-    ((block : List ℕ) × IsBlockOf t block × Fills block status before after needed) ⊎ (status ≡ 1)
+    ((block : List ℕ) × IsBlockOf t block × Fills block status before after needed)
+    ⊎ (IsTooLong t × (status ≡ 8)) ⊎ (status ≡ 1)

@@ -18,6 +18,12 @@ use Rattle.dag_pb.specs.declared.error.PbErrorKind.{PbErrorKind}
 use Rattle.dag_pb.specs.declared.error.PbErrorKind.TheVariants as pb
 use Rattle.ipld_car.specs.declared.error.CarErrorKind.{CarErrorKind}
 use Rattle.ipld_car.specs.declared.error.CarErrorKind.TheVariants as car
+use Rattle.unixfs.specs.declared.error.UnixFsErrorKind.{UnixFsErrorKind}
+use Rattle.unixfs.specs.declared.error.UnixFsErrorKind.TheVariants as message
+use Rattle.unixfs.specs.declared.node.NodeError.{NodeError}
+use Rattle.unixfs.specs.declared.node.NodeError.TheVariants as node
+use Rattle.unixfs_files.specs.declared.error.PartError.{PartError}
+use Rattle.unixfs_files.specs.declared.error.PartError.TheVariants as file
 
 -- The status of an error of bytes that are not a CID, named in `bindings/c/kombilad.h`. No export
 -- returns 15.
@@ -142,3 +148,49 @@ json_status json.Link = 166
 json_status json.Bytes = 167
 json_status json.Reserved = 168
 json_status json.NotCanonical = 15
+
+-- The status of an error of data that are not a message of UnixFS, named in `bindings/c/kombilad.h`.
+abbrev pub message_status : UnixFsErrorKind → ℕ
+message_status message.Memory = 1
+message_status message.End = 208
+message_status message.VarintTooLarge = 209
+message_status (message.UnknownField key) = 210
+message_status message.FieldOrder = 211
+message_status message.NoType = 212
+message_status (message.UnknownType code) = 213
+message_status (message.ModeTooLarge mode) = 214
+message_status message.NoSeconds = 215
+message_status (message.Nanoseconds count) = 216
+
+-- The status of an error of a block that is not a node of UnixFS, named in `bindings/c/kombilad.h`.
+abbrev pub node_status : NodeError → ℕ
+node_status (node.Block error) = pb_status error.kind
+node_status node.NoData = 195
+node_status (node.Message error) = message_status error.kind
+
+-- The status of an error of a block that a walk does not take, named in `bindings/c/kombilad.h`.
+abbrev pub file_status : PartError → ℕ
+file_status file.Memory = 1
+file_status (file.Verify error) = verify_status error
+file_status (file.Codec code) = 194
+file_status (file.Node error) = node_status error
+file_status (file.NotFile data_type) = 196
+file_status file.SizeCount = 197
+file_status file.FileSize = 198
+file_status file.PartSize = 199
+file_status file.TooLarge = 200
+file_status file.TooManyBlocks = 201
+file_status file.TooDeep = 202
+file_status file.TooManyParts = 203
+file_status file.Finished = 192
+
+-- The byte of an error of a block that is not a node of UnixFS: of the block, or of the node's data.
+abbrev pub node_place : NodeError → ℕ
+node_place (node.Block error) = error.offset
+node_place node.NoData = 0
+node_place (node.Message error) = error.offset
+
+-- The byte of an error of a block that a walk does not take.
+abbrev pub file_place : PartError → ℕ
+file_place (file.Node error) = node_place error
+file_place error = 0

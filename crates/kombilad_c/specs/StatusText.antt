@@ -129,6 +129,37 @@ json_sentence n =
 abbrev pub part_sentence : ℕ → Option (List ℕ)
 part_sentence n = if n == 0 then Some (codes "more bytes of the CAR are needed") else None
 
+-- The sentences of the statuses from 192 on: a block that a walk over a file does not take
+abbrev pub file_sentence : ℕ → Option (List ℕ)
+file_sentence n =
+    if n == 0 then Some (codes "all blocks of the file were taken")
+    else if n == 1 then Some (codes "the walk over a file is not open")
+    else if n == 2 then Some (codes "the codec of the CID is neither raw nor dag-pb")
+    else if n == 3 then Some (codes "the node has no data")
+    else if n == 4 then Some (codes "the node is a folder, a symbolic link or metadata, not a file")
+    else if n == 5 then Some (codes "the number of sizes in the node is not that of its links")
+    else if n == 6 then Some (codes "the size in the node is not that of its bytes and its links")
+    else if n == 7 then Some (codes "the block has another size than the block above it states")
+    else if n == 8 then Some (codes "the file has more bytes than the limit")
+    else if n == 9 then Some (codes "the file has more blocks than the limit")
+    else if n == 10 then Some (codes "the blocks of the file nest deeper than the limit")
+    else if n == 11 then Some (codes "more blocks of the file wait to be read than the limit")
+    else None
+
+-- The sentences of the statuses from 208 on: data that are not a message of UnixFS
+abbrev pub message_sentence : ℕ → Option (List ℕ)
+message_sentence n =
+    if n == 0 then Some (codes "the data of the node end within a field")
+    else if n == 1 then Some (codes "a varint in the data of the node has more than ten bytes, or is 2^64 or more")
+    else if n == 2 then Some (codes "a field in the data of the node is unknown")
+    else if n == 3 then Some (codes "a field in the data of the node is repeated or out of order")
+    else if n == 4 then Some (codes "the data of the node do not begin with a type")
+    else if n == 5 then Some (codes "the type of the node is unknown")
+    else if n == 6 then Some (codes "the mode of the node has more than 32 bits")
+    else if n == 7 then Some (codes "the time of the node does not begin with its seconds")
+    else if n == 8 then Some (codes "the nanoseconds of the node's time are not from 1 to 999999999")
+    else None
+
 -- The sentence of the number `n` in a family, if it has one
 abbrev pub sentence_in : ℕ → ℕ → Option (List ℕ)
 sentence_in family n =
@@ -143,6 +174,8 @@ sentence_in family n =
     else if family == 9 then pb_sentence n
     else if family == 10 then json_sentence n
     else if family == 11 then part_sentence n
+    else if family == 12 then file_sentence n
+    else if family == 13 then message_sentence n
     else None
 
 -- The sentence of a status, in ASCII and without a full stop.

@@ -1,12 +1,12 @@
 //! The part before the sections, of a CAR of which a part is at hand.
 
-ghost use Rattle.std.specs.Prelude.{◌≡◌, ◌⊎◌, ◌≤◌, ◌<◌, ◌-◌, ◌^◌, ◌++◌, List, ℕ, Some, length, map, MatchOption, IfSome};
+ghost use Rattle.std.specs.Prelude.{◌≡◌, ◌≤◌, ◌<◌, ◌^◌, ◌++◌, List, ℕ, Some, length, map, MatchOption, IfSome};
 ghost use Rattle.ipld_cid.specs.Cid.{Link};
 ghost use Rattle.ipld_cid.specs.LinkOf.{link_of};
 ghost use Rattle.ipld_car.specs.Opening.{IsFront};
 ghost use Rattle.ipld_car.specs.Position.{FaultOf};
 ghost use Rattle.ipld_car.specs.Taking.{IsReaderError};
-ghost use Rattle.ipld_car.specs.Version2.{pragma, start_in};
+ghost use Rattle.ipld_car.specs.Version2.{pragma, EndsBeforePayload};
 ghost use Rattle.ipld_car.specs.declared.version.CarVersion as versions;
 ghost use Rattle.kombilad_c.specs.Car.{version_number};
 ghost use Rattle.kombilad_c.specs.CidRecord.{record_of};
@@ -49,7 +49,7 @@ fn fill_roots(cids: &[Cid], buffer: &mut [CidBytes], needed: &mut usize) -> u32
 // Returns how many more bytes the header of version 2 or its padding needs.
 fn missing_before_payload(car: &[u8]) -> u64
     ensures { (got : List ℕ) → car.now ≡ pragma ++ got
-        → (length got < 40) ⊎ (length got < start_in got - 11) → NeedsPayload got result }
+        → EndsBeforePayload got → NeedsPayload got result }
 {
     if car.len() < HEADER_END {
         return (HEADER_END - car.len()) as u64;

@@ -7,6 +7,7 @@
 #![tactic(auto)]
 
 mod base32;
+mod box_parts;
 mod car_next_part;
 mod car_open_part;
 mod car_place;
@@ -14,6 +15,8 @@ mod cid;
 mod cid_record;
 mod digest;
 mod encode;
+mod file;
+mod file_handle;
 mod fill;
 mod links;
 mod naming;

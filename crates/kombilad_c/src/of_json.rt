@@ -6,9 +6,9 @@ ghost use Rattle.dag_json.specs.Encodes.{EncodesWithinIn};
 ghost use Rattle.kombilad_c.specs.OfJson.{ReadsJson, WritesTree};
 
 use crate::fill::fill;
-use crate::status::{MEMORY, json_status};
+use crate::status::{MEMORY, TOO_LONG, json_status};
 use dag_cbor_tape::encode_tape;
-use dag_json::tape_from_slice;
+use dag_json::{JsonTapeError, tape_from_slice};
 use ipld_tree::Limits;
 use std::alloc::Global;
 
@@ -39,9 +39,10 @@ pub extern "C" fn kombilad_block_of_json(
                 MEMORY
             }
         },
-        Err(error) => {
+        Err(JsonTapeError::Text(error)) => {
             *offset = error.offset;
             json_status(error.kind)
         }
+        Err(JsonTapeError::TooLong) => TOO_LONG,
     }
 }

@@ -12,6 +12,8 @@ use ipld_block::VerifyError;
 use ipld_car::CarErrorKind;
 use ipld_cid::CidError;
 use ipld_cid_text::TextError;
+use unixfs::{NodeError, UnixFsErrorKind};
+use unixfs_files::PartError;
 
 /// The call succeeded.
 pub(crate) const OK: u32 = 0;
@@ -38,6 +40,10 @@ pub(crate) const JSON_RESERVED_MAP: u32 = 169;
 
 /// More bytes of a CAR are needed.
 pub(crate) const CAR_MORE: u32 = 176;
+/// A walk has taken all blocks of its file.
+pub(crate) const FILE_DONE: u32 = 192;
+/// A handle has no walk.
+pub(crate) const FILE_CLOSED: u32 = 193;
 
 /// Returns the number of the reason why bytes are not a CID.
 pub(crate) fn cid_status(error: CidError) -> u32
@@ -213,4 +219,79 @@ pub(crate) fn json_status(kind: ReadErrorKind) -> u32
         ReadErrorKind::Reserved => 168,
         ReadErrorKind::NotCanonical => OTHER,
     }
+}
+
+// Returns the number of the reason why the data of a node are not a message of UnixFS.
+fn message_status(kind: UnixFsErrorKind) -> u32
+    ensures { result ≡ numbers.message_status kind }
+{
+    match kind {
+        UnixFsErrorKind::Memory => MEMORY,
+        UnixFsErrorKind::End => 208,
+        UnixFsErrorKind::VarintTooLarge => 209,
+        UnixFsErrorKind::UnknownField(_) => 210,
+        UnixFsErrorKind::FieldOrder => 211,
+        UnixFsErrorKind::NoType => 212,
+        UnixFsErrorKind::UnknownType(_) => 213,
+        UnixFsErrorKind::ModeTooLarge(_) => 214,
+        UnixFsErrorKind::NoSeconds => 215,
+        UnixFsErrorKind::Nanoseconds(_) => 216,
+    }
+}
+
+// Returns the number of the reason why a block is not a node of UnixFS.
+fn node_status(error: NodeError) -> u32
+    ensures { result ≡ numbers.node_status error }
+{
+    match error {
+        NodeError::Block(error) => pb_status(error.kind),
+        NodeError::NoData => 195,
+        NodeError::Message(error) => message_status(error.kind),
+    }
+}
+
+// Returns the number of the reason why a walk doesn't take a block.
+fn file_status(error: PartError) -> u32
+    ensures { result ≡ numbers.file_status error }
+{
+    match error {
+        PartError::Memory => MEMORY,
+        PartError::Verify(error) => verify_status(error),
+        PartError::Codec(_) => 194,
+        PartError::Node(error) => node_status(error),
+        PartError::NotFile(_) => 196,
+        PartError::SizeCount => 197,
+        PartError::FileSize => 198,
+        PartError::PartSize => 199,
+        PartError::TooLarge => 200,
+        PartError::TooManyBlocks => 201,
+        PartError::TooDeep => 202,
+        PartError::TooManyParts => 203,
+        PartError::Finished => FILE_DONE,
+    }
+}
+
+// Returns the byte at which a block is not a node of UnixFS: a byte of the block, or of the data of
+// the node.
+fn node_place(error: NodeError) -> usize
+    ensures { result ≡ numbers.node_place error }
+{
+    match error {
+        NodeError::Block(error) => error.offset,
+        NodeError::NoData => 0,
+        NodeError::Message(error) => error.offset,
+    }
+}
+
+/// Returns the number of the reason why a walk doesn't take a block, and writes the offset of the
+/// error, which is 0 unless the block is not a node.
+pub(crate) fn stop_file(error: PartError, offset: &mut usize) -> u32
+    ensures status { result ≡ numbers.file_status error }
+    ensures place { offset.new ≡ numbers.file_place error }
+{
+    *offset = match error {
+        PartError::Node(error) => node_place(error),
+        _ => 0,
+    };
+    file_status(error)
 }

@@ -2,7 +2,8 @@
 
 ghost use Rattle.std.specs.Prelude.{◌≡◌, option_map};
 ghost use Rattle.kombilad_c.specs.Fill.{Fills};
-ghost use Rattle.kombilad_c.specs.StatusText.{any_sentence, cid_sentence, text_sentence, block_sentence, link_sentence, car_sentence, digest_sentence, tape_sentence, pb_sentence, json_sentence, part_sentence, status_sentence};
+ghost use Rattle.kombilad_c.specs.StatusText as sentences;
+ghost use Rattle.kombilad_c.specs.StatusText.{any_sentence, cid_sentence, text_sentence, block_sentence, link_sentence, car_sentence, digest_sentence, tape_sentence, pb_sentence, json_sentence, part_sentence, file_sentence, message_sentence, status_sentence};
 
 use crate::fill::fill;
 
@@ -193,12 +194,52 @@ fn part_text(number: u32) -> Option<&'static str>
     }
 }
 
-// Returns the sentence of a status, without a full stop. It is ASCII.
-fn sentence(status: u32) -> &'static str
-    ensures { result.now ≡ status_sentence status }
+// Returns why a walk doesn't take a block of a file, by the status minus 192.
+fn file_text(number: u32) -> Option<&'static str>
+    ensures { option_map (λ text. text.now) result ≡ file_sentence number }
 {
-    let number = status % 16;
-    let found = match status / 16 {
+    let text = match number {
+        0 => "all blocks of the file were taken",
+        1 => "the walk over a file is not open",
+        2 => "the codec of the CID is neither raw nor dag-pb",
+        3 => "the node has no data",
+        4 => "the node is a folder, a symbolic link or metadata, not a file",
+        5 => "the number of sizes in the node is not that of its links",
+        6 => "the size in the node is not that of its bytes and its links",
+        7 => "the block has another size than the block above it states",
+        8 => "the file has more bytes than the limit",
+        9 => "the file has more blocks than the limit",
+        10 => "the blocks of the file nest deeper than the limit",
+        11 => "more blocks of the file wait to be read than the limit",
+        _ => return None,
+    };
+    Some(text)
+}
+
+// Returns why the data of a node are not a message of UnixFS, by the status minus 208.
+fn message_text(number: u32) -> Option<&'static str>
+    ensures { option_map (λ text. text.now) result ≡ message_sentence number }
+{
+    let text = match number {
+        0 => "the data of the node end within a field",
+        1 => "a varint in the data of the node has more than ten bytes, or is 2^64 or more",
+        2 => "a field in the data of the node is unknown",
+        3 => "a field in the data of the node is repeated or out of order",
+        4 => "the data of the node do not begin with a type",
+        5 => "the type of the node is unknown",
+        6 => "the mode of the node has more than 32 bits",
+        7 => "the time of the node does not begin with its seconds",
+        8 => "the nanoseconds of the node's time are not from 1 to 999999999",
+        _ => return None,
+    };
+    Some(text)
+}
+
+// Returns the sentence of a number in a family, if it has one.
+fn sentence_in(family: u32, number: u32) -> Option<&'static str>
+    ensures { option_map (λ text. text.now) result ≡ sentences.sentence_in family number }
+{
+    match family {
         0 => any_text(number),
         1 => cid_text(number),
         2 => text_text(number),
@@ -210,9 +251,20 @@ fn sentence(status: u32) -> &'static str
         9 => pb_text(number),
         10 => json_text(number),
         11 => part_text(number),
+        12 => file_text(number),
+        13 => message_text(number),
         _ => None,
-    };
-    found.unwrap_or(OTHER)
+    }
+}
+
+// Returns the sentence of a status, without a full stop. It is ASCII.
+fn sentence(status: u32) -> &'static str
+    ensures { result.now ≡ status_sentence status }
+{
+    match sentence_in(status / 16, status % 16) {
+        Some(text) => text,
+        None => OTHER,
+    }
 }
 
 /// Writes the sentence of a status.

@@ -82,6 +82,15 @@ impl Rejection for dag_json::ReadError {
     }
 }
 
+impl Rejection for dag_json::JsonTapeError {
+    fn is_out_of_memory(&self) -> bool {
+        match self {
+            dag_json::JsonTapeError::Text(error) => error.is_out_of_memory(),
+            dag_json::JsonTapeError::TooLong => false,
+        }
+    }
+}
+
 impl Rejection for CidError {
     fn is_out_of_memory(&self) -> bool {
         *self == CidError::Memory

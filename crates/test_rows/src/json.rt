@@ -3,7 +3,8 @@
 use crate::parts::limited;
 use crate::tree_words;
 use dag_json::{
-    ReadError, floats, from_canonical, from_slice, from_str, tape_from_slice, to_string, to_vec,
+    JsonTapeError, ReadError, floats, from_canonical, from_slice, from_str, tape_from_slice,
+    to_string, to_vec,
 };
 use ipld_tree::{Ipld, Limits};
 use std::alloc::{AllocError, Global};
@@ -89,7 +90,8 @@ pub fn read_floats(alloc: Global, row: &str) -> Result<String, AllocError> {
     };
     let tape = match tape_from_slice(alloc, text.as_slice(), &limits) {
         Ok(_) => Ok(()),
-        Err(error) => Err(error),
+        Err(JsonTapeError::Text(error)) => Err(error),
+        Err(JsonTapeError::TooLong) => return String::from_str(alloc, "too long for a tape"),
     };
     if tree != tape {
         return String::from_str(alloc, "another outcome as a tape");

@@ -1,4 +1,4 @@
-import { CID, CarBlockIterator, CarIndexedReader, CarIndexer, CarReader, KombiladError, check, code, countLinks, decode, encode, fromJSON, isCanonical, linkPositions, links, name, setMemoryLimit, sha256, tape, toJSON, verify, dagCbor, dagPb } from 'kombilad'
+import { CID, CarBlockIterator, CarIndexedReader, CarIndexer, CarReader, KombiladError, check, code, countLinks, decode, encode, fromJSON, isCanonical, linkPositions, links, name, readFile, setMemoryLimit, sha256, tape, toJSON, verify, dagCbor, dagPb } from 'kombilad'
 
 const cid: CID = CID.parse('bafkqaaa')
 const version: 0 | 1 = cid.version
@@ -41,6 +41,16 @@ export function offset (bytes: Uint8Array): number | undefined {
 }
 
 export function names (bytes: Uint8Array): string[] { return dagPb.decode(bytes).Links.map(({ Hash, Name }) => Name ?? String(Hash)) }
+
+export async function size (get: (cid: CID) => Promise<Uint8Array | undefined>): Promise<number> {
+  let size = 0
+  try {
+    for await (const piece of readFile(get, cid, { bytes: 1e9 })) size += piece.length
+  } catch (error) {
+    if (error instanceof KombiladError && error.code === 'MISSING_BLOCK') throw new Error(String(error.cid))
+  }
+  return size
+}
 
 export function rejected (): void {
   // @ts-expect-error: this is not the name of a base

@@ -1,5 +1,5 @@
-"""Content identifiers (CIDs), blocks of DAG-CBOR and DAG-PB, their DAG-JSON, and CAR files, read by
-proved code: the library `libkombilad`.
+"""Content identifiers (CIDs), blocks of DAG-CBOR and DAG-PB, their DAG-JSON, CAR files, and files of
+UnixFS, read by proved code: the library `libkombilad`.
 
 >>> import kombilad
 >>> block = bytes.fromhex("a1646c696e6bd82a450001550000")
@@ -17,6 +17,7 @@ proved code: the library `libkombilad`.
 - `CarReader` reads the blocks of a CAR file one at a time, and `AsyncCarReader` does so with
   `async for`. `decode_car` returns the values of all blocks of a CAR in memory. `verify` compares a
   block with its CID.
+- `read_file` returns the bytes of a file of UnixFS, from blocks that it verifies.
 
 A block is any object with contiguous bytes, such as `bytes`, `bytearray`, `memoryview` or `mmap`.
 It isn't copied, and must not change while a call reads it. If it is `bytes` of 64 KiB or more, the
@@ -49,12 +50,15 @@ from ._errors import (
     CarError,
     CidError,
     EncodeError,
+    FileError,
     JsonError,
     KombiladError,
     LimitError,
+    MissingBlockError,
     TextError,
     VerifyError,
 )
+from ._file import read_file
 from . import _native
 from ._status import Status
 from ._values import (
@@ -77,9 +81,11 @@ __all__ = [
     "Cid",
     "CidError",
     "EncodeError",
+    "FileError",
     "JsonError",
     "KombiladError",
     "LimitError",
+    "MissingBlockError",
     "Status",
     "TextError",
     "VerifyError",
@@ -95,6 +101,7 @@ __all__ = [
     "is_canonical",
     "link_positions",
     "links",
+    "read_file",
     "to_json",
     "verify",
     "version",

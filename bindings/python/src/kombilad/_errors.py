@@ -1,14 +1,18 @@
 """The exceptions of the package."""
 
-from typing import Any, Optional, Tuple, Union
+from typing import TYPE_CHECKING, Any, Optional, Tuple, Union
 
 from . import _native
 from ._status import Status
 
+if TYPE_CHECKING:
+    from ._cid import Cid
+
 
 class KombiladError(ValueError):
     """Invalid input. `name` is the name of the error in `kombilad.h` without `KOMBILAD_`, `status`
-    its number, and `offset` the byte at fault, or None.
+    its number, and `offset` the byte at fault, or None. `cid` is the CID of the block at which
+    `read_file` stopped, or None.
 
     >>> import kombilad
     >>> try:
@@ -18,18 +22,26 @@ class KombiladError(ValueError):
     BLOCK_END 48 1 the bytes end before the item does, at byte 1
     """
 
-    def __init__(self, status: Status, place: Optional[int] = None, offset: Optional[int] = None):
+    def __init__(
+        self,
+        status: Status,
+        place: Optional[int] = None,
+        offset: Optional[int] = None,
+        cid: Optional["Cid"] = None,
+    ):
         at = "" if place is None else f", at {place}"
+        at = at if offset is None else f", at byte {offset}"
         super().__init__(
-            _native.status_text(status) + (at if offset is None else f", at byte {offset}")
+            _native.status_text(status) + at + ("" if cid is None else f", in block {cid}")
         )
         self.status = status
         self.name = status.name
         self.place = place
         self.offset = offset
+        self.cid = cid
 
     def __reduce__(self) -> Tuple[Any, ...]:
-        return (type(self), (self.status, self.place, self.offset))
+        return (type(self), (self.status, self.place, self.offset, self.cid))
 
 
 class CidError(KombiladError):
@@ -75,6 +87,23 @@ class CarError(KombiladError):
 class VerifyError(KombiladError):
     """A block doesn't have the digest of its CID, or the hash function is not SHA2-256, SHA2-512,
     BLAKE2b-256 or identity. In a CAR `offset` is the first byte of the block, if it is known."""
+
+
+class FileError(KombiladError):
+    """A block is not the part of a file of UnixFS that its CID and the blocks above it name, or the
+    file exceeds a limit. `offset` is the byte of the node's data at which a field is invalid, or
+    None."""
+
+
+class MissingBlockError(LookupError):
+    """A block of a file is missing. `cid` is its CID."""
+
+    def __init__(self, cid: "Cid"):
+        super().__init__(f"the block {cid} is missing")
+        self.cid = cid
+
+    def __reduce__(self) -> Tuple[Any, ...]:
+        return (type(self), (self.cid,))
 
 
 _NOT_ENCODED = {
@@ -149,4 +178,8 @@ def failed(status: int, place: Optional[int] = None, offset: Optional[int] = Non
         return JsonError(known, offset=offset)
     if Status.TEXT_UNKNOWN_BASE <= known <= Status.TEXT_UTF8:
         return TextError(known, place)
+    if Status.FILE_DONE <= known <= Status.FILE_TOO_MANY_PARTS:
+        return FileError(known)
+    if Status.UNIXFS_END <= known <= Status.UNIXFS_NANOSECONDS:
+        return FileError(known, offset=offset)
     return BlockError(known, offset=offset)

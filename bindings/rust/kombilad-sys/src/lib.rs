@@ -10,7 +10,8 @@
 //!   thread may read or write it.
 //! - During the call no thread may write to memory that the call reads.
 //!
-//! No call keeps a pointer after it returns.
+//! No call keeps a pointer after it returns. A `kombilad_file` is used by one call at a time, and its
+//! walk is freed by `kombilad_file_free`.
 #![no_std]
 #![warn(missing_docs)]
 #![allow(non_camel_case_types)]
@@ -72,6 +73,17 @@ pub struct kombilad_car_place {
     /// The byte at which the last section ends, by the header of version 2. For version 1 it is
     /// `u64::MAX`.
     pub end: u64,
+}
+
+/// A walk over the blocks of a file, or none if both numbers are 0. Only the calls may read or write
+/// it after the first one. It may be moved, but only one copy of it may be used.
+#[repr(C)]
+#[derive(Debug, Default)]
+pub struct kombilad_file {
+    /// 1 if there is a walk.
+    pub is_open: u64,
+    /// The address of the walk.
+    pub walk: u64,
 }
 
 /// The call succeeded.
@@ -231,6 +243,48 @@ pub const KOMBILAD_JSON_RESERVED: u32 = 168;
 pub const KOMBILAD_JSON_RESERVED_MAP: u32 = 169;
 /// More bytes of a CAR are needed.
 pub const KOMBILAD_CAR_MORE: u32 = 176;
+/// All blocks of the file were taken.
+pub const KOMBILAD_FILE_DONE: u32 = 192;
+/// The `kombilad_file` has no walk.
+pub const KOMBILAD_FILE_CLOSED: u32 = 193;
+/// The codec of the CID is neither raw nor dag-pb.
+pub const KOMBILAD_FILE_CODEC: u32 = 194;
+/// The node has no data.
+pub const KOMBILAD_FILE_NO_DATA: u32 = 195;
+/// The node is a folder, a symbolic link or metadata.
+pub const KOMBILAD_FILE_NOT_FILE: u32 = 196;
+/// The number of sizes in the node is not that of its links.
+pub const KOMBILAD_FILE_SIZE_COUNT: u32 = 197;
+/// The size of the file in the node is not that of its bytes and its links.
+pub const KOMBILAD_FILE_SIZE: u32 = 198;
+/// The node has another number of bytes of the file than the node above it states.
+pub const KOMBILAD_FILE_PART_SIZE: u32 = 199;
+/// The file has more bytes than the limit.
+pub const KOMBILAD_FILE_TOO_LARGE: u32 = 200;
+/// The file has more blocks than the limit.
+pub const KOMBILAD_FILE_TOO_MANY_BLOCKS: u32 = 201;
+/// The blocks of the file nest deeper than the limit.
+pub const KOMBILAD_FILE_TOO_DEEP: u32 = 202;
+/// More blocks of the file wait to be read than the limit.
+pub const KOMBILAD_FILE_TOO_MANY_PARTS: u32 = 203;
+/// The data of a node end within a field.
+pub const KOMBILAD_UNIXFS_END: u32 = 208;
+/// A varint in the data of a node encodes a number of 2^64 or more, or has more than ten bytes.
+pub const KOMBILAD_UNIXFS_VARINT_TOO_LARGE: u32 = 209;
+/// The number and wire type of a field are not allowed in the data of a node.
+pub const KOMBILAD_UNIXFS_UNKNOWN_FIELD: u32 = 210;
+/// A field in the data of a node comes twice or out of order.
+pub const KOMBILAD_UNIXFS_FIELD_ORDER: u32 = 211;
+/// The data of a node do not begin with a type.
+pub const KOMBILAD_UNIXFS_NO_TYPE: u32 = 212;
+/// No type of node has this number.
+pub const KOMBILAD_UNIXFS_UNKNOWN_TYPE: u32 = 213;
+/// The mode of a node has more than 32 bits.
+pub const KOMBILAD_UNIXFS_MODE_TOO_LARGE: u32 = 214;
+/// The time of a node does not begin with its seconds.
+pub const KOMBILAD_UNIXFS_NO_SECONDS: u32 = 215;
+/// The nanoseconds of a node's time are not from 1 to 999,999,999.
+pub const KOMBILAD_UNIXFS_NANOSECONDS: u32 = 216;
 
 /// Base32 in lower case for a CID of version 1, and base58btc for one of version 0.
 pub const KOMBILAD_BASE_USUAL: u32 = 0;
@@ -424,6 +478,31 @@ extern "C" {
     ) -> u32;
     /// Compares the digest of a block with that of a CID.
     pub fn kombilad_verify(cid: *const u8, cid_len: usize, block: *const u8, len: usize) -> u32;
+
+    /// Begins a walk over the file of a CID, and frees the walk that `file` had.
+    pub fn kombilad_file_new(
+        root: *const u8,
+        root_len: usize,
+        max_bytes: u64,
+        max_blocks: u64,
+        max_waiting: usize,
+        max_levels: usize,
+        file: *mut kombilad_file,
+    ) -> u32;
+    /// Writes the CID of the block that the walk wants next.
+    pub fn kombilad_file_wanted(file: *mut kombilad_file, cid: *mut kombilad_cid) -> u32;
+    /// Takes the block that the walk wants, and writes the bytes of the file in it.
+    pub fn kombilad_file_take(
+        file: *mut kombilad_file,
+        block: *const u8,
+        len: usize,
+        bytes: *mut u8,
+        bytes_len: usize,
+        needed: *mut usize,
+        offset: *mut usize,
+    ) -> u32;
+    /// Frees the walk, if there is one.
+    pub fn kombilad_file_free(file: *mut kombilad_file);
 
     /// Returns the version: 65,536 times the major number, plus 256 times the minor, plus the
     /// patch.

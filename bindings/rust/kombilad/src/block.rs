@@ -150,7 +150,7 @@ impl Limits {
     /// # Errors
     ///
     /// [`Error::Json`] with the first error, [`Error::TooDeep`] and [`Error::TooMany`] if the text
-    /// exceeds a limit before that, and [`Error::OutOfMemory`].
+    /// exceeds a limit before that, [`Error::TooLong`], and [`Error::OutOfMemory`].
     pub fn from_json(&self, text: impl AsRef<[u8]>) -> Result<Vec<u8>, Error> {
         self.of(text.as_ref()).of_json().map_err(Error::of_json)
     }

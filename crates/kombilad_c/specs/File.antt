@@ -1,0 +1,79 @@
+-- The results of the exports about files. `old` and `new` are the walk of a handle before a call and
+-- after it, if the handle has one.
+use Rattle.std.specs.Prelude.{◌≡◌, ◌⊎◌, ◌<◌, ℕ, List, [], ◌∷◌, length, Option, Some, None, MatchOption, IsSomeAnd}
+use Rattle.ipld_cid.specs.Cid.{Link}
+use Rattle.unixfs.specs.Files.{whole, everything}
+use Rattle.unixfs_files.specs.declared.error.PartError.{PartError}
+use Rattle.unixfs_files.specs.declared.state.FileLimits.{FileLimits}
+use Rattle.unixfs_files.specs.declared.state.FileWalk.{FileWalk}
+use Rattle.unixfs_files.specs.Walking.{range_of, parts_left, remain_of, wanted_of, HaveLevel, Takes, Counts, Stays, WalkFault}
+use Rattle.kombilad_c.specs.declared.cid_record.CidBytes.{CidBytes}
+use Rattle.kombilad_c.specs.CidRecord.{record_of}
+use Rattle.kombilad_c.specs.Fill.{Variable, IsFilled, IsTooShort, IsUntouched}
+use Rattle.kombilad_c.specs.Status.{file_status, file_place}
+
+-- True if a walk has yet to take the whole file of the root, within these limits.
+pub record IsAtRoot (root : Link) (limits : FileLimits) (walk : FileWalk) : Type 0 where
+  pub remains : remain_of walk ≡ whole root ∷ []
+  pub top : HaveLevel 0 (parts_left walk)
+  pub range : range_of walk.range ≡ everything
+  pub within : walk.limits ≡ limits
+  pub bytes : walk.bytes_left ≡ limits.bytes
+  pub blocks : walk.blocks_left ≡ limits.blocks
+
+-- True if the handle has a walk that begins at the root, and the status is 0. Or an allocation
+-- failed, and the walk is as before.
+abbrev pub BeginsFile : Link → FileLimits → (status : ℕ) → (old new : Option FileWalk) → Type 0
+BeginsFile root limits status old new =
+    ((status ≡ 0) × IsSomeAnd new (IsAtRoot root limits)) ⊎ ((status ≡ 1) × (new ≡ old))
+
+-- True if the CID of the first block that remains is written, and the status is 0. Or no block
+-- remains (status 192) or the handle has no walk (status 193), and nothing is written.
+abbrev pub WantsBlock : Option FileWalk → (status : ℕ) → (before after : CidBytes) → Type 0
+WantsBlock None status before after = (status ≡ 193) × (after ≡ before)
+WantsBlock (Some walk) status before after =
+    MatchOption (wanted_of (remain_of walk)) ((status ≡ 192) × (after ≡ before))
+    (λ link. (status ≡ 0) × (after ≡ record_of link))
+
+-- True if a walk took a block with these bytes of the file, they are at the beginning of the buffer,
+-- and the status is 0.
+pub record TakesHead (old new : FileWalk) (status : ℕ) (bytes : Variable (List ℕ)) (needed : ℕ) : Type 0 where
+  pub head : List ℕ
+  pub takes : Takes old new head
+  pub counts : Counts old new head
+  pub done : status ≡ 0
+  pub filled : IsFilled head bytes.before bytes.after
+  pub length_needed : needed ≡ length head
+
+-- True if a walk did not take the block. The walk, the buffer and the needed length are as before.
+-- The status and the offset are those of the error.
+pub record Refuses (old new : FileWalk) (block : List ℕ) (status : ℕ) (bytes : Variable (List ℕ)) (needed offset : Variable ℕ) : Type 0 where
+  pub error : PartError
+  pub fault : WalkFault old block error
+  pub failed : status ≡ file_status error
+  pub place : offset.after ≡ file_place error
+  pub stays : Stays old new
+  pub untouched : IsUntouched bytes.before bytes.after needed.before needed.after
+
+-- True if a walk took the block, or did not take it for an error. Or the buffer is shorter than the
+-- block, the needed length is that of the block, the status is 2, and all else is as before.
+abbrev pub TakesBlock :
+    (old new : FileWalk) → (block : List ℕ) → (status : ℕ) → Variable (List ℕ) → (needed offset : Variable ℕ) → Type 0
+TakesBlock old new block status bytes needed offset =
+    (TakesHead old new status bytes needed.after × (offset.after ≡ offset.before))
+    ⊎ Refuses old new block status bytes needed offset
+    ⊎ ((status ≡ 2) × IsTooShort block bytes.before bytes.after × (needed.after ≡ length block) × (new ≡ old) × (offset.after ≡ offset.before))
+
+-- True if this is the result for the walk of a handle. If the handle has no walk, the status is 193
+-- and nothing is written.
+abbrev pub TakesFrom :
+    (old new : Option FileWalk) → (block : List ℕ) → (status : ℕ) → Variable (List ℕ) → (needed offset : Variable ℕ) → Type 0
+TakesFrom None new block status bytes needed offset =
+    (status ≡ 193) × (new ≡ None) × IsUntouched bytes.before bytes.after needed.before needed.after × (offset.after ≡ offset.before)
+TakesFrom (Some walk) new block status bytes needed offset = IsSomeAnd new (λ next. TakesBlock walk next block status bytes needed offset)
+
+-- True if these bytes are at the beginning of the buffer, and the status is 0. Or an allocation
+-- failed.
+abbrev pub IsTaken : List ℕ → (status : ℕ) → (before after : List ℕ) → (needed : ℕ) → Type 0
+IsTaken taken status before after needed =
+    ((status ≡ 0) × IsFilled taken before after × (needed ≡ length taken)) ⊎ (status ≡ 1)
