@@ -34,8 +34,15 @@ returns-in-None-clause-ok c =
     (λ i e. (c.in-Ok.ensures.only i [] e).0) c.block_law.ensures.links
     ∙ ap Some (sym c.into_vec.ensures) ∙ ap (λ cids. Some (map link_of cids)) (sym c.new.ensures)
 
-pub returns-clause-first : goal.returns-clause-first
-returns-clause-first c =
+-- A token after the links of an item would be one that no block has.
+no_token : goal.After-drop-source-4 → ⊥
+no_token c =
     let next = rw c.in-Some.is at c.in_ok-next_token.ensures.next in
     let found = c.in-Ok.ensures.found in
-    absurd (nothing_over c.args.bytes.now _ (c.new-source.ensures.begins, c.new-source.ensures.tokens) c.item_tokens_law.ensures.no_front _ _ found.0 _ found.1 next)
+    nothing_over c.args.bytes.now _ (c.new-source.ensures.begins, c.new-source.ensures.tokens) c.item_tokens_law.ensures.no_front _ _ found.0 _ found.1 next
+
+pub returns-clause-err : goal.returns-clause-err
+returns-clause-err c = absurd (no_token c)
+
+pub returns-clause-first : goal.returns-clause-first
+returns-clause-first c = absurd (no_token c)
