@@ -7,7 +7,7 @@ _ipld_has() {
     commands='' options='' valued='' files=''
     case $1 in
     'ipld')
-        commands='show links check cid cat ls car encode'
+        commands='show links check cid cat ls unpack car encode'
         options='-h --help -V --version'
         ;;
     'ipld show')
@@ -31,13 +31,18 @@ _ipld_has() {
         files=yes
         ;;
     'ipld cat')
-        options='--max-size --hold --limit --zero-padding -h --help'
-        valued='--max-size --hold --limit'
+        options='--offset --length --max-size --hold --limit --zero-padding -h --help'
+        valued='--offset --length --max-size --hold --limit'
         files=yes
         ;;
     'ipld ls')
         options='-l --long -R --recursive --json --hold --limit --zero-padding -h --help'
         valued='--hold --limit'
+        files=yes
+        ;;
+    'ipld unpack')
+        options='-d --directory --symlinks --preserve --max-size --hold --limit --zero-padding -h --help'
+        valued='-d --directory --symlinks --max-size --hold --limit'
         files=yes
         ;;
     'ipld car')
@@ -144,6 +149,8 @@ _ipld() {
         'ipld check -c' | 'ipld check --codec') words='dag-cbor dag-pb dag-json raw' files='' ;;
         'ipld cid -b' | 'ipld cid --base') words='base16 base32 base32upper base36 base58btc base64url' files='' ;;
         'ipld cid -c' | 'ipld cid --codec') words='dag-cbor dag-pb dag-json raw' files='' ;;
+        'ipld unpack -d' | 'ipld unpack --directory') files=folders ;;
+        'ipld unpack --symlinks') words='inside skip any' files='' ;;
         'ipld car extract -d' | 'ipld car extract --directory') files=folders ;;
         'ipld car filter --version') words='1 2' files='' ;;
         'ipld car create --version') words='1 2' files='' ;;

@@ -471,6 +471,66 @@ class LimitTest(CatTest):
         self.check_limit(100_000, bytes(100_000))
 
 
+class RangeTest(CatTest):
+    """Tests of `--offset` and `--length`."""
+
+    def check_range(self, content, offset, length, **options):
+        words = [] if offset is None else ["--offset", offset]
+        words += [] if length is None else ["--length", length]
+        start = offset or 0
+        expected = content[start:] if length is None else content[start : start + length]
+        self.check_content([*words, "some.car"], expected, **options)
+
+    def test_each_range(self):
+        content = CONTENT[:17]
+        ends = [None, 0, 1, 3, 4, 5, 8, 12, 13, 16, 17, 18, 2**63, 2**64 - 1]
+        for raw_leaves, width in itertools.product((False, True), (2, 174)):
+            self.write(car_of(file_of(content, Profile(1, raw_leaves, CHUNK, width))))
+            for offset, length in itertools.product(ends, ends):
+                with self.subTest(raw_leaves=raw_leaves, width=width, at=(offset, length)):
+                    self.check_range(content, offset, length)
+
+    def test_random_ranges(self):
+        source, numbers = Source(SEED), random.Random(SEED)
+        for number in range(COUNT):
+            made = source.file()
+            self.write(car_of(made.node))
+            offset, length = (numbers.randrange(len(made.content) + 2) for _ in range(2))
+            with self.subTest(number=number, at=(offset, length)):
+                self.check_range(made.content, offset, length)
+
+    def test_only_the_blocks_of_a_range(self):
+        """Blocks before a range and after it can be missing, or be wrong."""
+        root = file_of(CONTENT[:40], Profile(1, True, CHUNK, 3))
+        blocks = blocks_of(root)
+        leaves = [it for it in blocks if it.cid.startswith(bytes((1, RAW)))]
+        self.assertEqual(len(leaves), 10)
+        for offset, length in [(0, 4), (4, 4), (5, 2), (7, 2), (36, 100), (12, 12), (39, None)]:
+            end = 40 if length is None else min(40, offset + length)
+            kept = leaves[offset // CHUNK : (end - 1) // CHUNK + 1]
+            nodes = [it for it in blocks if it not in leaves]
+            wrong = [Block(it.cid, b"wrong") for it in leaves if it not in kept]
+            for others in [], wrong:
+                self.write(car([root.cid], [*nodes, *kept, *others]))
+                with self.subTest(at=(offset, length), wrong=len(others)):
+                    self.check_range(CONTENT[:40], offset, length)
+            for missing in kept:
+                self.write(car([root.cid], [it for it in blocks if it != missing]))
+                words = ["--offset", offset, "--length", length or 1, "some.car"]
+                self.check_stops(words, missing.cid, CONTENT[offset:end])
+
+    def test_sizes_of_a_range(self):
+        """A size is the one of the range, and not of the file."""
+        self.write(car_of(TALL))
+        range_words = ["--offset", "2", "--length", "8"]
+        self.check_content([*range_words, "--max-size", "8", "some.car"], CONTENT[2:10])
+        run = self.run_program(["cat", *range_words, "--max-size", "7", "some.car"])
+        self.assertEqual((run.out, run.status), (b"", CHECK_FAILED))
+        for word in "x", "-1", "", str(2**64):
+            run = self.run_program(["cat", f"--offset={word}", "some.car"])
+            self.assertEqual((run.out, run.status), (b"", ERROR))
+
+
 class HoldTest(CatTest):
     def run_on(self, *arguments):
         with open(self.folder / "some.car", "rb") as given:

@@ -20,6 +20,7 @@ COMMANDS = (
     "cid",
     "cat",
     "ls",
+    "unpack",
     "car",
     "car list",
     "car inspect",

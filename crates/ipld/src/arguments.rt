@@ -65,6 +65,19 @@ pub fn size_of(
     }
 }
 
+/// Returns the size that an option has, which may be 0, or `None` if it is not given. Reports wrong
+/// arguments if its value is not a size.
+pub fn count_of(
+    rt: &HostRuntime,
+    matches: &ArgMatches<'_>,
+    option: &str,
+) -> Result<Option<u64>, Outcome> {
+    match matches.get_str(option) {
+        Some("0") => Ok(Some(0)),
+        _ => size_of(rt, matches, option),
+    }
+}
+
 fn report_wrong_size(rt: &HostRuntime, option: &str, text: &str) -> Outcome {
     match format!(in rt.alloc();
         "invalid value '{text}' for '--{option} <SIZE>': must be a number of bytes above 0, such as 1000, 512K, 8M or 1G"

@@ -14,7 +14,7 @@ ghost use Rattle.ipld_cli.specs.Status.{status_of};
 
 use crate::block_commands::{run_check, run_cid, run_encode, run_links, run_show};
 use crate::car_commands::run_car;
-use crate::file_commands::{run_cat, run_ls};
+use crate::file_commands::{run_cat, run_ls, run_unpack};
 use clap::ArgMatches;
 use ipld_cli::{Outcome, complain};
 use std::io::ErrorKind;
@@ -75,7 +75,7 @@ fn run_words(rt: &HostRuntime, words: &[String]) -> Outcome {
 }
 
 // Runs the command of this name.
-fn run_command(rt: &HostRuntime, name: &str, matches: &ArgMatches<'_>) -> Outcome {
+fn run_command<'a>(rt: &'a HostRuntime, name: &str, matches: &ArgMatches<'a>) -> Outcome {
     match name {
         "show" => run_show(rt, matches),
         "links" => run_links(rt, matches),
@@ -83,6 +83,7 @@ fn run_command(rt: &HostRuntime, name: &str, matches: &ArgMatches<'_>) -> Outcom
         "cid" => run_cid(rt, matches),
         "cat" => run_cat(rt, matches),
         "ls" => run_ls(rt, matches),
+        "unpack" => run_unpack(rt, matches),
         "car" => run_car(rt, matches),
         "encode" => run_encode(rt, matches),
         _ => Outcome::Failed,

@@ -35,6 +35,7 @@ pub mod json_lines;
 mod limits;
 mod messages;
 mod new_car;
+mod new_folder;
 mod output;
 mod passing_blocks;
 mod per_word;
@@ -43,6 +44,7 @@ mod raw_cid;
 mod salvage;
 mod spool;
 mod summary;
+mod symlink_target;
 mod writer;
 
 pub use blocks::{Blocks, Opened, open_blocks, open_indexed};
@@ -67,12 +69,14 @@ pub use messages::{
     ShowExplanation,
 };
 pub use new_car::{BlockSource, NewBlock, NewCar, framed_len, header_len};
+pub use new_folder::NewFolder;
 pub use output::{
-    Content, Output, OutputError, Syncing, TemporaryName, output_of, report_unwritable,
+    Content, Output, OutputError, OutputKind, Syncing, TemporaryName, output_of, report_unwritable,
     sync_folder, write, write_output, writes_to_input,
 };
 pub use per_word::{PerWord, reads_twice, run_over, run_to_end};
 pub use raw_cid::raw_cid_of_file;
 pub use salvage::{Salvage, SalvagedBlocks};
 pub use summary::Summary;
+pub use symlink_target::stays_inside;
 pub use writer::{UntilClosed, end_writer};

@@ -11,8 +11,8 @@ use std::os::unix::fs::{FileTypeExt, MetadataExt};
 use std::path::{Path, PathBuf};
 use std::{error, fmt, process};
 
-// The number of names that are tried for a temporary file.
-const NAMES: u32 = 1000;
+// The number of names that are tried for a temporary file or folder.
+pub(crate) const NAMES: u32 = 1000;
 
 // The most bytes of an output's name that are in the name of its temporary file.
 const NAME_LEN: usize = 200;
@@ -37,6 +37,14 @@ pub enum OutputError {
     Exists,
     /// A folder, or something else that can't be replaced, has this name.
     NotAFile,
+    /// A file, or something else that isn't a folder, has this name.
+    NotAFolder,
+    /// There is something in the folder of this name.
+    NotEmpty,
+    /// The folder has no name of its own.
+    Unnamed,
+    /// Other users can write to this folder, which the new one is in.
+    Shared(PathBuf),
     /// The output is one of the files that are read.
     Input,
     /// No name for a temporary file is free in the output's folder.
@@ -54,9 +62,19 @@ impl fmt::Display for OutputError {
         match self {
             OutputError::Exists => f.write_str("the file exists; --force replaces it"),
             OutputError::NotAFile => f.write_str("not a regular file"),
+            OutputError::NotAFolder => f.write_str("not a folder; choose another name"),
+            OutputError::NotEmpty => f.write_str("the folder is not empty; choose another name"),
+            OutputError::Unnamed => f.write_str("give the folder by its name, not as . or .."),
+            OutputError::Shared(path) => {
+                let path = path.as_path().as_str();
+                write!(
+                    f,
+                    "others can write to {path}; choose another place, or run chmod go-w on it"
+                )
+            }
             OutputError::Input => f.write_str("the output is also an input; choose another name"),
             OutputError::NoName => f.write_str(
-                "cannot create a temporary file next to it: delete the files .NAME.ipld-NUMBER there",
+                "cannot create a temporary file next to it: delete what is named .NAME.ipld-NUMBER there",
             ),
             OutputError::Changed => f.write_str("an input changed while it was read; try again"),
             OutputError::Memory => f.write_str("out of memory"),
@@ -189,8 +207,17 @@ pub fn writes_to_input(rt: &HostRuntime, files: &[&str]) -> bool {
     is_input
 }
 
-/// The name of a temporary file, `.NAME.ipld-PID`. It shows the output and the process that it is
-/// of.
+/// What has a temporary name.
+#[derive(Clone, Copy)]
+pub enum OutputKind {
+    /// A file.
+    File,
+    /// A folder, with all that is in it.
+    Folder,
+}
+
+/// The name of a temporary file or folder, `.NAME.ipld-PID`. It shows the output and the process
+/// that it is of.
 #[derive(Drop)]
 pub struct TemporaryName {
     // `.NAME.ipld-`.
@@ -199,9 +226,9 @@ pub struct TemporaryName {
 }
 
 impl TemporaryName {
-    /// Returns the name for outputs in this folder. First removes the files there that have this
-    /// name with the number of another process, and that no process has locked: a run that was
-    /// killed left them. If one can't be removed, it stays.
+    /// Returns the name for outputs of this kind in this folder. First removes those of this kind
+    /// there that have this name with the number of another process, and that no process has locked:
+    /// a run that was killed left them. If one can't be removed, it stays.
     ///
     /// # Errors
     ///
@@ -210,10 +237,11 @@ impl TemporaryName {
         rt: &HostRuntime,
         folder: Path<'_>,
         name: &str,
+        kind: OutputKind,
     ) -> Result<TemporaryName, OutputError> {
         let short = shortened(name);
         let prefix = format!(in rt.alloc(); ".{short}.ipld-")?;
-        remove_left(rt, folder, &prefix);
+        remove_left(rt, folder, &prefix, kind);
         Ok(TemporaryName {
             prefix,
             process: process::id(rt.process()),
@@ -230,11 +258,12 @@ impl TemporaryName {
             Output::Replaced(path, _) => path.as_path(),
             _ => Path::new(name),
         };
-        TemporaryName::new(rt, folder_of(path), path.file_name().unwrap_or(""))
+        let last = path.file_name().unwrap_or("");
+        TemporaryName::new(rt, folder_of(path), last, OutputKind::File)
     }
 
     // Returns the name, or another if `number` is not 0.
-    fn numbered(&self, alloc: Global, number: u32) -> Result<String, AllocError> {
+    pub(crate) fn numbered(&self, alloc: Global, number: u32) -> Result<String, AllocError> {
         let (prefix, process) = (&self.prefix, self.process);
         if number == 0 {
             format!(in alloc; "{prefix}{process}")
@@ -255,24 +284,24 @@ fn shortened(name: &str) -> &str {
 }
 
 // Returns the folder of a file.
-fn folder_of(path: Path<'_>) -> Path<'_> {
+pub(crate) fn folder_of(path: Path<'_>) -> Path<'_> {
     match path.parent() {
         Some(folder) if !folder.as_str().is_empty() => folder,
         _ => Path::new("."),
     }
 }
 
-// Removes the files of a folder that have a name with this prefix and a number, and that no process
-// has locked.
-fn remove_left(rt: &HostRuntime, folder: Path<'_>, prefix: &str) {
+// Removes what is of this kind in a folder, has a name with this prefix and a number, and is locked
+// by no process.
+fn remove_left(rt: &HostRuntime, folder: Path<'_>, prefix: &str, kind: OutputKind) {
     let Ok(entries) = fs::read_dir(rt, folder) else {
         return;
     };
     for entry in entries {
         if let Ok(entry) = entry {
             let number = entry.file_name().strip_prefix(prefix).unwrap_or("");
-            if is_process(number) && is_file_entry(&entry) {
-                remove_unlocked(rt, entry.path());
+            if is_process(number) {
+                remove_unlocked(rt, &entry, kind);
             }
         }
     }
@@ -291,21 +320,32 @@ fn is_number(text: &str) -> bool {
     !text.is_empty() && text.as_bytes().iter().all(|byte| byte.is_ascii_digit())
 }
 
-// Returns whether an entry of a folder is a file. To open a pipe would block.
-fn is_file_entry(entry: &DirEntry) -> bool {
-    match entry.file_type() {
-        Ok(file_type) => file_type.is_file(),
-        Err(_) => false,
+// Removes an entry that is of this kind and that no process has locked. To open a pipe would block,
+// so another entry stays.
+fn remove_unlocked(rt: &HostRuntime, entry: &DirEntry, kind: OutputKind) {
+    let Ok(file_type) = entry.file_type() else {
+        return;
+    };
+    let path = entry.path();
+    match kind {
+        OutputKind::File => {
+            if file_type.is_file() && is_unlocked(OpenOptions::new().write(true).open(rt, path)) {
+                let _ = fs::remove_file(rt, path);
+            }
+        }
+        OutputKind::Folder => {
+            if file_type.is_dir() && is_unlocked(fs::open(rt, path)) {
+                let _ = fs::remove_dir_all(rt, path);
+            }
+        }
     }
 }
 
-// Removes a file that no process has locked.
-fn remove_unlocked(rt: &HostRuntime, path: Path<'_>) {
-    match OpenOptions::new().write(true).open(rt, path) {
-        Ok(file) if file.try_lock().is_ok() => {
-            let _ = fs::remove_file(rt, path);
-        }
-        _ => {}
+// Returns whether a file or a folder was opened, and no process has locked it.
+fn is_unlocked(opened: io::Result<File>) -> bool {
+    match opened {
+        Ok(file) => file.try_lock().is_ok(),
+        Err(_) => false,
     }
 }
 
@@ -445,9 +485,9 @@ fn create_temporary(
     Err(OutputError::NoName)
 }
 
-// Locks a new file, and returns whether it still has its name. On a file system without locks,
-// nobody removes it.
-fn holds(rt: &HostRuntime, file: &File, path: Path<'_>) -> bool {
+// Locks a new file or folder, and returns whether it still has its name. On a file system without
+// locks, nobody removes it.
+pub(crate) fn holds(rt: &HostRuntime, file: &File, path: Path<'_>) -> bool {
     if let Err(TryLockError::WouldBlock) = file.try_lock() {
         return false;
     }

@@ -2,7 +2,9 @@
 
 use clap::ArgMatches;
 use dag_cbor_tape::{EncodeErrorKind, encode_tape};
-use dag_json::{ReadError, ReadErrorKind, from_canonical, from_slice, tape_from_slice, to_vec};
+use dag_json::{
+    JsonTapeError, ReadError, ReadErrorKind, from_canonical, from_slice, tape_from_slice, to_vec,
+};
 use ipld_cli::{
     Content, JsonExplanation, Outcome, Output, OutputError, output_of, read_file, report,
     report_out_of_memory, report_unreadable, report_unwritable, write_output,
@@ -95,6 +97,7 @@ impl Content for Block {
 enum EncodeError {
     Text(ReadError),
     Tape(dag_cbor_tape::EncodeError),
+    TooLong,
     NotBytes,
     Memory,
 }
@@ -127,7 +130,8 @@ fn block_of(
 fn cbor_of(alloc: Global, text: &[u8], canonical: bool) -> Result<Vec<u8>, EncodeError> {
     let tape = match tape_from_slice(alloc, text, &Limits::default()) {
         Ok(tape) => tape,
-        Err(error) => return Err(EncodeError::Text(error)),
+        Err(JsonTapeError::Text(error)) => return Err(EncodeError::Text(error)),
+        Err(JsonTapeError::TooLong) => return Err(EncodeError::TooLong),
     };
     let block = match encode_tape(alloc, &tape.entries, &tape.contents) {
         Ok(block) => block,
@@ -227,6 +231,7 @@ fn report_error(
             )
         }
         EncodeError::Tape(error) => { report(rt, file, error, Outcome::NotSo) }
+        EncodeError::TooLong => report(rt, file, &JsonTapeError::TooLong, Outcome::NotSo),
         EncodeError::NotBytes => {
             let why = "--codec raw requires a value that is bytes: {\"/\":{\"bytes\":\"..\"}}";
             report(rt, file, &why, Outcome::NotSo)

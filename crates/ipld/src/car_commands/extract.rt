@@ -8,7 +8,7 @@ use ipld_car::Section;
 use ipld_cid::Cid;
 use ipld_cli::{
     CarOptions, CheckedBlock, DigestExplanation, MOST_SECTIONS, NamedCid, OpenCar, Outcome,
-    OutputError, Syncing, TemporaryName, hasher_of, open_car, open_indexed, output_of,
+    OutputError, OutputKind, Syncing, TemporaryName, hasher_of, open_car, open_indexed, output_of,
     parse_cid_argument, report, report_car_error, report_out_of_memory, report_unwritable,
     report_wrong_arguments, shows_progress, sync_folder, write, writes_to_input,
 };
@@ -67,7 +67,7 @@ fn extract_to_folder<'a>(
     folder: &'a str,
     texts: &[String],
 ) -> Outcome {
-    let temporary = match TemporaryName::new(rt, Path::new(folder), "extract") {
+    let temporary = match TemporaryName::new(rt, Path::new(folder), "extract", OutputKind::File) {
         Ok(temporary) => temporary,
         Err(error) => return report_unwritable(rt, folder, &error),
     };

@@ -305,9 +305,21 @@ const CAT: Description = Description {
         FOLDER_CAR,
         FILE_PATH,
         Argument {
+            name: "offset",
+            kind: Kind::Value("SIZE"),
+            help: "Leave out this many bytes at the beginning of the file, and the blocks that only they are in.",
+            ..FLAG
+        },
+        Argument {
+            name: "length",
+            kind: Kind::Value("SIZE"),
+            help: "Write at most this many bytes, and read no block after them.",
+            ..FLAG
+        },
+        Argument {
             name: "max-size",
             kind: Kind::Value("SIZE"),
-            help: "Maximum size of the file, e.g. 8M or 1G. A larger file is rejected before its first byte.",
+            help: "Maximum size of the output, e.g. 8M or 1G. A larger file or range is rejected before its first byte.",
             ..FLAG
         },
         HOLD,
@@ -318,9 +330,9 @@ const CAT: Description = Description {
 
 const CAT_MORE: &str = "\
 The output is what the CID names: every block is verified before its bytes are
-written, and each size in a block is compared with the bytes it stands for. If a
-block is missing or invalid, its CID is printed, the status is 1, and the output
-is the beginning of the file. A file can have 16,777,216 blocks, in 64 levels.
+written, and each size in a block is compared with that of its bytes. If a block
+is missing or invalid, its CID is printed, the status is 1, and the output is the
+beginning of what was asked for. A file can have 16,777,216 blocks, in 64 levels.
 
 A CAR on standard input is read once, so files of any size can be piped from a
 gateway that is not trusted. A block can come before it is needed, or be needed
@@ -333,8 +345,8 @@ Examples:
   $ ipld cat site.car pictures/0.txt | wc -c
   16
 
-  $ ipld cat - about.txt < site.car
-  Cats, and their pictures.
+  $ ipld cat --offset 6 --length 3 - about.txt < site.car
+  and
 
   $ ipld cat site.car pictures
   ipld: site.car: bafybeihjlinmnctf3gw64zx6zvgttii22xc4o7xqpdz7at6j4lkpedl7qi: a folder, not a file";
@@ -397,8 +409,73 @@ Examples:
   file
   folder";
 
+const UNPACK: Description = Description {
+    name: "unpack",
+    about: "Write a folder of IPFS in a CAR as files and folders.",
+    more: Some(UNPACK_MORE),
+    arguments: &[
+        FOLDER_CAR,
+        FILE_PATH,
+        Argument {
+            name: "directory",
+            short: Some('d'),
+            kind: Kind::Required("DIR"),
+            help: "The folder to create. If it exists, it must be empty.",
+            ..FLAG
+        },
+        Argument {
+            name: "symlinks",
+            kind: Kind::OneOf("LINKS", &["inside", "skip", "any"]),
+            help: "Symbolic links that may lead out of DIR: reject them (inside), leave them out (skip) or create them (any). [default: inside]",
+            ..FLAG
+        },
+        Argument {
+            name: "preserve",
+            help: "Set the permissions and times in the CAR. A time before 1970 is not set.",
+            ..FLAG
+        },
+        Argument {
+            name: "max-size",
+            kind: Kind::Value("SIZE"),
+            help: "Maximum size of all files. Each file, folder and link counts as 4K more. [default: 64G]",
+            ..FLAG
+        },
+        HOLD,
+        LIMIT,
+        ZERO_PADDING,
+    ],
+};
+
+const UNPACK_MORE: &str = "\
+DIR contains what the CID names, as with cat: every block is verified before it
+is used. It is created under the name .DIR.ipld-PID next to it, which only its
+owner can open, and renamed when it is complete. After an error, nothing is left
+of it. If the program is killed, the next run for the same DIR removes it.
+
+Nothing outside of DIR is changed, and nothing is overwritten. A folder with a
+name that is invalid or repeated is rejected. DIR can't be in a folder that
+others can write to, unless it has the sticky bit, as /tmp has.
+
+A symbolic link may lead out of DIR if it is absolute, if it leads above DIR, or
+if '..' comes after a name in it.
+
+A CAR on standard input is read once. Blocks that have passed are held up to
+--hold.
+
+Examples:
+  $ ipld unpack site.car -d site
+  $ cat site/about.txt
+  Cats, and their pictures.
+
+  $ ipld unpack site.car pictures -d site/new
+  $ ls site/new
+  0.txt
+
+  $ ipld unpack site.car -d site
+  ipld: site: the folder is not empty; choose another name";
+
 /// The commands on files and folders.
-pub(super) const FILE_COMMANDS: &[Description] = &[CAT, LS];
+pub(super) const FILE_COMMANDS: &[Description] = &[CAT, LS, UNPACK];
 
 /// The commands on CARs.
 pub(super) const CAR: Description = Description {

@@ -1,47 +1,36 @@
 //! The command that writes a file of UnixFS.
 
-use crate::arguments::size_of;
-use crate::file_commands::entry::{entry_at, open_store, store_options_of};
+use crate::arguments::{count_of, size_of};
+use crate::file_commands::entry::{entry_at, open_store, report_file_error, store_options_of};
 use clap::ArgMatches;
 use ipld_cid::Cid;
 use ipld_cli::{
-    BUFFER, CarStore, NamedCid, Outcome, OutputError, end_writer, report, report_out_of_memory,
-    report_unwritable, writes_to_input,
+    BUFFER, CarStore, Outcome, OutputError, end_writer, report_out_of_memory, report_unwritable,
+    writes_to_input,
 };
 use std::io::{self, BufWriter};
-use unixfs_files::{FileError, FileErrorKind, FileLimits, PartError, write_file};
+use unixfs_files::{FileErrorKind, FileLimits, FileRange, write_file};
 
-// Reports why a file was not written to its end.
-fn report_file_error(rt: &HostRuntime, store: &CarStore<'_>, error: FileError<Outcome>) -> Outcome {
-    let FileError { cid, kind } = error;
-    match kind {
-        FileErrorKind::Missing => store.report_missing(&cid),
-        FileErrorKind::Store(outcome) => outcome,
-        FileErrorKind::Write(error) => report_unwritable(rt, "-", &OutputError::from(error)),
-        FileErrorKind::Part(PartError::Memory) => report_out_of_memory(rt, store.file()),
-        FileErrorKind::Part(error) => {
-            let cid = NamedCid::new(rt.alloc(), &cid);
-            report(
-                rt,
-                store.file(),
-                &format_args!("{cid}: {error}"),
-                Outcome::NotSo,
-            )
-        }
-    }
+// Returns the range of the file that `--offset` and `--length` ask for.
+fn range_of(rt: &HostRuntime, matches: &ArgMatches<'_>) -> Result<FileRange, Outcome> {
+    Ok(FileRange {
+        start: count_of(rt, matches, "offset")?.unwrap_or(0),
+        length: count_of(rt, matches, "length")?,
+    })
 }
 
-// Writes the file of a CID to standard output.
+// Writes a range of the file of a CID to standard output.
 fn write_content(
     rt: &HostRuntime,
     store: &mut CarStore<'_>,
     cid: &Cid,
+    range: FileRange,
     limits: &FileLimits,
 ) -> Outcome {
     let Ok(mut writer) = BufWriter::with_capacity(rt.alloc(), BUFFER, io::writer(rt)) else {
         return report_out_of_memory(rt, "standard output");
     };
-    let written = write_file(rt.alloc(), cid, limits, store, &mut writer);
+    let written = write_file(rt.alloc(), cid, range, limits, store, &mut writer);
     let has_failed = match &written {
         Ok(()) => false,
         Err(error) => matches!(&error.kind, FileErrorKind::Write(_)),
@@ -61,6 +50,10 @@ fn write_content(
 pub fn run_cat(rt: &HostRuntime, matches: &ArgMatches<'_>) -> Outcome {
     let bytes = match size_of(rt, matches, "max-size") {
         Ok(size) => size.unwrap_or(u64::MAX),
+        Err(outcome) => return outcome,
+    };
+    let range = match range_of(rt, matches) {
+        Ok(range) => range,
         Err(outcome) => return outcome,
     };
     let file = matches.get_str("file").unwrap_or("-");
@@ -84,5 +77,5 @@ pub fn run_cat(rt: &HostRuntime, matches: &ArgMatches<'_>) -> Outcome {
         bytes,
         ..FileLimits::DEFAULT
     };
-    write_content(rt, &mut store, &cid, &limits)
+    write_content(rt, &mut store, &cid, range, &limits)
 }

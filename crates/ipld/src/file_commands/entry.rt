@@ -4,9 +4,13 @@ use crate::arguments::{car_options_of, size_of};
 use crate::paths::{split_cid, split_segment};
 use clap::ArgMatches;
 use ipld_cid::Cid;
-use ipld_cli::{CarOptions, CarStore, NamedCid, Outcome, report, report_out_of_memory};
-use unixfs_files::BlockStore;
-use unixfs_folders::{FolderErrorKind, Lookup, LookupStep};
+use ipld_cli::{
+    CarOptions, CarStore, NamedCid, Outcome, OutputError, report, report_out_of_memory,
+    report_unwritable,
+};
+use std::alloc::{AllocError, Global};
+use unixfs_files::{BlockStore, FileError, FileErrorKind, PartError};
+use unixfs_folders::{FolderErrorKind, FolderWalk, Lookup, LookupStep};
 
 // How many bytes of blocks that have passed are held by default, if the CAR is read once.
 const HELD: u64 = 32 << 20;
@@ -24,6 +28,48 @@ pub struct StoreOptions {
     pub car: CarOptions,
     /// How many bytes of blocks that have passed are held, if the CAR is read once.
     pub held: u64,
+}
+
+/// An entry of a folder, with its path from the folder that is listed.
+#[derive(Drop)]
+pub struct ListedEntry {
+    /// The path.
+    pub path: String,
+    /// The CID of the file, folder or link.
+    pub cid: Cid,
+}
+
+// Returns the path of an entry in the folder at `folder`.
+fn path_of(alloc: Global, folder: &str, name: &str) -> Result<String, AllocError> {
+    if folder.is_empty() {
+        String::from_str(alloc, name)
+    } else {
+        format!(in alloc; "{folder}/{name}")
+    }
+}
+
+/// Appends the entries in the block that a walk over the folder at `folder` wants.
+pub fn add_entries(
+    alloc: Global,
+    walk: &mut FolderWalk,
+    block: &[u8],
+    folder: &str,
+    entries: &mut Vec<ListedEntry>,
+) -> Result<(), FolderErrorKind> {
+    let found = match walk.take(alloc, block) {
+        Ok(found) => found,
+        Err(error) => return Err(error),
+    };
+    for entry in found.iter() {
+        let listed = ListedEntry {
+            path: path_of(alloc, folder, entry.name)?,
+            cid: entry.cid,
+        };
+        if entries.push(listed).is_err() {
+            return Err(FolderErrorKind::Memory);
+        }
+    }
+    Ok(())
 }
 
 /// Returns the options for reading the blocks of a CAR: those of CARs, and `--hold`.
@@ -44,6 +90,30 @@ pub fn open_store<'a>(
     options: StoreOptions,
 ) -> Result<CarStore<'a>, Outcome> {
     CarStore::open(rt, file, options.car, options.held)
+}
+
+/// Reports why a file was not written to its end, to standard output if the writer failed.
+pub fn report_file_error(
+    rt: &HostRuntime,
+    store: &CarStore<'_>,
+    error: FileError<Outcome>,
+) -> Outcome {
+    let FileError { cid, kind } = error;
+    match kind {
+        FileErrorKind::Missing => store.report_missing(&cid),
+        FileErrorKind::Store(outcome) => outcome,
+        FileErrorKind::Write(error) => report_unwritable(rt, "-", &OutputError::from(error)),
+        FileErrorKind::Part(PartError::Memory) => report_out_of_memory(rt, store.file()),
+        FileErrorKind::Part(error) => {
+            let cid = NamedCid::new(rt.alloc(), &cid);
+            report(
+                rt,
+                store.file(),
+                &format_args!("{cid}: {error}"),
+                Outcome::NotSo,
+            )
+        }
+    }
 }
 
 /// Reports that a block isn't the part of a folder that is wanted.

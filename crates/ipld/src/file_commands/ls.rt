@@ -1,7 +1,8 @@
 //! The command that lists a folder of UnixFS.
 
 use crate::file_commands::entry::{
-    StoreOptions, entry_at, open_store, report_folder_error, store_options_of,
+    ListedEntry, StoreOptions, add_entries, entry_at, open_store, report_folder_error,
+    store_options_of,
 };
 use clap::ArgMatches;
 use ipld_block::{VerifyError, verify};
@@ -11,11 +12,14 @@ use ipld_cli::{
     report, run_over,
 };
 use ipld_show::ShowError;
-use std::alloc::{AllocError, Global};
+use std::alloc::Global;
 use std::io::Write;
 use unixfs::{Data, DataType, read_unixfs};
 use unixfs_files::BlockStore;
-use unixfs_folders::{FolderErrorKind, FolderWalk};
+use unixfs_folders::FolderWalk;
+
+// A folder has at most this many blocks more than entries.
+const FREE_BLOCKS: u64 = 1 << 14;
 
 // The kind of an entry.
 #[derive(Clone, Copy, Debug, PartialEq, Eq)]
@@ -46,13 +50,6 @@ struct EntryInfo {
     size: Option<u64>,
 }
 
-// An entry, with its path from the folder that is listed.
-#[derive(Drop)]
-struct ListedEntry {
-    path: String,
-    cid: Cid,
-}
-
 // What is listed, and how.
 #[derive(Clone, Copy)]
 struct ListRequest<'a> {
@@ -64,39 +61,6 @@ struct ListRequest<'a> {
     is_recursive: bool,
 }
 
-// Returns the path of an entry in the folder at `folder`.
-fn path_of(alloc: Global, folder: &str, name: &str) -> Result<String, AllocError> {
-    if folder.is_empty() {
-        String::from_str(alloc, name)
-    } else {
-        format!(in alloc; "{folder}/{name}")
-    }
-}
-
-// Adds the entries in the block of a folder that a walk wants.
-fn add_entries(
-    alloc: Global,
-    walk: &mut FolderWalk,
-    block: &[u8],
-    folder: &str,
-    entries: &mut Vec<ListedEntry>,
-) -> Result<(), FolderErrorKind> {
-    let found = match walk.take(alloc, block) {
-        Ok(found) => found,
-        Err(error) => return Err(error),
-    };
-    for entry in found.iter() {
-        let listed = ListedEntry {
-            path: path_of(alloc, folder, entry.name)?,
-            cid: entry.cid,
-        };
-        if entries.push(listed).is_err() {
-            return Err(FolderErrorKind::Memory);
-        }
-    }
-    Ok(())
-}
-
 // Returns the entries of a folder, whose paths begin with that of the folder.
 fn entries_of(
     rt: &HostRuntime,
@@ -105,10 +69,16 @@ fn entries_of(
 ) -> Result<Vec<ListedEntry>, Outcome> {
     let mut walk = FolderWalk::new(rt.alloc(), &folder.cid);
     let mut entries = Vec::new(rt.alloc());
-    for _ in 0..MOST_SECTIONS {
+    for blocks in 0..MOST_SECTIONS {
         let Some(cid) = walk.wanted() else {
             break;
         };
+        // Shards without entries, linked over and over, would never end.
+        if blocks > FREE_BLOCKS.saturating_add(entries.len() as u64) {
+            let cid = NamedCid::new(rt.alloc(), &cid);
+            let why = format_args!("{cid}: the folder has too many shards for its entries");
+            return Err(report(rt, store.file(), &why, Outcome::NotSo));
+        }
         let added = match store.block(&cid)? {
             Some(block) => add_entries(rt.alloc(), &mut walk, block, &folder.path, &mut entries),
             None => return Err(store.report_missing(&cid)),
