@@ -225,7 +225,9 @@ class Errors:
                 kind = self.named(path, "kombilad_c", name)
                 # A reader in memory doesn't fail, so its error has the status of another.
                 is_other = value == "OTHER" or value == "MEMORY" and variant != "Memory"
-                if status and kind and not is_other and (kind, variant) not in status.variants:
+                is_new = kind and not is_other and status and (kind, variant) not in status.variants
+                # An arm with 0 is an offset, and not the status of success.
+                if is_new and status.number:
                     status.variants.append((kind, variant))
 
     def find_calls(self):
