@@ -37,6 +37,7 @@ fn add_level(alloc: Global, levels: &mut Vec<Level>, part: &BuiltPart) -> Result
 }
 
 // Adds a part to the level of this index, and appends the nodes of the levels that are then full.
+#[cycle(add_part)]
 fn add_part(
     alloc: Global,
     layout: &Layout,
@@ -84,6 +85,7 @@ fn add_part(
 
 // Adds the last part to the lowest of these levels, and appends the nodes over all parts. The last of
 // them is the root.
+#[cycle(finish_levels)]
 fn finish_levels(
     alloc: Global,
     layout: &Layout,

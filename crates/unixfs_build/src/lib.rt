@@ -25,6 +25,8 @@ mod error;
 mod layout;
 mod level;
 mod node;
+#[cfg(test)]
+mod tests;
 
 pub use block::FileBlock;
 pub use builder::FileBuilder;
