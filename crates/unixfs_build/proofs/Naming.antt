@@ -18,7 +18,7 @@ use Rattle.unixfs_build.specs.declared.layout.Layout.{Layout}
 abbrev pub PartsName : List Built → List ℕ → Type 0
 PartsName parts content = NamesAll digest_by (map child_of parts) content
 
--- True if a part names these bytes, and stands for as many.
+-- True if a part names these bytes, and has this size.
 pub record PartNames (part : Built) (content : List ℕ) : Type 0 where
   pub named : Names digest_by part.link content
   pub size : part.size ≡ length content

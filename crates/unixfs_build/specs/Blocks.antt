@@ -1,4 +1,4 @@
--- The blocks of a file (UnixFS specification; DAG-PB specification), as `ipfs add` makes them: each
+-- The blocks of a file (UnixFS specification; DAG-PB specification) that `ipfs add` makes: each
 -- varint is the shortest, each link has an empty name and its Tsize, and a message has its filesize.
 use Rattle.std.specs.Prelude.{◌≡◌, ◌⊎◌, ◌+◌, ◌≤◌, ◌^◌, ℕ, Bool, List, [], ◌∷◌, length, map, sum, option_map, is_none, Option, Some, None, if◌then◌else◌, ◌&&◌}
 use Rattle.sha2.specs.Sha256.{sha256}
@@ -16,8 +16,8 @@ use Rattle.unixfs.specs.Writing.{data_bytes}
 use Rattle.unixfs_build.specs.declared.layout.Attributes.{Attributes}
 use Rattle.unixfs_build.specs.declared.layout.Layout.{Layout}
 
--- A part of a file that was made: the CID of its block, how many bytes of the file it stands for, and
--- how many bytes the block has, with all blocks below it.
+-- A part of a file that was made: the CID of its block, how many bytes of the file it has, and how many
+-- bytes the block has, with all blocks below it.
 pub record Built : Type 0 where
   pub link : Link
   pub size : ℕ
@@ -28,7 +28,7 @@ pub record BuiltBlock : Type 0 where
   pub part : Built
   pub bytes : List ℕ
 
--- how many bytes of the file each part stands for, and how many bytes its blocks have
+-- how many bytes of the file each part has, and how many bytes its blocks have
 abbrev pub sizes_of : List Built → List ℕ
 sizes_of parts = map (λ (part : Built). part.size) parts
 
@@ -43,7 +43,7 @@ sha_link version codec block = record { version = version; codec = codec; code =
 abbrev pub link_to : Built → LinkParts
 link_to part = record { hash = part.link; name = Some []; tsize = Some part.total }
 
--- a part, as a child of a node
+-- the child of a node that a part is
 abbrev pub child_of : Built → Child
 child_of part = record { link = part.link; size = Some part.size }
 

@@ -40,6 +40,7 @@ abbrev pub finished_on : Layout → Attributes → List (List Built) → List �
 finished_on layout attributes [] chunk = leaf_of layout attributes chunk ∷ []
 finished_on layout attributes (low ∷ above) chunk = leaf_of layout no_attributes chunk ∷ last_nodes layout attributes (low ∷ above) (leaf_part layout chunk)
 
+-- the same, of a builder
 abbrev pub finished_blocks : FileBuilder → Attributes → List ℕ → List BuiltBlock
 finished_blocks builder attributes chunk = finished_on builder.layout attributes builder.levels.items chunk
 

@@ -15,8 +15,8 @@ built p = record { link = link_of p.cid; size = p.size; total = p.total }
 abbrev pub block_of : FileBlock → BuiltBlock
 block_of b = record { part = record { link = link_of b.cid; size = b.size; total = b.total }; bytes = b.data.items }
 
--- True if the links lead to these parts. They stand for so many bytes of the file, with `head` bytes
--- of the node itself.
+-- True if the links lead to these parts, which have these sizes and totals. `size` counts `head`
+-- bytes of the node itself too.
 pub record LeadTo (head : ℕ) (parts : List Built) (children : Children) : Type 0 where
   pub links : map parts_of_link children.links.items ≡ map link_to parts
   pub sizes : children.sizes.items ≡ sizes_of parts

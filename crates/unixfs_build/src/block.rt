@@ -1,4 +1,4 @@
-//! Blocks that were made, and the parts of a file that they stand for.
+//! Blocks that were made, and the parts of a file in them.
 
 ghost use Rattle.std.specs.Prelude.{◌≡◌};
 ghost use Rattle.unixfs_build.specs.Views.{built, block_of};
@@ -12,7 +12,7 @@ pub struct FileBlock {
     pub cid: Cid,
     /// The bytes of the block.
     pub data: Vec<u8>,
-    /// How many bytes of the file the block stands for, with those of the blocks below it.
+    /// How many bytes of the file are in the block and in all blocks below it.
     pub size: u64,
     /// How many bytes the block has, with all blocks below it. A block that is linked twice counts
     /// twice. It is what a link to the block has as its `Tsize`.
@@ -20,7 +20,7 @@ pub struct FileBlock {
 }
 
 impl FileBlock {
-    // Returns the part of the file for which the block stands.
+    // Returns the part of the file that the block is.
     pub(crate) fn part(&self) -> BuiltPart
         ensures { built result ≡ (block_of self.now).part }
     {

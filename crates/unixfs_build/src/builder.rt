@@ -124,11 +124,11 @@ fn finish_levels(
 
 /// A file that is packed chunk by chunk.
 ///
-/// A chunk goes into a leaf, and as many leaves as a node has links get a node, as have as many
-/// nodes (the balanced layout of `ipfs add`). The CIDs have SHA2-256 digests. The chunks may have
-/// any lengths: `ipfs add` cuts a file into chunks of 262,144 bytes, of which the last may have
-/// fewer. It holds no bytes of the file, and of each level of the tree fewer parts than a node has
-/// links.
+/// A chunk goes into a leaf. A full group of leaves gets a node, and so does a full group of nodes
+/// (the balanced layout of `ipfs add`). The CIDs have SHA2-256 digests. The chunks may have any
+/// lengths: `ipfs add` cuts a file into chunks of 262,144 bytes, and the last may have fewer. The
+/// builder holds no bytes of the file. For each level of the tree it holds fewer CIDs than a node
+/// has links.
 #[derive(Drop)]
 pub struct FileBuilder {
     pub(crate) layout: Layout,

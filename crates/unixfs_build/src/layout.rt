@@ -42,7 +42,7 @@ impl Default for Layout {
 /// What the root of a file says of it beside its bytes. The default is nothing.
 #[derive(Clone, Copy, Debug, Default, PartialEq, Eq)]
 pub struct Attributes {
-    /// The permissions, as `chmod` has them in its low twelve bits.
+    /// The permissions. The low twelve bits are those of `chmod`.
     pub mode: Option<u32>,
     /// When the content was last changed.
     pub mtime: Option<UnixTime>,

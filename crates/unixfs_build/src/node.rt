@@ -18,8 +18,8 @@ use ipld_cid::{Cid, DAG_PB, RAW, Version};
 use std::alloc::{AllocError, Global};
 use unixfs::{Data, DataType, UnixFsEncodeError, encode_data};
 
-// The links of a node, and the size of each part to which they lead. How many bytes of the file the
-// node stands for, and how many bytes the blocks below it have.
+// The links of a node, and the size of each part to which they lead. How many bytes of the file are
+// in the node and below it, and how many bytes the blocks below it have.
 #[derive(Drop)]
 pub(crate) struct Children<'a> {
     pub(crate) links: Vec<PbLink<'a>>,
