@@ -1144,27 +1144,24 @@ class TemporaryTest(UnpackTest):
             (path / "sub" / "file").write_bytes(b"left")
             (path / "out").symlink_to("../../outside")
             (path / "sub" / "file-out").symlink_to(self.top / "outside" / "file")
-        (self.work / ".dir.ipld-77").write_bytes(b"left")
-        gone.append(self.work / ".dir.ipld-77")
+        # A command that writes a file of this name removes it.
+        (self.work / ".dir.ipld-77").write_bytes(b"stays")
         for name in ".dir.ipld-x", ".dir.ipld-", ".dir.ipld-5 things", ".dirx.ipld-1", "dir.ipld-1":
             (self.work / name).mkdir()
             (self.work / name / "file").write_bytes(b"stays")
         (self.work / ".dir.ipld-5").symlink_to("../outside")
         (self.work / ".dir.ipld-6").symlink_to("x")
         os.mkfifo(self.work / ".dir.ipld-7")
-        locked = self.work / ".dir.ipld-2", self.work / ".dir.ipld-3"
-        locked[0].mkdir()
-        (locked[0] / "file").write_bytes(b"stays")
-        locked[1].write_bytes(b"stays")
-        handles = [os.open(it, os.O_RDONLY) for it in locked]
-        for it in handles:
-            fcntl.flock(it, fcntl.LOCK_EX)
+        locked = self.work / ".dir.ipld-2"
+        locked.mkdir()
+        (locked / "file").write_bytes(b"stays")
+        handle = os.open(locked, os.O_RDONLY)
+        fcntl.flock(handle, fcntl.LOCK_EX)
         self.check_unpacked(self.DATA, self.ENTRIES, gone=gone)
         self.assertFalse(any(map(os.path.lexists, gone)))
-        for it in handles:
-            os.close(it)
-        self.check_unpacked(self.DATA, self.ENTRIES, gone=locked)
-        self.assertFalse(any(map(os.path.lexists, locked)))
+        os.close(handle)
+        self.check_unpacked(self.DATA, self.ENTRIES, gone=[locked])
+        self.assertFalse(os.path.lexists(locked))
 
     def test_what_is_left_in_a_folder_that_others_can_write_to(self):
         """Nothing is removed if the new folder is refused."""
