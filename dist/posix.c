@@ -98,6 +98,14 @@ static void put(uint8_t *to, int bytes, uint64_t number) {
     for (at = 0; at < bytes; at++) to[at] = (uint8_t)(number >> 8 * at);
 }
 
+/* Returns the number of 8 bytes, of which the lowest one is the first. */
+static uint64_t number_at(const uint8_t *from) {
+    uint64_t number = 0;
+    int at;
+    for (at = 7; at >= 0; at--) number = number << 8 | from[at];
+    return number;
+}
+
 /* Returns the number of bytes to read or write at once. */
 static size_t at_most(uint64_t size) { return size > SSIZE_MAX ? SSIZE_MAX : (size_t)size; }
 
@@ -214,6 +222,26 @@ uint32_t host_fchmod(uint32_t file, uint32_t mode) {
     return (uint32_t)fchmod((int)file, (mode_t)mode);
 }
 
+/* Returns a time from its seconds and nanoseconds, of 8 bytes each. Two numbers of nanoseconds mean
+ * the current time, and that the time stays. */
+static struct timespec time_at(const uint8_t *from) {
+    struct timespec time;
+    uint64_t nanoseconds = number_at(from + 8);
+    time.tv_sec = (time_t)(int64_t)number_at(from);
+    time.tv_nsec = (long)nanoseconds;
+    if (nanoseconds == 0x3fffffff) time.tv_nsec = UTIME_NOW;
+    if (nanoseconds == 0x3ffffffe) time.tv_nsec = UTIME_OMIT;
+    return time;
+}
+
+/* Sets the time of the last access, and that of the last change. */
+uint32_t host_futimens(uint32_t file, uint8_t *from) {
+    struct timespec times[2];
+    times[0] = time_at(from);
+    times[1] = time_at(from + 16);
+    return (uint32_t)futimens((int)file, times);
+}
+
 uint32_t host_fsync(uint32_t file) { return (uint32_t)fsync((int)file); }
 
 uint32_t host_fdatasync(uint32_t file) { return (uint32_t)fdatasync((int)file); }
@@ -277,6 +305,30 @@ uint64_t host_getdents64(uint32_t file, uint8_t *to, uint64_t size) {
 /* ---- Files by their names */
 
 uint32_t host_unlink(uint8_t *path) { return (uint32_t)unlink((const char *)path); }
+
+/* The only flag removes a folder. */
+uint32_t host_unlinkat(uint32_t folder, uint8_t *path, uint32_t flags) {
+    if (flags & ~(uint32_t)0x200) {
+        errno = EINVAL;
+        return (uint32_t)-1;
+    }
+    return (uint32_t)unlinkat(folder == (uint32_t)-100 ? AT_FDCWD : (int)folder, (const char *)path,
+                              flags ? AT_REMOVEDIR : 0);
+}
+
+uint32_t host_mkdir(uint8_t *path, uint32_t mode) {
+    return (uint32_t)mkdir((const char *)path, (mode_t)mode);
+}
+
+uint32_t host_rmdir(uint8_t *path) { return (uint32_t)rmdir((const char *)path); }
+
+uint32_t host_chmod(uint8_t *path, uint32_t mode) {
+    return (uint32_t)chmod((const char *)path, (mode_t)mode);
+}
+
+uint32_t host_symlink(uint8_t *target, uint8_t *path) {
+    return (uint32_t)symlink((const char *)target, (const char *)path);
+}
 
 uint32_t host_link(uint8_t *from, uint8_t *to) {
     return (uint32_t)link((const char *)from, (const char *)to);
