@@ -8,6 +8,7 @@ import pathlib
 import random
 import resource
 import shutil
+import signal
 import stat
 import subprocess
 import tempfile
@@ -1044,6 +1045,9 @@ class TemporaryTest(UnpackTest):
         return self.started(command, self.work, stdin=subprocess.PIPE)
 
     def test_a_killed_run(self):
+        # A signal that this process ignores, as under `nohup`, would be ignored by the run too.
+        for number in signal.SIGHUP, signal.SIGINT:
+            self.addCleanup(signal.signal, number, signal.signal(number, signal.SIG_DFL))
         for number in 1, 2, 9, 15:
             with self.unpacking() as running:
                 path = self.begun(running)
