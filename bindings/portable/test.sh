@@ -20,7 +20,7 @@ mkdir -p "$out"
 ./faults.py --check
 ./make.py "$@" "$out" kombilad ipld_links
 ./make.py --compare "$out" kombilad ipld_links
-# A proof of ipld takes eight minutes, and `rt ci` doesn't keep its module.
+# A proof of ipld takes half an hour, and `rt ci` doesn't keep its module.
 ./make.py --of-dist "$out" ipld
 ./test_ir2c.py --inputs 64 "gcc -O0" "gcc -O2" "clang -O2" tcc aarch64 riscv64 s390x i386
 compare/same.py "$out" "$library" --cases 50 "gcc -O2" "clang -O2" "gcc sanitized"
