@@ -96,12 +96,13 @@ order_if : (o : Option ℕ) (bytes : List ℕ) (index : ℕ) → o ≡ None → 
 order_if None bytes index none e = absurd cc
 order_if (Some i) bytes index none e = absurd cc
 
-pub never_misplaced : (n : NodeParts) (parts : List Built) (error : PbEncodeError) (index : ℕ) → n.links ≡ map link_to parts → error ≡ pb_error.LinkOrder index
+-- links that are in order are encoded
+pub never_misplaced : (n : NodeParts) (error : PbEncodeError) (index : ℕ) → pb.misplaced_link n.links ≡ None → error ≡ pb_error.LinkOrder index
     → (error ≡ pb_error.Memory) ⊎ (pb.written n ≡ Err error) → ⊥
 unfolding pb.written
-never_misplaced n parts error index same is (inl none) = absurd cc
-never_misplaced n parts error index same is (inr rejected) =
-    order_if (pb.misplaced_link n.links) (pb.node_bytes n) index (ap pb.misplaced_link same ∙ no_misplaced parts) (rejected ∙ ap (λ (e : PbEncodeError). Err e) is)
+never_misplaced n error index sorted same (inl none) = absurd cc
+never_misplaced n error index sorted same (inr rejected) =
+    order_if (pb.misplaced_link n.links) (pb.node_bytes n) index sorted (rejected ∙ ap (λ (e : PbEncodeError). Err e) same)
 
 -- a message with these fields
 abbrev message_with : Attributes → Option (List ℕ) → ℕ → List ℕ → DataParts
@@ -118,16 +119,16 @@ message_with attributes content filesize sizes = record {
 
 pub block_is : (attributes : Attributes) (head : List ℕ) (parts : List Built) (links : List LinkParts) (content : Option (List ℕ)) (filesize : ℕ) (sizes given message made : List ℕ)
     → links ≡ map link_to parts → content ≡ if_any head → filesize ≡ length head + sum (sizes_of parts) → sizes ≡ sizes_of parts
-    → data_writing.written (message_with attributes content filesize sizes) ≡ Ok message → given ≡ message
-    → pb.written (record { links = links; content = Some given }) ≡ Ok made → made ≡ file_block attributes head parts
+    → message ≡ data_writing.data_bytes (message_with attributes content filesize sizes) → given ≡ message
+    → made ≡ pb.node_bytes (record { links = links; content = Some given }) → made ≡ file_block attributes head parts
 unfolding file_block
 block_is attributes head parts links content filesize sizes given message made links_are content_is filesize_is sizes_are message_made given_is node_made =
     let same : message_with attributes content filesize sizes ≡ file_message attributes head parts
     = ap (λ (c : Option (List ℕ)). message_with attributes c filesize sizes) content_is ∙ ap (λ (n : ℕ). message_with attributes (if_any head) n sizes) filesize_is
     ∙ ap (λ (ns : List ℕ). message_with attributes (if_any head) (length head + sum (sizes_of parts)) ns) sizes_are in
-    node_is (record { links = links; content = Some given }) made node_made
+    node_made
     ∙ ap (λ (ls : List LinkParts). pb.node_bytes (record { links = ls; content = Some given })) links_are
-    ∙ ap (λ (m : List ℕ). pb.node_bytes (record { links = map link_to parts; content = Some m })) (given_is ∙ message_is (message_with attributes content filesize sizes) message message_made ∙ ap data_writing.data_bytes same)
+    ∙ ap (λ (m : List ℕ). pb.node_bytes (record { links = map link_to parts; content = Some m })) (given_is ∙ message_made ∙ ap data_writing.data_bytes same)
 
 -- ---- the block that is made
 pub too_long : (version : Version) (attributes : Attributes) (head : List ℕ) (parts : List Built) (total len : ℕ) (block : List ℕ) → total ≡ sum (totals_of parts) → block ≡ file_block attributes head parts

@@ -5,3 +5,10 @@ mod Encoding
 mod Sums
 mod Steps
 mod Chunks
+mod Order
+mod Slotting
+mod Sharding
+mod Packed
+mod Entries
+mod Filling
+mod Packing

@@ -5,3 +5,6 @@ pub mod Faults
 pub mod Levels
 pub mod Roots
 pub mod Building
+pub mod Nodes
+pub mod Shards
+pub mod Packing

@@ -10,13 +10,14 @@ ghost use Rattle.unixfs_build.specs.Faults.{AreTooLarge, IsLinkFault, IsEncodeFa
 ghost use Rattle.unixfs_build.specs.Views.{built, block_of, LeadTo};
 
 use crate::block::{BuiltPart, FileBlock};
+use crate::encode::{encode_block, encode_message};
 use crate::error::BuildError;
 use crate::layout::{Attributes, Layout};
-use dag_pb::{PbEncodeError, PbLink, PbNode, encode_node};
+use dag_pb::{PbLink, PbNode};
 use ipld_block::cid_of;
 use ipld_cid::{Cid, DAG_PB, RAW, Version};
 use std::alloc::{AllocError, Global};
-use unixfs::{Data, DataType, UnixFsEncodeError, encode_data};
+use unixfs::{Data, DataType};
 
 // The links of a node, and the size of each part to which they lead. How many bytes of the file are
 // in the node and below it, and how many bytes the blocks below it have.
@@ -138,7 +139,7 @@ impl<'a> Children<'a> {
 }
 
 // Returns the CID of a node.
-fn node_cid(version: Version, block: &[u8]) -> Cid
+pub(crate) fn node_cid(version: Version, block: &[u8]) -> Cid
     ensures { link_of result ≡ sha_link version 112 block.now }
 {
     let cid = cid_of(DAG_PB, block);
@@ -182,19 +183,17 @@ fn encode(
         mode: attributes.mode,
         mtime: attributes.mtime,
     };
-    let message = match encode_data(alloc, &message) {
+    let message = match encode_message(alloc, &message) {
         Ok(message) => message,
-        Err(UnixFsEncodeError::Memory) => return Err(BuildError::Memory),
-        Err(UnixFsEncodeError::Nanoseconds(count)) => return Err(BuildError::Nanoseconds(count)),
+        Err(error) => return Err(error),
     };
     let node = PbNode {
         links: children.links,
         data: Some(&message),
     };
-    match encode_node(alloc, &node) {
+    match encode_block(alloc, &node) {
         Ok(block) => Ok(block),
-        Err(PbEncodeError::Memory) => Err(BuildError::Memory),
-        Err(PbEncodeError::LinkOrder(_)) => unreachable!(),
+        Err(error) => Err(error),
     }
 }
 

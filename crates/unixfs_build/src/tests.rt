@@ -1,12 +1,17 @@
-//! Roots of files. Those of `IPFS` are what `ipfs add` gives. The others were computed apart from
-//! this crate, by the writer of UnixFS in tests/ipld.
+//! Roots of files and folders. Those of `IPFS`, and those of folders that have version 0, are what
+//! `ipfs add` gives. The others were computed apart from this crate, by the writer of UnixFS in
+//! tests/ipld.
 
-use crate::{Attributes, BuildError, FileBlock, FileBuilder, Layout};
+use crate::{
+    Attributes, BuildError, FileBlock, FileBuilder, Layout, NewEntry, NodeBlock, SHARDED_ABOVE,
+    build_folder, build_symlink,
+};
 use ipld_cid::Version;
 use ipld_cid_text::usual_text;
 use std::alloc::{AllocError, Global};
 use std::test::Fail;
 use unixfs::UnixTime;
+use unixfs_folders::FolderWalk;
 
 // A file: its content, how many bytes a chunk has, and the root.
 struct Row {
@@ -250,6 +255,207 @@ fn errors(rt: HostRuntime) -> Result<(), Fail> {
     assert_eq!(rt;
         sentence.as_str(),
         "the nanoseconds of a time are more than 999999999: 1000000000"
+    );
+    Ok(())
+}
+
+// The entry of a block.
+fn entry_of<'a>(name: &'a str, block: &NodeBlock) -> NewEntry<'a> {
+    NewEntry {
+        name,
+        cid: block.cid,
+        total: block.total,
+    }
+}
+
+// Returns the first of the blocks of a folder of version 0.
+fn folder_of(
+    alloc: Global,
+    sharded_above: u64,
+    entries: &[NewEntry<'_>],
+) -> Result<NodeBlock, Fail> {
+    let none = Attributes::default();
+    let mut blocks = build_folder(alloc, Version::V0, &none, sharded_above, entries)?;
+    blocks.reverse();
+    match blocks.pop() {
+        Some(root) => Ok(root),
+        None => Err(Fail::from(AllocError)),
+    }
+}
+
+// Returns the entry of a file of version 0.
+fn file_entry<'a>(alloc: Global, name: &'a str, content: &[u8]) -> Result<NewEntry<'a>, Fail> {
+    let none = Attributes::default();
+    let file = root_of(alloc, &Layout::default(), &none, 262_144, content)?;
+    Ok(NewEntry {
+        name,
+        cid: file.cid,
+        total: file.total,
+    })
+}
+
+#[test]
+fn symlinks_and_plain_folders(rt: HostRuntime) -> Result<(), Fail> {
+    let alloc = rt.alloc();
+    let none = Attributes::default();
+    let link = build_symlink(alloc, Version::V0, &none, "foobar")?;
+    let text = usual_text(alloc, &link.cid)?;
+    assert_eq!(rt;
+        text.as_str(),
+        "QmNgQEdXVdLw79nH2bnxLMxnyWMaXrijfqMTiDVat3iyuz"
+    );
+    let link = build_symlink(alloc, Version::V0, &none, "b")?;
+    let text = usual_text(alloc, &link.cid)?;
+    assert_eq!(rt;
+        text.as_str(),
+        "QmfLJN6HLyREnWr7QQNmgmuNziUhcbwUopkHQ8gD3pMfp6"
+    );
+    let car = file_entry(alloc, "car", b"car\n")?;
+    let inside = folder_of(alloc, SHARDED_ABOVE, &[car])?;
+    let root = folder_of(
+        alloc,
+        SHARDED_ABOVE,
+        &[entry_of("a", &link), entry_of("b", &inside)],
+    )?;
+    let text = usual_text(alloc, &root.cid)?;
+    assert_eq!(rt;
+        text.as_str(),
+        "QmZDVQHwjHwA4SyzEDtJLNxmZeJVK1W8BWFAHV61x2Rs19"
+    );
+    assert_eq!(rt; root.total, 158);
+    Ok(())
+}
+
+#[test]
+fn empty_folders(rt: HostRuntime) -> Result<(), Fail> {
+    let alloc = rt.alloc();
+    let root = folder_of(alloc, 0, &[])?;
+    let text = usual_text(alloc, &root.cid)?;
+    assert_eq!(rt;
+        text.as_str(),
+        "QmUNLLsPACCz1vLxQVkXqqLX5R1X345qqfHbsf67hvA3Nn"
+    );
+    let mut attributes = Attributes::default();
+    let blocks = build_folder(alloc, Version::V1, &attributes, SHARDED_ABOVE, &[])?;
+    assert_eq!(rt; blocks.len(), 1);
+    let text = usual_text(alloc, &blocks[0].cid)?;
+    assert_eq!(rt;
+        text.as_str(),
+        "bafybeiczsscdsbs7ffqz55asqdf3smv6klcw3gofszvwlyarci47bgf354"
+    );
+    attributes.mode = Some(0o755);
+    let blocks = build_folder(alloc, Version::V1, &attributes, SHARDED_ABOVE, &[])?;
+    let text = usual_text(alloc, &blocks[0].cid)?;
+    assert_eq!(rt;
+        text.as_str(),
+        "bafybeibvjvylaiqr3dng5lcgfi4efjxiytcoodswp2m3dx5oyludj4orda"
+    );
+    Ok(())
+}
+
+// The names of sixteen empty files, sorted.
+const LONG_NAMES: [&str; 16] = [
+    "long-named-file-003",
+    "long-named-file-004",
+    "long-named-file-009",
+    "long-named-file-016",
+    "long-named-file-017",
+    "long-named-file-025",
+    "long-named-file-033",
+    "long-named-file-034",
+    "long-named-file-037",
+    "long-named-file-038",
+    "long-named-file-040",
+    "long-named-file-041",
+    "long-named-file-048",
+    "long-named-file-049",
+    "long-named-file-050",
+    "long-named-file-058",
+];
+
+#[test]
+fn sharded_folders(rt: HostRuntime) -> Result<(), Fail> {
+    let alloc = rt.alloc();
+    let mut entries = Vec::new(alloc);
+    for name in &LONG_NAMES {
+        if entries.push(file_entry(alloc, *name, b"")?).is_err() {
+            return Err(Fail::from(AllocError));
+        }
+    }
+    let none = Attributes::default();
+    // The names and the CIDs have 848 bytes.
+    let blocks = build_folder(alloc, Version::V0, &none, 848, &entries)?;
+    assert_eq!(rt; blocks.len(), 1);
+    let blocks = build_folder(alloc, Version::V0, &none, 847, &entries)?;
+    assert_eq!(rt; blocks.len(), 9);
+    let text = usual_text(alloc, &blocks[0].cid)?;
+    assert_eq!(rt;
+        text.as_str(),
+        "QmZbFPTnDBMWbQ6iBxQAhuhLz8Nu9XptYS96e7cuf5wvbk"
+    );
+    let mut walk = FolderWalk::new(alloc, &blocks[0].cid);
+    let mut found = 0;
+    for block in &blocks {
+        assert!(rt; walk.wanted() == Some(block.cid));
+        found += walk.take(alloc, &block.data)?.len();
+    }
+    assert_eq!(rt; found, 16);
+    assert!(rt; walk.wanted().is_none());
+    Ok(())
+}
+
+#[test]
+fn folder_in_a_shard(rt: HostRuntime) -> Result<(), Fail> {
+    let alloc = rt.alloc();
+    let foobar = file_entry(alloc, "foobar", b"foobar\n")?;
+    let inside = folder_of(alloc, SHARDED_ABOVE, &[foobar])?;
+    let root = folder_of(alloc, 0, &[entry_of("non_sharded_dir", &inside)])?;
+    let text = usual_text(alloc, &root.cid)?;
+    assert_eq!(rt;
+        text.as_str(),
+        "QmQXUANxYGpkwMTWQUdZBPx9jqfFP7acNgL4FHRWkndKCe"
+    );
+    Ok(())
+}
+
+// Returns the error of a plain folder of entries with these names, each of this total.
+fn error_of(alloc: Global, names: &[&str], total: u64) -> Result<Option<BuildError>, Fail> {
+    let file = file_entry(alloc, "file", b"")?;
+    let mut entries = Vec::new(alloc);
+    for name in names {
+        let entry = NewEntry {
+            name: *name,
+            cid: file.cid,
+            total,
+        };
+        if entries.push(entry).is_err() {
+            return Err(Fail::from(AllocError));
+        }
+    }
+    let none = Attributes::default();
+    Ok(build_folder(alloc, Version::V0, &none, SHARDED_ABOVE, &entries).err())
+}
+
+#[test]
+fn errors_of_folders(rt: HostRuntime) -> Result<(), Fail> {
+    let alloc = rt.alloc();
+    let rows: [(&[&str], u64, Option<BuildError>); 8] = [
+        (&["a", "b"], 7, None),
+        (&["a", "b"], u64::MAX, Some(BuildError::TooLarge)),
+        (&["a", "a"], 0, Some(BuildError::NameOrder(1))),
+        (&["a", "c", "b"], 0, Some(BuildError::NameOrder(2))),
+        (&["", "a"], 0, Some(BuildError::InvalidName(0))),
+        (&["..", "a"], 0, Some(BuildError::InvalidName(0))),
+        (&["a", "b/c"], 0, Some(BuildError::InvalidName(1))),
+        (&["a", "b\0"], 0, Some(BuildError::InvalidName(1))),
+    ];
+    for (names, total, error) in rows {
+        assert!(rt; error_of(alloc, names, total)? == error);
+    }
+    let sentence = format!(in alloc; "{}", BuildError::NameOrder(2))?;
+    assert_eq!(rt;
+        sentence.as_str(),
+        "names have to ascend by their bytes, each once: entry 2"
     );
     Ok(())
 }

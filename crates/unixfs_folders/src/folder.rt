@@ -16,7 +16,7 @@ use crate::names::{comes_before, is_entry_name, split_slot};
 use dag_pb::PbLink;
 use ipld_block::verify;
 use ipld_cid::{Cid, DAG_PB};
-use std::alloc::Global;
+use std::alloc::{AllocError, Global};
 use unixfs::{Data, DataType, UnixFsNode, read_unixfs};
 
 // The hash function murmur3-x64-64 in the table of multicodecs.
@@ -67,9 +67,10 @@ pub(crate) struct SlotName<'a> {
     pub(crate) name: Option<&'a str>,
 }
 
-// Returns whether the name comes after the one before it, if there is one.
+/// Returns whether the name is greater, by its bytes, than the one before it, if there is one. Does
+/// not allocate.
 #[tactic(auto, unfolding(crate::specs::Reading::comes_after))]
-fn comes_after(before: Option<&str>, name: &str) -> bool
+pub fn comes_after(before: Option<&str>, name: &str) -> bool
     ensures { result ≡ reading.comes_after (option_map (λ b. b.now) before.entry) name.now }
 {
     match before {
@@ -266,6 +267,20 @@ fn is_bit_field(bytes: &[u8], links: &[ShardLink<'_>]) -> bool
 {
     let bits = set_bits(links);
     bytes == without_zeros(&bits)
+}
+
+/// Returns the bit field of a shard with these links: the number with the bits of their slots, high
+/// byte first, without zero bytes at its front. It allocates once, for at most 32 bytes.
+///
+/// # Errors
+///
+/// `AllocError` if the allocation fails.
+#[tactic(auto, unfolding(crate::specs::Folders::bit_field))]
+pub fn bit_field(alloc: Global, links: &[ShardLink<'_>]) -> Result<Vec<u8>, AllocError>
+    ensures { IfOk result (λ bytes. bytes.items ≡ bit_field (map slot_parts links.now)) }
+{
+    let bits = set_bits(links);
+    Vec::from_slice(alloc, without_zeros(&bits))
 }
 
 // Reads the plain folder of these links.

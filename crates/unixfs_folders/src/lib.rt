@@ -39,6 +39,7 @@ mod visit;
 mod walk;
 
 pub use error::FolderErrorKind;
-pub use folder::{Folder, FolderEntry, ShardLink, read_folder};
+pub use folder::{Folder, FolderEntry, ShardLink, bit_field, comes_after, read_folder};
 pub use lookup::{Lookup, LookupStep};
+pub use names::is_entry_name;
 pub use walk::FolderWalk;

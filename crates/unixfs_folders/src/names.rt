@@ -14,9 +14,10 @@ fn is_reserved(name: &str) -> bool
     name == "" || (name == "." || name == "..")
 }
 
-// Returns whether this may be the name of an entry.
+/// Returns whether this may be the name of an entry: it is not empty, `.` or `..`, and has no `/`
+/// and no NUL. Does not allocate.
 #[tactic(auto, unfolding(crate::specs::Names::is_entry_name))]
-pub(crate) fn is_entry_name(name: &str) -> bool
+pub fn is_entry_name(name: &str) -> bool
     ensures { result ≡ is_entry_name name.now }
 {
     !is_reserved(name) && !has_separator(name.as_bytes())
