@@ -35,10 +35,12 @@ pub mod json_lines;
 mod limits;
 mod messages;
 mod new_car;
+mod new_file;
 mod new_folder;
 mod output;
 mod passing_blocks;
 mod per_word;
+mod placed_output;
 mod progress;
 mod raw_cid;
 mod salvage;
@@ -69,14 +71,17 @@ pub use messages::{
     ShowExplanation,
 };
 pub use new_car::{BlockSource, NewBlock, NewCar, framed_len, header_len};
+pub use new_file::NewFile;
 pub use new_folder::NewFolder;
 pub use output::{
     Content, Output, OutputError, OutputKind, Syncing, TemporaryName, output_of, report_unwritable,
     sync_folder, write, write_output, writes_to_input,
 };
 pub use per_word::{PerWord, reads_twice, run_over, run_to_end};
+pub use placed_output::PlacedOutput;
 pub use raw_cid::raw_cid_of_file;
 pub use salvage::{Salvage, SalvagedBlocks};
+pub use spool::spooled;
 pub use summary::Summary;
 pub use symlink_target::stays_inside;
 pub use writer::{UntilClosed, end_writer};

@@ -4,6 +4,7 @@
 use crate::complaints::report;
 use crate::input::BUFFER;
 use crate::messages::Outcome;
+use crate::new_file::NewFile;
 use std::alloc::{AllocError, AllocFailed, Global};
 use std::fs::{self, DirEntry, File, Metadata, OpenOptions, Permissions, TryLockError};
 use std::io::{self, BufWriter, ErrorKind, Write};
@@ -393,11 +394,17 @@ pub fn write<C: Content>(
             write_buffered(rt, io::writer(rt), content)?;
             Ok(())
         }
-        Output::Stream => write_stream(rt, name, content),
-        Output::New => write_to_file(rt, temporary, Path::new(name), None, syncing, content),
+        Output::Stream => {
+            write_buffered(rt, open_stream(rt, name)?, content)?;
+            Ok(())
+        }
+        Output::New => {
+            let file = NewFile::create(rt, temporary, Path::new(name), None)?;
+            write_to_file(rt, file, syncing, content)
+        }
         Output::Replaced(path, permissions) => {
-            let path = path.as_path();
-            write_to_file(rt, temporary, path, Some(permissions), syncing, content)
+            let file = NewFile::create(rt, temporary, path.as_path(), Some(permissions))?;
+            write_to_file(rt, file, syncing, content)
         }
     }
 }
@@ -415,74 +422,26 @@ fn write_buffered<C: Content, W: Write + Drop>(
     Ok(writer)
 }
 
-// Writes to a device or a pipe.
-fn write_stream<C: Content>(rt: &HostRuntime, name: &str, content: &C) -> Result<(), OutputError> {
+// Opens a device or a pipe for writing.
+pub(crate) fn open_stream(rt: &HostRuntime, name: &str) -> Result<File, OutputError> {
     let stream = OpenOptions::new().write(true).open(rt, name)?;
-    write_buffered(rt, stream, content)?;
-    Ok(())
+    Ok(stream)
 }
 
-// Writes a new file, or replaces one that has these permissions. If it fails, nothing is left of
-// the file.
+// Writes a new file, or replaces one. If it fails, nothing is left of the file.
 fn write_to_file<C: Content>(
     rt: &HostRuntime,
-    temporary: &TemporaryName,
-    path: Path<'_>,
-    replaced: Option<Permissions>,
+    file: NewFile,
     syncing: Syncing,
     content: &C,
 ) -> Result<(), OutputError> {
-    let is_new = replaced.is_none();
-    let (temporary, file) = create_temporary(rt, temporary, path)?;
-    // The file stays open, and so locked, until it has its final name.
-    let ended = match fill(rt, file, replaced, syncing, content) {
-        Ok(_file) if is_new => move_into_place(rt, temporary.as_path(), path),
-        Ok(_file) => replace(rt, temporary.as_path(), path),
-        Err(error) => Err(error),
-    };
-    if ended.is_err() {
-        // If this fails too, the temporary file is left.
-        let _ = fs::remove_file(rt, &temporary);
-    }
-    ended
-}
-
-// Writes to a new file, which has these permissions from the start.
-fn fill<C: Content>(
-    rt: &HostRuntime,
-    file: File,
-    permissions: Option<Permissions>,
-    syncing: Syncing,
-    content: &C,
-) -> Result<File, OutputError> {
-    if let Some(permissions) = permissions {
-        file.set_permissions(permissions)?;
-    }
-    let file = write_buffered(rt, file, content)?;
-    if syncing == Syncing::Each {
-        file.sync_all()?;
-    }
-    Ok(file)
-}
-
-// Creates an empty, locked file in the same folder.
-fn create_temporary(
-    rt: &HostRuntime,
-    temporary: &TemporaryName,
-    path: Path<'_>,
-) -> Result<(PathBuf, File), OutputError> {
-    for number in 0..NAMES {
-        let name = temporary.numbered(rt.alloc(), number)?;
-        let path = path.with_file_name(rt.alloc(), name.as_str())?;
-        match File::create_new(rt, &path) {
-            Ok(file) if holds(rt, &file, path.as_path()) => return Ok((path, file)),
-            // Another run took it for one that was left.
-            Ok(_) => {}
-            Err(error) if error.kind() == ErrorKind::AlreadyExists => {}
-            Err(error) => return Err(OutputError::System(error)),
+    match write_buffered(rt, file.file(), content) {
+        Ok(_) => file.finish(rt, syncing),
+        Err(error) => {
+            file.remove(rt);
+            Err(error)
         }
     }
-    Err(OutputError::NoName)
 }
 
 // Locks a new file or folder, and returns whether it still has its name. On a file system without
@@ -495,48 +454,6 @@ pub(crate) fn holds(rt: &HostRuntime, file: &File, path: Path<'_>) -> bool {
         (Ok(file), Ok(named)) => file.dev() == named.dev() && file.ino() == named.ino(),
         _ => false,
     }
-}
-
-// Creates an empty file of this name.
-fn take_name(rt: &HostRuntime, path: Path<'_>) -> Result<(), OutputError> {
-    match File::create_new(rt, path) {
-        Ok(_) => Ok(()),
-        Err(error) if error.kind() == ErrorKind::AlreadyExists => Err(OutputError::Exists),
-        Err(error) => Err(OutputError::System(error)),
-    }
-}
-
-// Renames a temporary file to its final name. If the system can't, it stays as it is.
-fn replace(rt: &HostRuntime, temporary: Path<'_>, path: Path<'_>) -> Result<(), OutputError> {
-    fs::rename(rt, temporary, path)?;
-    Ok(())
-}
-
-// Gives a temporary file its final name, if that name is free. A file of this name that was created
-// meanwhile stays. If this fails, the temporary file stays too.
-fn move_into_place(
-    rt: &HostRuntime,
-    temporary: Path<'_>,
-    path: Path<'_>,
-) -> Result<(), OutputError> {
-    match fs::hard_link(rt, temporary, path) {
-        Ok(()) => {
-            // If this fails, the next run removes the temporary name.
-            let _ = fs::remove_file(rt, temporary);
-            return Ok(());
-        }
-        Err(error) if error.kind() == ErrorKind::AlreadyExists => return Err(OutputError::Exists),
-        // Some file systems have no links. There the name is taken by an empty file, which is left
-        // if the program is killed before the next call.
-        Err(_) => {}
-    }
-    take_name(rt, path)?;
-    let placed = replace(rt, temporary, path);
-    if placed.is_err() {
-        // If this fails too, an empty file is left.
-        let _ = fs::remove_file(rt, path);
-    }
-    placed
 }
 
 /// Writes the content to the output of this name, and returns how that ended. Reports the error if

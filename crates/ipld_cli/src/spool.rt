@@ -23,7 +23,7 @@ pub fn spooled(rt: &HostRuntime, file: &str) -> io::Result<File> {
 }
 
 // Creates a file, and removes its name.
-fn nameless_file(rt: &HostRuntime) -> io::Result<File> {
+pub(crate) fn nameless_file(rt: &HostRuntime) -> io::Result<File> {
     let folder = env::temp_dir(rt)?;
     let process = process::id(rt.process());
     let mut options = OpenOptions::new();
