@@ -20,6 +20,7 @@ COMMANDS = (
     "cid",
     "cat",
     "ls",
+    "pack",
     "unpack",
     "car",
     "car list",

@@ -14,7 +14,7 @@ ghost use Rattle.ipld_cli.specs.Status.{status_of};
 
 use crate::block_commands::{run_check, run_cid, run_encode, run_links, run_show};
 use crate::car_commands::run_car;
-use crate::file_commands::{run_cat, run_ls, run_unpack};
+use crate::file_commands::{run_cat, run_ls, run_pack, run_unpack};
 use clap::ArgMatches;
 use ipld_cli::{Outcome, complain};
 use std::io::ErrorKind;
@@ -83,6 +83,7 @@ fn run_command<'a>(rt: &'a HostRuntime, name: &str, matches: &ArgMatches<'a>) ->
         "cid" => run_cid(rt, matches),
         "cat" => run_cat(rt, matches),
         "ls" => run_ls(rt, matches),
+        "pack" => run_pack(rt, matches),
         "unpack" => run_unpack(rt, matches),
         "car" => run_car(rt, matches),
         "encode" => run_encode(rt, matches),

@@ -2,18 +2,20 @@
 
 use crate::arguments::{codec_of, names_codec};
 use crate::block_commands::links::report_not_valid;
+use crate::file_commands::{pack_options_of, patterns_of, unixfs_root};
 use clap::ArgMatches;
 use ipld_block::{BlockCodec, check, cid_of};
 use ipld_cid::{Cid, DAG_PB, Version};
 use ipld_cid_text::{Base, to_string_of_base, usual_text};
 use ipld_cli::{
     NoCid, Outcome, PerWord, json_lines, parse_cid, parse_cid_argument, raw_cid_of_file, read_file,
-    report, report_unreadable, run_over,
+    report, report_out_of_memory, report_unreadable, run_over,
 };
 use ipld_show::{ShowError, write_cid_parts};
 use std::alloc::Global;
 use std::io::{self, ErrorKind, Write};
 use std::str;
+use unixfs_pack::PackOptions;
 
 /// The names of the bases of a CID's text.
 pub const BASES: &[&str] = &[
@@ -282,12 +284,52 @@ impl PerWord for Words {
     }
 }
 
+// Prints the roots of files and folders, packed as UnixFS.
+#[derive(Clone, Copy)]
+struct Packed<'a> {
+    options: CidOptions,
+    packing: PackOptions<'a>,
+}
+
+impl<'a> PerWord for Packed<'a> {
+    fn run<W: Write>(
+        &self,
+        rt: &HostRuntime,
+        word: &str,
+        writer: &mut W,
+    ) -> Result<Outcome, ShowError> {
+        match unixfs_root(rt, word, &self.packing) {
+            Ok(root) => print_one(rt, &self.options, word, Some(word), &root, writer),
+            Err(outcome) => Ok(outcome),
+        }
+    }
+}
+
+// Prints the roots of files and folders.
+fn run_packed(
+    rt: &HostRuntime,
+    matches: &ArgMatches<'_>,
+    words: &[&str],
+    options: CidOptions,
+) -> Outcome {
+    let Ok(patterns) = patterns_of(rt.alloc(), matches) else {
+        return report_out_of_memory(rt, "the patterns");
+    };
+    match pack_options_of(rt, matches, &patterns) {
+        Ok(packing) => run_over(rt, words, &Packed { options, packing }),
+        Err(outcome) => outcome,
+    }
+}
+
 /// Runs `ipld cid`.
 pub fn run_cid(rt: &HostRuntime, matches: &ArgMatches<'_>) -> Outcome {
     let Some(words) = matches.get_strs("what") else {
         return Outcome::Failed;
     };
     let options = CidOptions::new(matches);
+    if matches.get_flag("unixfs") {
+        return run_packed(rt, matches, words, options);
+    }
     if matches.get_flag("text") {
         run_over(rt, words, &Texts { options })
     } else {

@@ -66,6 +66,67 @@ const ZERO_PADDING: Argument = Argument {
     ..FLAG
 };
 
+// How files and folders are packed.
+const CID_VERSION: Argument = Argument {
+    name: "cid-version",
+    kind: Kind::OneOf("N", &["0", "1"]),
+    help: "Version of the CIDs. Version 1 includes --raw-leaves, unless --preserve is given. [default: 0]",
+    ..FLAG
+};
+
+const RAW_LEAVES: Argument = Argument {
+    name: "raw-leaves",
+    help: "Put the bytes of files into raw blocks.",
+    excludes: &["no-raw-leaves"],
+    ..FLAG
+};
+
+const NO_RAW_LEAVES: Argument = Argument {
+    name: "no-raw-leaves",
+    help: "Put the bytes of files into nodes of DAG-PB, also for version 1.",
+    ..FLAG
+};
+
+const CHUNK: Argument = Argument {
+    name: "chunk",
+    kind: Kind::Value("SIZE"),
+    help: "Number of bytes of a chunk, at most 1M. [default: 256K]",
+    ..FLAG
+};
+
+const WIDTH: Argument = Argument {
+    name: "width",
+    kind: Kind::Value("N"),
+    help: "Maximum number of links of a node of a file, from 2 to 8192. [default: 174]",
+    ..FLAG
+};
+
+const PACK_ATTRIBUTES: Argument = Argument {
+    name: "preserve",
+    help: "Pack permissions and times.",
+    ..FLAG
+};
+
+const HIDDEN: Argument = Argument {
+    name: "hidden",
+    help: "Pack also the entries of folders whose names begin with a dot.",
+    ..FLAG
+};
+
+const IGNORE: Argument = Argument {
+    name: "ignore",
+    kind: Kind::Repeated("PATTERN"),
+    help: "Leave out entries of folders that match PATTERN, in the syntax of .gitignore. It can be given several times.",
+    ..FLAG
+};
+
+const PACK_LINKS: Argument = Argument {
+    name: "symlinks",
+    kind: Kind::OneOf("LINKS", &["keep", "follow"]),
+    help: "Pack symbolic links (keep), or the files and folders to which they lead (follow). [default: keep]",
+    ..FLAG
+};
+
 const SHOW: Description = Description {
     name: "show",
     about: "Print a block, or the value at a path.",
@@ -235,8 +296,53 @@ const CID: Description = Description {
         },
         JSON_LINES,
         BLOCK_CODEC,
+        Argument {
+            name: "unixfs",
+            help: "Print the root that 'ipld pack' gives a file or folder, and write nothing.",
+            excludes: &["text", "codec"],
+            ..FLAG
+        },
+        Argument {
+            needs: ONLY_UNIXFS,
+            ..CID_VERSION
+        },
+        Argument {
+            needs: ONLY_UNIXFS,
+            ..RAW_LEAVES
+        },
+        Argument {
+            needs: ONLY_UNIXFS,
+            ..NO_RAW_LEAVES
+        },
+        Argument {
+            needs: ONLY_UNIXFS,
+            ..CHUNK
+        },
+        Argument {
+            needs: ONLY_UNIXFS,
+            ..WIDTH
+        },
+        Argument {
+            needs: ONLY_UNIXFS,
+            ..PACK_ATTRIBUTES
+        },
+        Argument {
+            needs: ONLY_UNIXFS,
+            ..HIDDEN
+        },
+        Argument {
+            needs: ONLY_UNIXFS,
+            ..IGNORE
+        },
+        Argument {
+            needs: ONLY_UNIXFS,
+            ..PACK_LINKS
+        },
     ],
 };
+
+// The options for packing have no effect on blocks.
+const ONLY_UNIXFS: &[&str] = &["unixfs"];
 
 const CID_MORE: &str = "\
 An argument that is a CID, with or without /ipfs/ or ipfs:// before it, is
@@ -244,6 +350,9 @@ decoded. Any other argument is a file, whose block gets a CID with SHA2-256, of
 version 1 unless --v0 is given. For a file whose name is a CID, write ./NAME.
 --codec applies only to files. A CID of version 0 is always written in
 base58btc.
+
+With --unixfs every argument is a file or folder, and its CID is the root that
+'ipfs add' and 'ipld pack --no-wrap' give it.
 
 Examples:
   $ ipld cid photo.cbor
@@ -266,11 +375,11 @@ Examples:
   base58btc   z2yYDV
   base64url   uAVUAAA
 
-  $ ipld cid --base base16 bafkreibxtagdhfi542yoiugdoansdg7652jqkrdql5rxzuivrnrye65tsa
-  f0155122037980c33951de6b0e450c3701b219bfeee930544705f637cd1158b63827bb390
-
   $ ipld cid --v0 bafybeidywu7sffpdpcbsxcmoq47gi2qrjhp7litv4pa52rxmfsx3yz3dh4
-  QmWTqvpQAeDQYZEHoYSbhoUvWY3SCJPehPBHiu5LfcPNAa";
+  QmWTqvpQAeDQYZEHoYSbhoUvWY3SCJPehPBHiu5LfcPNAa
+
+  $ ipld cid --unixfs notes.txt
+  QmaMLRsvmDRCezZe2iebcKWtEzKNjBaQfwcu7mcpdm8eY2";
 
 /// The commands on blocks and CIDs.
 pub(super) const BLOCK_COMMANDS: &[Description] = &[SHOW, LINKS, CHECK, CID];
@@ -474,8 +583,79 @@ Examples:
   $ ipld unpack site.car -d site
   ipld: site: the folder is not empty; choose another name";
 
+const PACK: Description = Description {
+    name: "pack",
+    about: "Pack files and folders into a CAR, as ipfs add does.",
+    more: Some(PACK_MORE),
+    arguments: &[
+        Argument {
+            name: "paths",
+            kind: Kind::Words(&["PATH"]),
+            help: "Files and folders to pack.",
+            ..FLAG
+        },
+        Argument {
+            name: "output",
+            short: Some('o'),
+            kind: Kind::Required("CAR"),
+            help: "The CAR to create, or - for standard output.",
+            ..FLAG
+        },
+        Argument {
+            name: "force",
+            short: Some('f'),
+            help: "Replace CAR if it exists.",
+            ..FLAG
+        },
+        Argument {
+            name: "no-wrap",
+            help: "Pack one file without a folder around it.",
+            ..FLAG
+        },
+        PACK_ATTRIBUTES,
+        HIDDEN,
+        IGNORE,
+        PACK_LINKS,
+        CID_VERSION,
+        RAW_LEAVES,
+        NO_RAW_LEAVES,
+        CHUNK,
+        WIDTH,
+    ],
+};
+
+const PACK_MORE: &str = "\
+The root is printed: on standard error, if the CAR goes to standard output. It
+is the root that 'ipfs add' gives the same folder by default, or with
+--cid-version=1. A folder is packed without another around it. A file or several
+paths get a folder around them, with the last names of the paths.
+
+Every file is read once. If its length changes meanwhile, no CAR is created.
+Devices, sockets and pipes in a folder are errors. Standard input, or a pipe as
+PATH, is copied to a temporary file first.
+
+A folder is sharded if the names and CIDs of its entries have more than 262144
+bytes. The CAR is of version 1. Every block comes before those below it, so
+'ipld cat' and 'ipld unpack' can read the CAR from a pipe.
+
+CAR is created under the name .CAR.ipld-PID next to it, and renamed when it is
+complete.
+
+Examples:
+  $ ipld unpack site.car -d site
+  $ ipld pack site -o new.car
+  QmRZvmyrRL69RKCwvh9jF113QNRPht5PvuWjZ7B3jJ7anq
+
+  $ ipld pack site --cid-version 1 --force -o new.car
+  bafybeiarnvbildq6bmjmzqzl3sqqxjs3unwnqyadaclppidzh4ee64ntii
+  $ ipld car roots site.car
+  bafybeiarnvbildq6bmjmzqzl3sqqxjs3unwnqyadaclppidzh4ee64ntii
+
+  $ ipld pack notes.txt -o - 2>root.txt | ipld cat - notes.txt
+  Hello, world";
+
 /// The commands on files and folders.
-pub(super) const FILE_COMMANDS: &[Description] = &[CAT, LS, UNPACK];
+pub(super) const FILE_COMMANDS: &[Description] = &[CAT, LS, PACK, UNPACK];
 
 /// The commands on CARs.
 pub(super) const CAR: Description = Description {
