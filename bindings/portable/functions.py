@@ -46,6 +46,7 @@ HOST = {
     "rattle_open_dir_at": (I32, [I32, POINTER]),
     "rattle_set_errno": (VOID, [I32]),
     "read": (I64, [I32, POINTER, I64]),
+    "readlink": (I64, [POINTER, POINTER, I64]),
     "realpath": (POINTER, [POINTER, POINTER]),
     "rename": (I32, [POINTER, POINTER]),
     "rmdir": (I32, [POINTER]),

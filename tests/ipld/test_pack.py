@@ -15,6 +15,7 @@ from .formats import Cid, bases_of, car, cid_from
 from .program import ProgramTest
 from .random_unixfs import Source
 from .rows import DONE, ERROR, usage_error
+from .test_salvage import little_memory
 from .test_unpack import as_nobody, attributes, tree
 from .unixfs import (
     DEFAULT,
@@ -33,8 +34,6 @@ SEED, COUNT, KILLED = 0x9ACC, 40, 30
 # A folder is sharded if its names and CIDs have more bytes than this.
 SHARDED_ABOVE = 262_144
 V1_NODES = Profile(1, False, 262_144, 174)
-# The most memory of a run, in bytes, beside the program itself.
-LITTLE = 64 << 20
 CHANGED = "it changed while it was read; try again"
 
 
@@ -603,10 +602,7 @@ class OutputTest(PackTest):
             file.seek(100 << 20)
             file.write(random.Random(SEED).randbytes(1 << 20))
 
-        def little():
-            resource.setrlimit(resource.RLIMIT_AS, (LITTLE, LITTLE))
-
-        run = self.pack("big", "--no-wrap", "-o", "x.car", preexec_fn=little)
+        run = self.pack("big", "--no-wrap", "-o", "x.car", preexec_fn=little_memory)
         self.assertEqual((run.err, run.status), (b"", DONE))
         with open(self.work / "big", "rb") as file:
             self.assertEqual(run.out.decode(), f"{file_of(file.read()).cid}\n")
