@@ -283,15 +283,40 @@ fn folder_of(
     }
 }
 
-// Returns the entry of a file of version 0.
-fn file_entry<'a>(alloc: Global, name: &'a str, content: &[u8]) -> Result<NewEntry<'a>, Fail> {
+// Returns the root of a file of version 0.
+fn file_of(alloc: Global, content: &[u8]) -> Result<FileBlock, Fail> {
     let none = Attributes::default();
-    let file = root_of(alloc, &Layout::default(), &none, 262_144, content)?;
-    Ok(NewEntry {
+    root_of(alloc, &Layout::default(), &none, 262_144, content)
+}
+
+// The entry of a file.
+fn file_entry<'a>(name: &'a str, file: &FileBlock) -> NewEntry<'a> {
+    NewEntry {
         name,
         cid: file.cid,
         total: file.total,
-    })
+    }
+}
+
+// Returns entries with these names and this total, which lead to a file.
+fn entries_named<'a>(
+    alloc: Global,
+    names: &[&'a str],
+    file: &FileBlock,
+    total: u64,
+) -> Result<Vec<NewEntry<'a>>, AllocError> {
+    let mut entries = Vec::with_capacity(alloc, names.len())?;
+    for name in names {
+        let entry = NewEntry {
+            name: *name,
+            cid: file.cid,
+            total,
+        };
+        if entries.push(entry).is_err() {
+            return Err(AllocError);
+        }
+    }
+    Ok(entries)
 }
 
 #[test]
@@ -310,8 +335,8 @@ fn symlinks_and_plain_folders(rt: HostRuntime) -> Result<(), Fail> {
         text.as_str(),
         "QmfLJN6HLyREnWr7QQNmgmuNziUhcbwUopkHQ8gD3pMfp6"
     );
-    let car = file_entry(alloc, "car", b"car\n")?;
-    let inside = folder_of(alloc, SHARDED_ABOVE, &[car])?;
+    let car = file_of(alloc, b"car\n")?;
+    let inside = folder_of(alloc, SHARDED_ABOVE, &[file_entry("car", &car)])?;
     let root = folder_of(
         alloc,
         SHARDED_ABOVE,
@@ -376,12 +401,8 @@ const LONG_NAMES: [&str; 16] = [
 #[test]
 fn sharded_folders(rt: HostRuntime) -> Result<(), Fail> {
     let alloc = rt.alloc();
-    let mut entries = Vec::new(alloc);
-    for name in &LONG_NAMES {
-        if entries.push(file_entry(alloc, *name, b"")?).is_err() {
-            return Err(Fail::from(AllocError));
-        }
-    }
+    let file = file_of(alloc, b"")?;
+    let entries = entries_named(alloc, &LONG_NAMES, &file, file.total)?;
     let none = Attributes::default();
     // The names and the CIDs have 848 bytes.
     let blocks = build_folder(alloc, Version::V0, &none, 848, &entries)?;
@@ -397,7 +418,8 @@ fn sharded_folders(rt: HostRuntime) -> Result<(), Fail> {
     let mut found = 0;
     for block in &blocks {
         assert!(rt; walk.wanted() == Some(block.cid));
-        found += walk.take(alloc, &block.data)?.len();
+        let entries = walk.take(alloc, &block.data)?.len();
+        found = entries.saturating_add(found);
     }
     assert_eq!(rt; found, 16);
     assert!(rt; walk.wanted().is_none());
@@ -407,8 +429,8 @@ fn sharded_folders(rt: HostRuntime) -> Result<(), Fail> {
 #[test]
 fn folder_in_a_shard(rt: HostRuntime) -> Result<(), Fail> {
     let alloc = rt.alloc();
-    let foobar = file_entry(alloc, "foobar", b"foobar\n")?;
-    let inside = folder_of(alloc, SHARDED_ABOVE, &[foobar])?;
+    let foobar = file_of(alloc, b"foobar\n")?;
+    let inside = folder_of(alloc, SHARDED_ABOVE, &[file_entry("foobar", &foobar)])?;
     let root = folder_of(alloc, 0, &[entry_of("non_sharded_dir", &inside)])?;
     let text = usual_text(alloc, &root.cid)?;
     assert_eq!(rt;
@@ -420,18 +442,8 @@ fn folder_in_a_shard(rt: HostRuntime) -> Result<(), Fail> {
 
 // Returns the error of a plain folder of entries with these names, each of this total.
 fn error_of(alloc: Global, names: &[&str], total: u64) -> Result<Option<BuildError>, Fail> {
-    let file = file_entry(alloc, "file", b"")?;
-    let mut entries = Vec::new(alloc);
-    for name in names {
-        let entry = NewEntry {
-            name: *name,
-            cid: file.cid,
-            total,
-        };
-        if entries.push(entry).is_err() {
-            return Err(Fail::from(AllocError));
-        }
-    }
+    let file = file_of(alloc, b"")?;
+    let entries = entries_named(alloc, names, &file, total)?;
     let none = Attributes::default();
     Ok(build_folder(alloc, Version::V0, &none, SHARDED_ABOVE, &entries).err())
 }

@@ -29,8 +29,6 @@ mod options;
 mod pattern;
 mod plan;
 mod sink;
-#[cfg(test)]
-mod tests;
 mod tree;
 mod writing;
 
