@@ -7,7 +7,7 @@ _ipld_has() {
     commands='' options='' valued='' files=''
     case $1 in
     'ipld')
-        commands='show links check cid cat ls unpack car encode'
+        commands='show links check cid cat ls pack unpack car encode'
         options='-h --help -V --version'
         ;;
     'ipld show')
@@ -26,8 +26,8 @@ _ipld_has() {
         files=yes
         ;;
     'ipld cid')
-        options='-t --text -b --base --v0 --v1 --json -c --codec -h --help'
-        valued='-b --base -c --codec'
+        options='-t --text -b --base --v0 --v1 --json -c --codec --unixfs --cid-version --raw-leaves --no-raw-leaves --chunk --width --preserve --hidden --ignore --symlinks -h --help'
+        valued='-b --base -c --codec --cid-version --chunk --width --ignore --symlinks'
         files=yes
         ;;
     'ipld cat')
@@ -38,6 +38,11 @@ _ipld_has() {
     'ipld ls')
         options='-l --long -R --recursive --json --hold --limit --zero-padding -h --help'
         valued='--hold --limit'
+        files=yes
+        ;;
+    'ipld pack')
+        options='-o --output -f --force --no-wrap --preserve --hidden --ignore --symlinks --cid-version --raw-leaves --no-raw-leaves --chunk --width -h --help'
+        valued='-o --output --ignore --symlinks --cid-version --chunk --width'
         files=yes
         ;;
     'ipld unpack')
@@ -149,6 +154,10 @@ _ipld() {
         'ipld check -c' | 'ipld check --codec') words='dag-cbor dag-pb dag-json raw' files='' ;;
         'ipld cid -b' | 'ipld cid --base') words='base16 base32 base32upper base36 base58btc base64url' files='' ;;
         'ipld cid -c' | 'ipld cid --codec') words='dag-cbor dag-pb dag-json raw' files='' ;;
+        'ipld cid --cid-version') words='0 1' files='' ;;
+        'ipld cid --symlinks') words='keep follow' files='' ;;
+        'ipld pack --symlinks') words='keep follow' files='' ;;
+        'ipld pack --cid-version') words='0 1' files='' ;;
         'ipld unpack -d' | 'ipld unpack --directory') files=folders ;;
         'ipld unpack --symlinks') words='inside skip any' files='' ;;
         'ipld car extract -d' | 'ipld car extract --directory') files=folders ;;

@@ -15,9 +15,9 @@ function __ipld_at --argument-names wanted state
             set has_argument yes
             break
         else if string match -qr -- '^-.' "$word"
-            contains -- "$command $word" 'ipld show -p' 'ipld show --path' 'ipld show --limit' 'ipld show -c' 'ipld show --codec' 'ipld links -c' 'ipld links --codec' 'ipld check -c' 'ipld check --codec' 'ipld cid -b' 'ipld cid --base' 'ipld cid -c' 'ipld cid --codec' 'ipld cat --offset' 'ipld cat --length' 'ipld cat --max-size' 'ipld cat --hold' 'ipld cat --limit' 'ipld ls --hold' 'ipld ls --limit' 'ipld unpack -d' 'ipld unpack --directory' 'ipld unpack --symlinks' 'ipld unpack --max-size' 'ipld unpack --hold' 'ipld unpack --limit' 'ipld car list --limit' 'ipld car inspect --limit' 'ipld car roots --limit' 'ipld car links --limit' 'ipld car graph --limit' 'ipld car missing --limit' 'ipld car verify --limit' 'ipld car extract -d' 'ipld car extract --directory' 'ipld car extract --limit' 'ipld car filter -o' 'ipld car filter --output' 'ipld car filter --version' 'ipld car filter --limit' 'ipld car index -o' 'ipld car index --output' 'ipld car index --limit' 'ipld car salvage -o' 'ipld car salvage --output' 'ipld car salvage --root' 'ipld car salvage --limit' 'ipld car create --files-from' 'ipld car create -o' 'ipld car create --output' 'ipld car create --root' 'ipld car create --version' 'ipld car create --split' 'ipld car create --limit' 'ipld car create -c' 'ipld car create --codec' 'ipld encode -o' 'ipld encode --output' 'ipld encode -c' 'ipld encode --codec'
+            contains -- "$command $word" 'ipld show -p' 'ipld show --path' 'ipld show --limit' 'ipld show -c' 'ipld show --codec' 'ipld links -c' 'ipld links --codec' 'ipld check -c' 'ipld check --codec' 'ipld cid -b' 'ipld cid --base' 'ipld cid -c' 'ipld cid --codec' 'ipld cid --cid-version' 'ipld cid --chunk' 'ipld cid --width' 'ipld cid --ignore' 'ipld cid --symlinks' 'ipld cat --offset' 'ipld cat --length' 'ipld cat --max-size' 'ipld cat --hold' 'ipld cat --limit' 'ipld ls --hold' 'ipld ls --limit' 'ipld pack -o' 'ipld pack --output' 'ipld pack --ignore' 'ipld pack --symlinks' 'ipld pack --cid-version' 'ipld pack --chunk' 'ipld pack --width' 'ipld unpack -d' 'ipld unpack --directory' 'ipld unpack --symlinks' 'ipld unpack --max-size' 'ipld unpack --hold' 'ipld unpack --limit' 'ipld car list --limit' 'ipld car inspect --limit' 'ipld car roots --limit' 'ipld car links --limit' 'ipld car graph --limit' 'ipld car missing --limit' 'ipld car verify --limit' 'ipld car extract -d' 'ipld car extract --directory' 'ipld car extract --limit' 'ipld car filter -o' 'ipld car filter --output' 'ipld car filter --version' 'ipld car filter --limit' 'ipld car index -o' 'ipld car index --output' 'ipld car index --limit' 'ipld car salvage -o' 'ipld car salvage --output' 'ipld car salvage --root' 'ipld car salvage --limit' 'ipld car create --files-from' 'ipld car create -o' 'ipld car create --output' 'ipld car create --root' 'ipld car create --version' 'ipld car create --split' 'ipld car create --limit' 'ipld car create -c' 'ipld car create --codec' 'ipld encode -o' 'ipld encode --output' 'ipld encode -c' 'ipld encode --codec'
             and set is_value yes
-        else if test $has_argument = no; and contains -- "$command $word" 'ipld show' 'ipld links' 'ipld check' 'ipld cid' 'ipld cat' 'ipld ls' 'ipld unpack' 'ipld car' 'ipld car list' 'ipld car inspect' 'ipld car roots' 'ipld car links' 'ipld car graph' 'ipld car missing' 'ipld car verify' 'ipld car extract' 'ipld car filter' 'ipld car index' 'ipld car salvage' 'ipld car create' 'ipld encode'
+        else if test $has_argument = no; and contains -- "$command $word" 'ipld show' 'ipld links' 'ipld check' 'ipld cid' 'ipld cat' 'ipld ls' 'ipld pack' 'ipld unpack' 'ipld car' 'ipld car list' 'ipld car inspect' 'ipld car roots' 'ipld car links' 'ipld car graph' 'ipld car missing' 'ipld car verify' 'ipld car extract' 'ipld car filter' 'ipld car index' 'ipld car salvage' 'ipld car create' 'ipld encode'
             set command "$command $word"
         else
             set has_argument yes
@@ -33,6 +33,7 @@ complete -c ipld -n "__ipld_at 'ipld' first" -a check -d 'Validate blocks'
 complete -c ipld -n "__ipld_at 'ipld' first" -a cid -d 'Print a file\'s CID, or decode a CID'
 complete -c ipld -n "__ipld_at 'ipld' first" -a cat -d 'Write a file of IPFS out of a CAR'
 complete -c ipld -n "__ipld_at 'ipld' first" -a ls -d 'List a folder of IPFS in a CAR'
+complete -c ipld -n "__ipld_at 'ipld' first" -a pack -d 'Pack files and folders into a CAR, as ipfs add does'
 complete -c ipld -n "__ipld_at 'ipld' first" -a unpack -d 'Write a folder of IPFS in a CAR as files and folders'
 complete -c ipld -n "__ipld_at 'ipld' first" -a car -d 'List, verify, extract and create CAR files'
 complete -c ipld -n "__ipld_at 'ipld' first" -a encode -d 'Convert DAG-JSON to a block'
@@ -62,6 +63,16 @@ complete -c ipld -n "__ipld_at 'ipld cid'" -l v0 -d 'Print only the CID, as vers
 complete -c ipld -n "__ipld_at 'ipld cid'" -l v1 -d 'Print only the CID, as version 1'
 complete -c ipld -n "__ipld_at 'ipld cid'" -l json -d 'Print JSON objects, one per line'
 complete -c ipld -n "__ipld_at 'ipld cid'" -s c -l codec -x -a 'dag-cbor dag-pb dag-json raw' -d 'Codec of the block'
+complete -c ipld -n "__ipld_at 'ipld cid'" -l unixfs -d 'Print the root that \'ipld pack\' gives a file or folder, and write nothing'
+complete -c ipld -n "__ipld_at 'ipld cid'" -l cid-version -x -a '0 1' -d 'Version of the CIDs'
+complete -c ipld -n "__ipld_at 'ipld cid'" -l raw-leaves -d 'Put the bytes of files into raw blocks'
+complete -c ipld -n "__ipld_at 'ipld cid'" -l no-raw-leaves -d 'Put the bytes of files into nodes of DAG-PB, also for version 1'
+complete -c ipld -n "__ipld_at 'ipld cid'" -l chunk -r -F -d 'Number of bytes of a chunk, at most 1M'
+complete -c ipld -n "__ipld_at 'ipld cid'" -l width -r -F -d 'Maximum number of links of a node of a file, from 2 to 8192'
+complete -c ipld -n "__ipld_at 'ipld cid'" -l preserve -d 'Pack permissions and times'
+complete -c ipld -n "__ipld_at 'ipld cid'" -l hidden -d 'Pack also the entries of folders whose names begin with a dot'
+complete -c ipld -n "__ipld_at 'ipld cid'" -l ignore -r -F -d 'Leave out entries of folders that match PATTERN, in the syntax of .gitignore'
+complete -c ipld -n "__ipld_at 'ipld cid'" -l symlinks -x -a 'keep follow' -d 'Pack symbolic links (keep), or the files and folders to which they lead (follow)'
 complete -c ipld -n "__ipld_at 'ipld cid'" -s h -l help -d 'Print help'
 complete -c ipld -n "__ipld_at 'ipld cat'" -F
 complete -c ipld -n "__ipld_at 'ipld cat'" -l offset -r -F -d 'Leave out this many bytes at the beginning of the file, and the blocks that only they are in'
@@ -79,6 +90,20 @@ complete -c ipld -n "__ipld_at 'ipld ls'" -l hold -r -F -d 'Maximum size of the 
 complete -c ipld -n "__ipld_at 'ipld ls'" -l limit -r -F -d 'Maximum size of a CAR section, e.g. 512K or 8M'
 complete -c ipld -n "__ipld_at 'ipld ls'" -l zero-padding -d 'Allow zeros after the last section, in a file that is padded to a size'
 complete -c ipld -n "__ipld_at 'ipld ls'" -s h -l help -d 'Print help'
+complete -c ipld -n "__ipld_at 'ipld pack'" -F
+complete -c ipld -n "__ipld_at 'ipld pack'" -s o -l output -r -F -d 'The CAR to create, or - for standard output'
+complete -c ipld -n "__ipld_at 'ipld pack'" -s f -l force -d 'Replace CAR if it exists'
+complete -c ipld -n "__ipld_at 'ipld pack'" -l no-wrap -d 'Pack one file without a folder around it'
+complete -c ipld -n "__ipld_at 'ipld pack'" -l preserve -d 'Pack permissions and times'
+complete -c ipld -n "__ipld_at 'ipld pack'" -l hidden -d 'Pack also the entries of folders whose names begin with a dot'
+complete -c ipld -n "__ipld_at 'ipld pack'" -l ignore -r -F -d 'Leave out entries of folders that match PATTERN, in the syntax of .gitignore'
+complete -c ipld -n "__ipld_at 'ipld pack'" -l symlinks -x -a 'keep follow' -d 'Pack symbolic links (keep), or the files and folders to which they lead (follow)'
+complete -c ipld -n "__ipld_at 'ipld pack'" -l cid-version -x -a '0 1' -d 'Version of the CIDs'
+complete -c ipld -n "__ipld_at 'ipld pack'" -l raw-leaves -d 'Put the bytes of files into raw blocks'
+complete -c ipld -n "__ipld_at 'ipld pack'" -l no-raw-leaves -d 'Put the bytes of files into nodes of DAG-PB, also for version 1'
+complete -c ipld -n "__ipld_at 'ipld pack'" -l chunk -r -F -d 'Number of bytes of a chunk, at most 1M'
+complete -c ipld -n "__ipld_at 'ipld pack'" -l width -r -F -d 'Maximum number of links of a node of a file, from 2 to 8192'
+complete -c ipld -n "__ipld_at 'ipld pack'" -s h -l help -d 'Print help'
 complete -c ipld -n "__ipld_at 'ipld unpack'" -F
 complete -c ipld -n "__ipld_at 'ipld unpack'" -s d -l directory -x -a '(__fish_complete_directories (commandline -ct | string replace -r "^--[^=]*=" ""))' -d 'The folder to create'
 complete -c ipld -n "__ipld_at 'ipld unpack'" -l symlinks -x -a 'inside skip any' -d 'Symbolic links that may lead out of DIR: reject them (inside), leave them out (skip) or create them (any)'
