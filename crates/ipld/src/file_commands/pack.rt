@@ -18,7 +18,8 @@ use unixfs_pack::{
     CarInPlace, Discard, PackError, PackErrorKind, PackOptions, Pattern, Symlinks, Top, Tree,
 };
 
-// The most bytes of a chunk, and the most links of a node. Other programs take blocks of up to 1 MiB.
+// The most bytes of a chunk, and the most links of a node. Other programs take blocks of up to
+// 1 MiB.
 const MAX_CHUNK: u64 = 1 << 20;
 
 const MAX_WIDTH: u64 = 1 << 13;
@@ -62,9 +63,9 @@ pub fn patterns_of<'a>(
     Ok(patterns)
 }
 
-/// Returns how files and folders are packed, without entries that these patterns match. The default is that of `ipfs add`, also with
-/// `--cid-version 1`, which includes `--raw-leaves` unless attributes are preserved. Reports wrong
-/// arguments.
+/// Returns how files and folders are packed, without entries that these patterns match. The default
+/// is that of `ipfs add`, also with `--cid-version 1`, which includes `--raw-leaves` unless attributes
+/// are preserved. Reports wrong arguments.
 pub fn pack_options_of<'a>(
     rt: &HostRuntime,
     matches: &ArgMatches<'_>,
@@ -103,8 +104,8 @@ fn report_pack_error(rt: &HostRuntime, name: &str, error: PackError) -> Outcome 
     }
 }
 
-// Returns a copy of an input whose length isn't known: standard input, or a pipe. Reports the error if
-// it can't be copied.
+// Returns a copy of an input whose length isn't known: standard input, or a pipe. Reports the error
+// if it can't be copied.
 fn spooled_input(rt: &HostRuntime, path: &str) -> Result<Option<File>, Outcome> {
     if path != "-" {
         match fs::metadata(rt, path) {
