@@ -155,8 +155,8 @@ impl<W: Write + Seek + Drop> CarInPlace<W> {
     ///
     /// # Errors
     ///
-    /// The error of the writer, one of the kind `OutOfMemory` if an allocation fails, and one of the
-    /// kind `InvalidData` if the root has another form than was planned.
+    /// The error of the writer, one of the kind `OutOfMemory` if an allocation fails, and one of
+    /// the kind `InvalidData` if the root has another form than was planned.
     pub fn finish(self, root: &Cid) -> io::Result<(W, u64)> {
         let mut car = self;
         let header = header_of(car.alloc, root)?;

@@ -12,13 +12,13 @@
 //! file.set_len(len)?;
 //! ```
 //!
-//! [`Tree::scan`] looks at names, types and sizes, and reads no file. The sizes decide how long each
-//! block is. So a node can come before the blocks below it, although its bytes are known only
+//! [`Tree::scan`] looks at names, types and sizes, and reads no file. The sizes decide how long
+//! each block is. So a node can come before the blocks below it, although its bytes are known only
 //! afterwards: [`Tree::pack`] reads each file once, leaves room for nodes, and fills it later. If a
 //! file then has another length, that is an error.
 //!
-//! `unixfs_build` makes the blocks, and is proved to make those that are defined. Their order in a CAR
-//! is tested.
+//! `unixfs_build` makes the blocks, and is proved to make those that are defined. Their order in a
+//! CAR is tested.
 #![tactic(auto)]
 
 mod car_in_place;

@@ -8,8 +8,8 @@
 ///   matched with their paths below the folder that is packed.
 /// - `**/` matches any folders or none, and `/**` everything in a folder.
 /// - A pattern that ends in `/` matches only folders.
-/// - A pattern that begins with `!` has entries packed that an earlier pattern leaves out. The entries
-///   of a folder that is left out are left out too.
+/// - A pattern that begins with `!` has entries packed that an earlier pattern leaves out. The
+///   entries of a folder that is left out are left out too.
 #[derive(Clone, Copy, Debug, PartialEq, Eq)]
 pub struct Pattern<'a> {
     glob: &'a str,
@@ -121,8 +121,8 @@ fn behind_slash(text: &[u8], start: usize) -> Option<usize> {
     Some(start.saturating_add(at).saturating_add(1))
 }
 
-// Returns whether the byte of a text at `at.text` matches what the glob has at `at.glob`, which is no
-// star, and where both go on.
+// Returns whether the byte of a text at `at.text` matches what the glob has at `at.glob`, which is
+// no star, and where both go on.
 fn step(glob: &[u8], text: &[u8], at: Retry) -> Option<Retry> {
     let byte = byte_at(text, at.text)?;
     let behind = at.glob.saturating_add(1);
@@ -159,8 +159,8 @@ fn literal_len(glob: &[u8]) -> usize {
     glob.iter().position(is_special).unwrap_or(glob.len())
 }
 
-// Returns whether a glob matches a text. Two stars match folders at the start, behind a `/`, and, as
-// in git, behind the bytes at the start that stand for themselves.
+// Returns whether a glob matches a text. Two stars match folders at the start, behind a `/`, and,
+// as in git, behind the bytes at the start that stand for themselves.
 fn matches_glob(glob: &[u8], text: &[u8]) -> bool {
     let literal = literal_len(glob);
     let mut at = Retry { text: 0, glob: 0 };

@@ -21,8 +21,8 @@ pub trait BlockSink {
     /// The error of the writer, or one of the kind `OutOfMemory` if an allocation fails.
     fn leave_room(&mut self, cid_len: u64, block_len: u64) -> io::Result<Room>;
 
-    /// Fills room that was left. If the CAR has the block already, and nothing follows the room, gives
-    /// the room back.
+    /// Fills room that was left. If the CAR has the block already, and nothing follows the room,
+    /// gives the room back.
     ///
     /// # Errors
     ///

@@ -122,7 +122,8 @@ impl<'a> Tree<'a> {
         }
     }
 
-    /// Returns whether a file or a folder that is packed is the one with this number on this device.
+    /// Returns whether a file or a folder that is packed is the one with this number on this
+    /// device.
     pub fn contains(&self, device: u64, number: u64) -> bool {
         self.nodes
             .iter()

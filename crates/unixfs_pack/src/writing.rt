@@ -113,11 +113,11 @@ fn check_len(file: &File, len: u64) -> Result<(), PackErrorKind> {
 
 impl<'a> Tree<'a> {
     /// Reads each file, passes the blocks of everything to the sink, and returns the root. A node
-    /// comes, or gets its room, before the blocks below it. So a reader that walks from the root can
-    /// read them from a pipe.
+    /// comes, or gets its room, before the blocks below it. So a reader that walks from the root
+    /// can read them from a pipe.
     ///
-    /// It allocates for one chunk, and for the entries of each open folder that aren't packed yet. It
-    /// keeps the CID of each entry.
+    /// It allocates for one chunk, and for the entries of each open folder that aren't packed yet.
+    /// It keeps the CID of each entry.
     ///
     /// # Errors
     ///

@@ -64,8 +64,8 @@ pub fn patterns_of<'a>(
 }
 
 /// Returns how files and folders are packed, without entries that these patterns match. The default
-/// is that of `ipfs add`, also with `--cid-version 1`, which includes `--raw-leaves` unless attributes
-/// are preserved. Reports wrong arguments.
+/// is that of `ipfs add`, also with `--cid-version 1`, which includes `--raw-leaves` unless
+/// attributes are preserved. Reports wrong arguments.
 pub fn pack_options_of<'a>(
     rt: &HostRuntime,
     matches: &ArgMatches<'_>,
