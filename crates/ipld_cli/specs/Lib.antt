@@ -3,4 +3,3 @@ pub mod NewCar
 pub mod Salvage
 pub mod RawCid
 pub mod IndexedCopy
-pub mod SymlinkTargets

@@ -46,7 +46,6 @@ mod raw_cid;
 mod salvage;
 mod spool;
 mod summary;
-mod symlink_target;
 mod writer;
 
 pub use blocks::{Blocks, Opened, open_blocks, open_indexed};
@@ -83,5 +82,4 @@ pub use raw_cid::raw_cid_of_file;
 pub use salvage::{Salvage, SalvagedBlocks};
 pub use spool::spooled;
 pub use summary::Summary;
-pub use symlink_target::stays_inside;
 pub use writer::{UntilClosed, end_writer};

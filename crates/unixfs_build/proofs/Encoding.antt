@@ -1,5 +1,5 @@
 -- The node that is encoded for a part of a file.
-use Rattle.std.proofs.Common.{◌≡◌, ℕ, suc, ◌+◌, ◌<◌, ◌≤◌, List, [], ◌∷◌, ◌++◌, length, Option, Some, None, Ok, Err, inl, inr, refl, sym, ap, subst, ◌∙◌, arith, append_assoc, length-append}
+use Rattle.std.proofs.Common.{◌≡◌, ℕ, suc, ◌+◌, ◌<◌, List, [], ◌∷◌, length, Option, Some, None, Ok, Err, inl, inr, refl, sym, ap, subst, ◌∙◌, arith}
 use Rattle.std.specs.Prelude.{◌⊎◌, ◌^◌, ◌&&◌, if◌then◌else◌, Bool, true, false, nat_lt, map, sum, option_map, unwrap_or, Result, IfOk, IfErr}
 use Rattle.std.proofs.lemmas.Bool.{cases_Bool, ltb-true}
 use Rattle.ipld_block.specs.Digest.{digest_by}
@@ -7,7 +7,6 @@ use Rattle.ipld_cid.specs.Cid.{Link}
 use Rattle.ipld_cid.specs.declared.cid.Version.{Version}
 use Rattle.ipld_cid.specs.declared.cid.Version.TheVariants.{V1}
 use Rattle.dag_pb.specs.Node.{LinkParts, NodeParts}
-use Rattle.dag_pb.specs.Views.{parts_of_link}
 use Rattle.dag_pb.specs.Writing as pb
 use Rattle.dag_pb.specs.declared.encode_error.PbEncodeError.{PbEncodeError}
 use Rattle.dag_pb.specs.declared.encode_error.PbEncodeError.TheVariants as pb_error

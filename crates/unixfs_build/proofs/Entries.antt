@@ -1,13 +1,13 @@
 -- The names and the sizes of entries.
-use Rattle.std.proofs.Common.{◌≡◌, ◌<◌, ◌≤◌, ◌+◌, ℕ, suc, true, false, List, [], ◌∷◌, length, map, take, drop, Option, Some, None, inl, inr, refl, sym, ap, subst, ◌∙◌, arith}
-use Rattle.std.specs.Prelude.{◌⊎◌, nat_lt, Bool, sum, option_map}
+use Rattle.std.proofs.Common.{◌≡◌, ◌<◌, ◌+◌, ℕ, suc, true, false, List, [], ◌∷◌, length, map, take, drop, Option, Some, None, inl, inr, refl, sym, ap, subst, ◌∙◌, arith}
+use Rattle.std.specs.Prelude.{nat_lt, Bool}
 use Rattle.std.specs.List.{sum_by}
 use Rattle.std.proofs.Math.ListN.{get_or}
 use Rattle.std.proofs.lemmas.Bool.Decides.{nat_tests}
 use Rattle.std.proofs.lemmas.List.{drop_more}
 use Rattle.std.proofs.lemmas.List.Sums.{sum_by_more_le, sum_by-cons}
 use Rattle.unixfs_folders.specs.Folders.{EntryParts, AreEntries, ComesAfter}
-use Rattle.unixfs_folders.specs.Names.{is_entry_name, comes_before}
+use Rattle.unixfs_folders.specs.Names.{is_entry_name}
 use Rattle.unixfs_folders.specs.Reading.{comes_after}
 use Rattle.unixfs_build.specs.Packing.{listed_size, listed_sizes, IsNameFault}
 use Rattle.unixfs_build.specs.Views.{entry_of}

@@ -1,15 +1,13 @@
 -- A shard whose slots are filled one after another.
-use Rattle.std.proofs.Common.{◌≡◌, ◌<◌, ◌≤◌, ◌+◌, ◌-◌, ℕ, zero, suc, true, List, [], ◌∷◌, ◌++◌, length, map, take, None, Some, inl, inr, refl, sym, ap, subst, ◌∙◌, arith}
-use Rattle.std.specs.Prelude.{◌⊎◌, ◌==◌, ◌^◌, slice_index_or}
+use Rattle.std.proofs.Common.{◌≡◌, ◌<◌, ◌≤◌, ◌+◌, ◌-◌, ℕ, suc, true, List, [], ◌∷◌, ◌++◌, length, map, take, inl, inr, refl, sym, ap, subst, ◌∙◌, arith}
+use Rattle.std.specs.Prelude.{◌==◌, slice_index_or}
 use Rattle.std.specs.List.{All, flat_map}
 use Rattle.std.proofs.Math.Seq.{take-suc}
 use Rattle.std.proofs.lemmas.Grind.{flat_map-append}
 use Rattle.std.proofs.lemmas.List.{append-nil, append_assoc, length-map, length-take-le, take_all}
 use Rattle.std.proofs.lemmas.List.Elements.{All-filter, All-push}
 use Rattle.ipld_block.specs.Digest.{digest_by}
-use Rattle.ipld_cid.specs.LinkOf.{link_of}
 use Rattle.ipld_cid.specs.declared.cid.Version.{Version}
-use Rattle.unixfs.specs.declared.data.UnixTime.{UnixTime}
 use Rattle.unixfs_folders.specs.Folders.{EntryParts, SlotParts, AreSlots, IsShard}
 use Rattle.unixfs_folders.specs.Names.{is_entry_name}
 use Rattle.unixfs_build.specs.Blocks.{no_attributes}
@@ -17,11 +15,10 @@ use Rattle.unixfs_build.specs.Faults.{IsEncodeFault, out_of_memory, time}
 use Rattle.unixfs_build.specs.Nodes.{MadeNode, shard_node}
 use Rattle.unixfs_build.specs.Packing.{IsNodeFault, node_not_encoded, node_too_large, IsShardFault, shard_not_made, shard_same_hash, IsSlotFault}
 use Rattle.unixfs_build.specs.Shards.{slot_at, in_slot, by_slot, slot_with, slots_with, nodes_with, shard_root, shard_below, shard_nodes, AreNamed, AreLed, HoldsIn, AreShards}
-use Rattle.unixfs_build.specs.Views.{entry_of, made}
+use Rattle.unixfs_build.specs.Views.{entry_of}
 use Rattle.unixfs_build.specs.declared.entry.NewEntry.{NewEntry}
 use Rattle.unixfs_build.specs.declared.error.BuildError.{BuildError}
-use Rattle.unixfs_build.specs.declared.error.BuildError.TheVariants.{Memory, SameHash}
-use Rattle.unixfs_build.specs.declared.folder_node.NodeBlock.{NodeBlock}
+use Rattle.unixfs_build.specs.declared.error.BuildError.TheVariants.{SameHash}
 use Rattle.unixfs_build.specs.declared.layout.Attributes.{Attributes}
 use Rattle.unixfs_build.proofs.Sharding.{total_at}
 use Rattle.unixfs_build.proofs.Slotting.{by_slot_long, by_slot_at, by_slot_named, are_slots, slot_led, slot_same, all_same}

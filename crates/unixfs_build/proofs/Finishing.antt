@@ -1,6 +1,5 @@
 -- The last part of a file, and the root over all.
-use Rattle.std.proofs.Common.{◌≡◌, ℕ, suc, ◌<◌, ◌≤◌, ◌+◌, List, [], ◌∷◌, ◌++◌, length, refl, sym, ap, subst, ◌∙◌, arith, append_assoc, length-append}
-use Rattle.std.specs.Prelude.{map, flat_map}
+use Rattle.std.proofs.Common.{◌≡◌, suc, ◌<◌, ◌≤◌, List, [], ◌∷◌, ◌++◌, length, refl, sym, ap, subst, ◌∙◌, arith, append_assoc, length-append}
 use Rattle.std.proofs.lemmas.List.Elements.{All-head}
 use Rattle.unixfs_build.specs.Blocks.{Built, BuiltBlock, node_of, node_over, Holds}
 use Rattle.unixfs_build.specs.Levels.{Wait, nothing, level}

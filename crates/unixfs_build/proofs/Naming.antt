@@ -1,6 +1,6 @@
 -- The root of a file names its bytes.
-use Rattle.std.proofs.Common.{◌≡◌, ℕ, ◌+◌, List, [], ◌∷◌, ◌++◌, length, Some, refl, sym, ap, subst, ◌∙◌, arith, append_assoc, length-append}
-use Rattle.std.specs.Prelude.{Bool, true, false, ◌&&◌, if◌then◌else◌, map, sum, flat_map}
+use Rattle.std.proofs.Common.{◌≡◌, ℕ, List, [], ◌∷◌, ◌++◌, length, refl, sym, ap, subst, ◌∙◌, arith, append_assoc, length-append}
+use Rattle.std.specs.Prelude.{Bool, true, false, ◌&&◌, if◌then◌else◌, map, sum}
 use Rattle.std.specs.List.{All, concat}
 use Rattle.std.proofs.lemmas.List.{append-nil, map-append}
 use Rattle.std.proofs.lemmas.List.Elements.{All-head, All-tail, All-append, All-cons, All-nil}
@@ -8,7 +8,7 @@ use Rattle.std.proofs.lemmas.List.Sums.{sum_by-cons}
 use Rattle.std.proofs.lemmas.Grind.{flat_map-append}
 use Rattle.ipld_block.specs.Digest.{digest_by}
 use Rattle.ipld_cid.specs.declared.cid.Version.{Version}
-use Rattle.unixfs.specs.Files.{Child, HasSize, Names, names, NamesAll, no_child, one_child}
+use Rattle.unixfs.specs.Files.{Names, names, NamesAll, no_child, one_child}
 use Rattle.unixfs_build.specs.Blocks.{Built, child_of, sizes_of, raw_leaf, has_none, node_of, node_over, leaf_of, no_attributes, Holds}
 use Rattle.unixfs_build.specs.Roots.{nodes_over, joined, HasNode, IsFullGroup, IsRootOver, top, below, IsRootOf, only_leaf, over_leaves, leaf_part, HasLeaf}
 use Rattle.unixfs_build.specs.declared.layout.Attributes.{Attributes}

@@ -1,5 +1,5 @@
 -- The links of folders and of shards are in order.
-use Rattle.std.proofs.Common.{◌≡◌, ◌<◌, ◌≤◌, ◌+◌, ◌/◌, ◌%◌, ℕ, suc, true, false, List, [], ◌∷◌, ◌++◌, map, Option, Some, None, refl, sym, ap, subst, ◌∙◌, arith, inl, inr}
+use Rattle.std.proofs.Common.{◌≡◌, ◌<◌, ◌/◌, ◌%◌, ℕ, suc, true, false, List, [], ◌∷◌, ◌++◌, map, Some, None, refl, sym, ap, ◌∙◌, arith, inl, inr}
 use Rattle.std.specs.Prelude.{◌⊎◌, if◌then◌else◌, Bool, unwrap_or}
 use Rattle.std.specs.Cmp.{nat_cmp_is}
 use Rattle.std.specs.Cmp.Lexicographic.{slice_cmp}
@@ -9,8 +9,7 @@ use Rattle.std.specs.declared.cmp.Ordering.TheVariants.{Less, Equal, Greater}
 use Rattle.std.proofs.lemmas.Bool.{cases_lt}
 use Rattle.std.proofs.lemmas.Bool.Decides.{nat_tests}
 use Rattle.std.proofs.lemmas.Cmp.{nat_list_cmp_total}
-use Rattle.dag_pb.specs.Node.{LinkParts}
-use Rattle.dag_pb.specs.Writing.{precedes, misplaced_after, misplaced_link, sort_key}
+use Rattle.dag_pb.specs.Writing.{precedes, misplaced_after, misplaced_link}
 use Rattle.unixfs_folders.specs.Folders.{EntryParts, SlotParts, link_of_entry, link_of_slot, AreEntries, AreSlots}
 use Rattle.unixfs_folders.specs.Names.{comes_before, digit, digits}
 

@@ -1,6 +1,6 @@
 -- The nodes that are made for folders and symbolic links.
-use Rattle.std.proofs.Common.{◌≡◌, ◌<◌, ◌≤◌, ◌+◌, ◌^◌, ℕ, suc, true, false, List, [], ◌∷◌, ◌++◌, length, map, take, Option, Some, None, Ok, Err, inl, inr, refl, sym, ap, subst, ◌∙◌, arith}
-use Rattle.std.specs.Prelude.{◌⊎◌, Result, IfOk, IfErr}
+use Rattle.std.proofs.Common.{◌≡◌, ◌<◌, ◌≤◌, ◌+◌, ◌^◌, ℕ, List, [], ◌∷◌, length, map, take, Some, None, Ok, Err, refl, sym, ap, subst, ◌∙◌, arith}
+use Rattle.std.specs.Prelude.{Result, IfOk, IfErr}
 use Rattle.std.specs.List.{sum_by}
 use Rattle.std.proofs.Math.ListN.{get_or}
 use Rattle.std.proofs.lemmas.List.Sums.{sum_by_more_le, sum_by-cons}
@@ -15,9 +15,10 @@ use Rattle.dag_pb.specs.declared.link.PbLink.{PbLink}
 use Rattle.unixfs.specs.Data.{DataParts, IsData}
 use Rattle.unixfs.specs.Nodes.{IsParsed}
 use Rattle.unixfs.specs.Writing.{data_bytes}
-use Rattle.unixfs_folders.specs.Folders.{EntryParts, SlotParts, plain, shard, link_of_entry, link_of_slot, AreEntries, AreSlots, NamesFolder, IsShard, bit_field}
+use Rattle.unixfs_folders.specs.FileTrees.{IsSymlink}
+use Rattle.unixfs_folders.specs.Folders.{EntryParts, SlotParts, plain, link_of_entry, link_of_slot, AreEntries, AreSlots, NamesFolder, IsShard}
 use Rattle.unixfs_build.specs.Blocks.{sha_link}
-use Rattle.unixfs_build.specs.Nodes.{MadeNode, tsize_of, tsizes_of, block_with, node_with, message_with, plain_message, symlink_message, shard_message, IsSymlink}
+use Rattle.unixfs_build.specs.Nodes.{MadeNode, tsize_of, tsizes_of, block_with, node_with, plain_message, symlink_message, shard_message}
 use Rattle.unixfs_build.specs.Packing.{IsNodeFault}
 use Rattle.unixfs_build.specs.Views.{made}
 use Rattle.unixfs_build.specs.declared.error.BuildError.{BuildError}
@@ -96,9 +97,9 @@ names_shard version attributes slots node is parsed are =
     )
 
 pub names_symlink : (version : Version) (attributes : Attributes) (target : List ℕ) (node : MadeNode) → node ≡ node_with version (symlink_message attributes target) []
-    → IsParsed node.bytes [] (symlink_message attributes target) → IsSymlink node.link target
+    → IsParsed node.bytes [] (symlink_message attributes target) → IsSymlink digest_by node.link target
 names_symlink version attributes target node is parsed =
-    subst (λ (l : Link). IsSymlink l target) (sym (made_link version (symlink_message attributes target) [] node is)) (record {
+    subst (λ (l : Link). IsSymlink digest_by l target) (sym (made_link version (symlink_message attributes target) [] node is)) (record {
       block = node.bytes;
       message = symlink_message attributes target;
       is_dag_pb = refl;
@@ -159,7 +160,7 @@ shard_named version attributes slots message links (Err error) message_is links_
 pub symlink_named : (version : Version) (attributes : Attributes) (target : List ℕ) (message : DataParts) (links : List LinkParts) (result : Result NodeBlock BuildError)
     → message ≡ symlink_message attributes target → links ≡ []
     → IfOk result (λ block. made block ≡ node_with version message links) → IfOk result (λ block. IsParsed block.data.items links message)
-    → IfOk result (λ block. IsSymlink (link_of block.cid) target)
+    → IfOk result (λ block. IsSymlink digest_by (link_of block.cid) target)
 symlink_named version attributes target message links (Ok block) message_is links_are exact parsed =
     let is = moved version message (symlink_message attributes target) links [] block message_is links_are (exact, parsed) in
     names_symlink version attributes target (made block) is.0 is.1

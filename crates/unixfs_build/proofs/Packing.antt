@@ -1,13 +1,11 @@
 -- What is so of the root of a folder that was made.
-use Rattle.std.proofs.Common.{◌≡◌, ◌<◌, ◌≤◌, ℕ, zero, suc, Global, true, false, List, [], ◌∷◌, length, Option, Some, None, Ok, Err, inl, inr, refl, sym, ap, subst, ◌∙◌, arith, drop}
-use Rattle.std.specs.Prelude.{◌⊎◌, nat_lt, if◌then◌else◌, Bool, Result, IfOk, IfErr, OnOk, slice_index_or, map, Vec}
-use Rattle.std.specs.List.{All}
+use Rattle.std.proofs.Common.{◌≡◌, ◌<◌, ℕ, zero, suc, Global, true, false, List, [], ◌∷◌, length, Option, Some, None, Ok, Err, inl, inr, sym, ap, subst, ◌∙◌, arith}
+use Rattle.std.specs.Prelude.{nat_lt, if◌then◌else◌, Bool, Result, IfOk, IfErr, OnOk, slice_index_or, map, Vec}
 use Rattle.std.proofs.lemmas.Bool.{ltb-true}
 use Rattle.ipld_block.specs.Digest.{digest_by}
 use Rattle.ipld_cid.specs.Cid.{Link}
-use Rattle.ipld_cid.specs.LinkOf.{link_of}
 use Rattle.ipld_cid.specs.declared.cid.Version.{Version}
-use Rattle.unixfs_folders.specs.Folders.{EntryParts, plain, AreEntries, NamesFolder, Has, Lacks, HasEntry, HasNoEntry, hash_of}
+use Rattle.unixfs_folders.specs.Folders.{EntryParts, plain, AreEntries, NamesFolder, Has, Lacks, HasEntry, HasNoEntry}
 use Rattle.unixfs_folders.specs.Names.{is_entry_name}
 use Rattle.unixfs_build.specs.Nodes.{MadeNode, plain_node}
 use Rattle.unixfs_build.specs.Packing.{listed_sizes, folder_root, folder_below, folder_nodes, IsNodeFault, IsShardFault, shard_not_made, shard_same_hash, IsFolderFault, root_not_made, same_hash}

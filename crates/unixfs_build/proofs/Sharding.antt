@@ -1,16 +1,14 @@
 -- What whoever reads the blocks of a sharded folder finds.
 use Rattle.std.proofs.Common.{◌≡◌, ◌<◌, ◌≤◌, ◌+◌, ◌-◌, ℕ, zero, suc, true, false, List, [], ◌∷◌, ◌++◌, length, map, Some, None, refl, sym, ap, subst, ◌∙◌, arith, inl, inr, drop}
-use Rattle.std.specs.Prelude.{◌⊎◌, ◌==◌, ◌≢◌, ◌^◌, cond, Bool, Option, filter, slice_index_or, sum, unwrap_or}
-use Rattle.std.specs.List.{All}
+use Rattle.std.specs.Prelude.{◌==◌, ◌≢◌, cond, Bool, Option, slice_index_or, unwrap_or}
 use Rattle.std.proofs.lemmas.List.Sums.{sum_by-cons}
 use Rattle.ipld_block.specs.Digest.{digest_by}
 use Rattle.ipld_cid.specs.Cid.{Link}
 use Rattle.ipld_cid.specs.declared.cid.Version.{Version}
-use Rattle.dag_pb.specs.Node.{LinkParts}
 use Rattle.unixfs_folders.specs.Folders.{EntryParts, SlotParts, link_of_slot, IsShard, Has, Lacks, HasLink, LacksLink, hash_of, Leads, leads_here, leads_below, Misses, misses_here, misses_below}
 use Rattle.unixfs_build.specs.Blocks.{no_attributes}
-use Rattle.unixfs_build.specs.Nodes.{MadeNode, tsizes_of, tsize_of, node_with, block_with}
-use Rattle.unixfs_build.specs.Shards.{slot_at, in_slot, by_slot, slot_with, slots_with, slots_of, shard_root, HoldsIn, AreShards}
+use Rattle.unixfs_build.specs.Nodes.{MadeNode, tsizes_of, tsize_of, node_with}
+use Rattle.unixfs_build.specs.Shards.{slot_at, in_slot, by_slot, slot_with, slots_with, shard_root, HoldsIn, AreShards}
 use Rattle.unixfs_build.specs.declared.layout.Attributes.{Attributes}
 use Rattle.unixfs_build.proofs.Slotting.{is_same, by_slot_long, by_slot_at, slot_first, slot_below}
 

@@ -1,6 +1,6 @@
 -- The entries of a shard, slot by slot.
-use Rattle.std.proofs.Common.{◌≡◌, ◌<◌, ◌≤◌, ◌+◌, ◌-◌, ◌/◌, ◌%◌, ◌^◌, ℕ, zero, suc, true, false, List, [], ◌∷◌, ◌++◌, length, map, Some, None, refl, sym, ap, subst, ◌∙◌, arith, inl, inr, take, drop, replicate}
-use Rattle.std.specs.Prelude.{◌⊎◌, ◌==◌, ◌≢◌, cond, Bool, filter, slice_index, slice_index_or, slice_set}
+use Rattle.std.proofs.Common.{◌≡◌, ◌<◌, ◌≤◌, ◌+◌, ◌-◌, ◌/◌, ◌%◌, ◌^◌, ℕ, zero, suc, true, false, List, [], ◌∷◌, ◌++◌, length, map, refl, sym, ap, subst, ◌∙◌, arith, inl, inr, take, drop, replicate}
+use Rattle.std.specs.Prelude.{◌==◌, cond, Bool, filter, slice_index, slice_index_or, slice_set}
 use Rattle.std.specs.List.{All}
 use Rattle.std.specs.Int.{w64, to_be_bytes, byte_at, bytes_high_first}
 use Rattle.std.proofs.Math.Seq.{take-suc, take-length, drop-cons}
@@ -9,7 +9,7 @@ use Rattle.std.proofs.lemmas.Bool.Decides.{nat_tests}
 use Rattle.std.proofs.lemmas.List.{append-nil, map-append}
 use Rattle.std.proofs.lemmas.List.Elements.{filter-append, All-filter, All-head, All-tail}
 use Rattle.murmur3.specs.Murmur3.{murmur3_x64}
-use Rattle.unixfs_folders.specs.Folders.{EntryParts, SlotParts, AreSlots, Has, Lacks, hash_of}
+use Rattle.unixfs_folders.specs.Folders.{EntryParts, SlotParts, AreSlots, hash_of}
 use Rattle.unixfs_folders.specs.Listing.{IsLedTo}
 use Rattle.unixfs_folders.specs.Names.{is_entry_name}
 use Rattle.unixfs_build.specs.Nodes.{MadeNode}

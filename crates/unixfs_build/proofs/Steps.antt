@@ -10,7 +10,7 @@ use Rattle.std.proofs.lemmas.List.{drop_more, drop-set, length-take, length-map}
 use Rattle.unixfs_build.specs.Blocks.{Built, BuiltBlock, node_of, node_over, no_attributes, Holds}
 use Rattle.unixfs_build.specs.Faults.{IsBlockFault}
 use Rattle.unixfs_build.specs.Levels.{added, AddFault, no_memory, of_full, upper, LastFault, no_room, of_root, of_node, higher, Wait}
-use Rattle.unixfs_build.specs.Roots.{HasNode, IsRootOver, EndsInRoot}
+use Rattle.unixfs_build.specs.Roots.{HasNode, EndsInRoot}
 use Rattle.unixfs_build.specs.Views.{built}
 use Rattle.unixfs_build.specs.declared.block.BuiltPart.{BuiltPart}
 use Rattle.unixfs_build.specs.declared.error.BuildError.{BuildError}

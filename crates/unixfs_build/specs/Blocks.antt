@@ -1,11 +1,11 @@
 -- The blocks of a file (UnixFS specification; DAG-PB specification) that `ipfs add` makes: each
 -- varint is the shortest, each link has an empty name and its Tsize, and a message has its filesize.
-use Rattle.std.specs.Prelude.{◌≡◌, ◌⊎◌, ◌+◌, ◌≤◌, ◌^◌, ℕ, Bool, List, [], ◌∷◌, length, map, sum, option_map, is_none, Option, Some, None, if◌then◌else◌, ◌&&◌}
+use Rattle.std.specs.Prelude.{◌⊎◌, ◌+◌, ◌≤◌, ◌^◌, ℕ, Bool, List, [], ◌∷◌, length, map, sum, option_map, is_none, Option, Some, None, if◌then◌else◌, ◌&&◌}
 use Rattle.sha2.specs.Sha256.{sha256}
 use Rattle.ipld_block.specs.Digest.{digest_by}
 use Rattle.ipld_cid.specs.Cid.{Link}
 use Rattle.ipld_cid.specs.declared.cid.Version.{Version}
-use Rattle.ipld_cid.specs.declared.cid.Version.TheVariants.{V0, V1}
+use Rattle.ipld_cid.specs.declared.cid.Version.TheVariants.{V1}
 use Rattle.dag_pb.specs.Node.{LinkParts}
 use Rattle.dag_pb.specs.Writing.{node_bytes}
 use Rattle.unixfs.specs.declared.data.DataType.TheVariants.{File}

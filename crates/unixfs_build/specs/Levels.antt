@@ -1,11 +1,11 @@
 -- The parts that wait for a node, level by level. The lowest level is the first.
-use Rattle.std.specs.Prelude.{◌≡◌, ◌<◌, ◌≤◌, ℕ, suc, nat_lt, if◌then◌else◌, List, [], ◌∷◌, ◌++◌, length, map}
+use Rattle.std.specs.Prelude.{◌≡◌, ◌<◌, ◌≤◌, suc, nat_lt, if◌then◌else◌, List, [], ◌∷◌, ◌++◌, length}
 use Rattle.std.specs.List.{All}
 use Rattle.unixfs_build.specs.Blocks.{Built, BuiltBlock, node_of, node_over, no_attributes}
 use Rattle.unixfs_build.specs.Faults.{IsBlockFault}
 use Rattle.unixfs_build.specs.Roots.{IsFullGroup, nodes_over, joined}
 use Rattle.unixfs_build.specs.declared.error.BuildError.{BuildError}
-use Rattle.unixfs_build.specs.declared.error.BuildError.TheVariants.{Memory, TooLarge}
+use Rattle.unixfs_build.specs.declared.error.BuildError.TheVariants.{Memory}
 use Rattle.unixfs_build.specs.declared.layout.Attributes.{Attributes}
 use Rattle.unixfs_build.specs.declared.layout.Layout.{Layout}
 

@@ -1,7 +1,6 @@
 -- The nodes of plain folders, of shards and of symbolic links (UnixFS specification; DAG-PB
 -- specification): each varint is the shortest, and a message has no field that its type doesn't need.
-use Rattle.std.specs.Prelude.{◌≡◌, ◌+◌, ℕ, List, [], length, map, sum, option_map, unwrap_or, Option, Some, None}
-use Rattle.ipld_block.specs.Digest.{digest_by}
+use Rattle.std.specs.Prelude.{◌+◌, ℕ, List, [], length, map, sum, option_map, unwrap_or, Option, Some, None}
 use Rattle.ipld_cid.specs.Cid.{Link}
 use Rattle.ipld_cid.specs.declared.cid.Version.{Version}
 use Rattle.dag_pb.specs.Node.{LinkParts}
@@ -9,8 +8,6 @@ use Rattle.dag_pb.specs.Writing.{node_bytes}
 use Rattle.unixfs.specs.declared.data.DataType.{DataType}
 use Rattle.unixfs.specs.declared.data.DataType.TheVariants.{Directory, Symlink, HamtShard}
 use Rattle.unixfs.specs.Data.{DataParts}
-use Rattle.unixfs.specs.Files.{IsBlockOf}
-use Rattle.unixfs.specs.Nodes.{IsParsed}
 use Rattle.unixfs.specs.Views.{parts_of_time}
 use Rattle.unixfs.specs.Writing.{data_bytes}
 use Rattle.unixfs_folders.specs.Folders.{EntryParts, SlotParts, link_of_entry, link_of_slot, bit_field}
@@ -81,13 +78,3 @@ shard_message attributes slots = message_with attributes HamtShard (Some (bit_fi
 -- the node of a shard with these slots
 abbrev pub shard_node : Version → Attributes → List SlotParts → MadeNode
 shard_node version attributes slots = node_with version (shard_message attributes slots) (map link_of_slot slots)
-
--- True if whoever reads a block of the CID finds that it is a symbolic link to this target.
-pub record IsSymlink (link : Link) (target : List ℕ) : Type 0 where
-  pub block : List ℕ
-  pub message : DataParts
-  pub is_dag_pb : link.codec ≡ 0x70
-  pub is_block : IsBlockOf digest_by link block
-  pub is_parsed : IsParsed block [] message
-  pub is_symlink : message.data_type ≡ Symlink
-  pub is_target : message.content ≡ Some target

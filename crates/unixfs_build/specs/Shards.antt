@@ -1,7 +1,7 @@
 -- The shards of a folder (UnixFS specification, "HAMTDirectory"). At each depth a byte of the hash of
 -- its name says in which of 256 slots an entry is. A slot with one entry leads to it, and a slot with
 -- more leads to a shard of these, one byte deeper.
-use Rattle.std.specs.Prelude.{◌≡◌, ◌⊎◌, ◌+◌, ◌-◌, ◌==◌, ℕ, zero, suc, true, List, [], ◌∷◌, ◌++◌, length, filter, flat_map, slice_index, Option, Some, None}
+use Rattle.std.specs.Prelude.{◌≡◌, ◌⊎◌, ◌+◌, ◌-◌, ◌==◌, ℕ, zero, suc, true, List, [], ◌∷◌, ◌++◌, length, filter, flat_map, slice_index, Some, None}
 use Rattle.std.specs.List.{All}
 use Rattle.ipld_block.specs.Digest.{digest_by}
 use Rattle.ipld_cid.specs.declared.cid.Version.{Version}

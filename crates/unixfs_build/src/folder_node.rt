@@ -7,10 +7,11 @@ ghost use Rattle.dag_pb.specs.Views.{parts_of_link, parts_of_link_buf};
 ghost use Rattle.dag_pb.specs.Writing.{misplaced_link};
 ghost use Rattle.unixfs.specs.Nodes.{IsParsed};
 ghost use Rattle.unixfs.specs.Views.{parts_of};
+ghost use Rattle.unixfs_folders.specs.FileTrees.{IsSymlink};
 ghost use Rattle.unixfs_folders.specs.Folders.{link_of_entry, link_of_slot, AreEntries, AreSlots, plain, NamesFolder, IsShard};
 ghost use Rattle.unixfs_folders.specs.Names.{digit, digits};
 ghost use Rattle.unixfs_folders.specs.Views.{slot_parts};
-ghost use Rattle.unixfs_build.specs.Nodes.{tsize_of, tsizes_of, node_with, message_with, plain_node, symlink_node, shard_node, IsSymlink};
+ghost use Rattle.unixfs_build.specs.Nodes.{tsize_of, tsizes_of, node_with, message_with, plain_node, symlink_node, shard_node};
 ghost use Rattle.unixfs_build.specs.Packing.{IsNodeFault};
 ghost use Rattle.unixfs_build.specs.Views.{entry_of, made};
 
@@ -194,7 +195,7 @@ pub fn build_symlink(
 ) -> Result<NodeBlock, BuildError>
     ensures exact { IfOk result (λ block. made block
         ≡ symlink_node version attributes.now target.now) }
-    ensures target { IfOk result (λ block. IsSymlink (link_of block.cid) target.now) }
+    ensures target { IfOk result (λ block. IsSymlink digest_by (link_of block.cid) target.now) }
     ensures fault { IfErr result (IsNodeFault attributes.now
         (symlink_node version attributes.now target.now)) }
 {

@@ -7,4 +7,5 @@ mod Visiting
 mod Listings
 mod Differing
 mod Answering
+mod FileTrees
 mod Bits

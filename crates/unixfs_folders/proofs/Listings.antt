@@ -7,7 +7,7 @@ use Rattle.ipld_cid.specs.Cid.{Link}
 use Rattle.dag_pb.specs.Node.{LinkParts}
 use Rattle.pb_wire.proofs.Steps.{same_ok}
 use Rattle.unixfs.specs.Data.{DataParts}
-use Rattle.unixfs.specs.Files.{Hashing, Collision}
+use Rattle.unixfs.specs.Files.{Hashing, IsBlockOf, Collision}
 use Rattle.unixfs.specs.Nodes.{UnixFsParts, IsParsed}
 use Rattle.unixfs_folders.specs.Folders.{EntryParts, SlotParts, FolderParts, plain, shard, IsFolderOf, IsFolder, NamesFolder, Has, HasLink, hash_of, Leads, leads_here, leads_below, IsPlainEntry, HasEntry}
 use Rattle.unixfs_folders.specs.Listing.{Waiting, from_root, IsLedTo, AllStand, and_entry, entries_of, and_shard, shards_of, IsVisit, Lists, lists_none, lists_more}
@@ -30,24 +30,33 @@ folder_once one block f g is also =
     folder_of_once also.links also.message f g
     (subst (λ (ls : List LinkParts). IsFolderOf ls also.message f) parsed.0 (subst (λ (d : DataParts). IsFolderOf is.links d f) parsed.1 is.is_folder)) also.is_folder
 
--- a CID names one folder, or there is a collision
-pub named_once : OneParse → (h : Hashing) (link : Link) (f g : FolderParts) → NamesFolder h link f → NamesFolder h link g → (f ≡ g) ⊎ Collision h
-named_once one h link f g (block, is) (other, also) =
-    elim (cases_Bool (bytes_eq block other)) [
-      | inl same ↦
-          let e = (bytes_eq-Decides block other).0 same in
-          inl (folder_once one other f g (subst (λ (b : List ℕ). IsFolder b f) e is.is_folder) also.is_folder)
+-- what follows from one of two things, unless there is a collision
+pub either : {A B C : Type 0} → A ⊎ C → (A → B ⊎ C) → B ⊎ C
+either (inl a) f = f a
+either (inr c) f = inr c
+
+-- a CID has one block, or there is a collision
+pub one_block : (h : Hashing) (link : Link) (a b : List ℕ) → IsBlockOf h link a → IsBlockOf h link b → (a ≡ b) ⊎ Collision h
+one_block h link a b has has_too =
+    elim (cases_Bool (bytes_eq a b)) [
+      | inl same ↦ inl ((bytes_eq-Decides a b).0 same)
       | inr differ ↦
           inr (record {
             code = link.code;
             digest = link.digest;
-            block = block;
-            other = other;
-            differ = λ same. let test = (bytes_eq-Decides block other).1 same in let clash : true ≡ false = sym test ∙ differ in absurd cc;
-            has = is.is_block;
-            has_too = also.is_block;
+            block = a;
+            other = b;
+            differ = λ same. let test = (bytes_eq-Decides a b).1 same in let clash : true ≡ false = sym test ∙ differ in absurd cc;
+            has = has;
+            has_too = has_too;
           })
     ]
+
+-- a CID names one folder, or there is a collision
+pub named_once : OneParse → (h : Hashing) (link : Link) (f g : FolderParts) → NamesFolder h link f → NamesFolder h link g → (f ≡ g) ⊎ Collision h
+named_once one h link f g (block, is) (other, also) =
+    either (one_block h link block other is.is_block also.is_block) (λ same.
+    inl (folder_once one other f g (subst (λ (b : List ℕ). IsFolder b f) same is.is_folder) also.is_folder))
 
 -- ---- hashes
 

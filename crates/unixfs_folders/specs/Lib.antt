@@ -10,4 +10,6 @@ pub mod Listing
 pub mod Paths
 pub mod Walks
 pub mod Laws
+pub mod FileTrees
 pub mod ErrorNames
+pub mod SymlinkTargets

@@ -38,7 +38,7 @@ LooksIn hashing root state = (at : Link) × (state.wanted ≡ Some at) × Descen
 abbrev pub Answers : Hashing → (old new : LookupParts) → LookupStep → Type 0
 Answers hashing old new (Found cid) = (new.wanted ≡ None) × ((root : Link) → LooksIn hashing root old → HasEntry hashing root old.name (link_of cid))
 Answers hashing old new Missing = (new.wanted ≡ None) × ((root : Link) → LooksIn hashing root old → HasNoEntry hashing root old.name)
-Answers hashing old new Below = (root : Link) → LooksIn hashing root old → LooksIn hashing root new
+Answers hashing old new Below = (new.depth ≡ suc old.depth) × ((root : Link) → LooksIn hashing root old → LooksIn hashing root new)
 
 -- True if this is the reason why a search doesn't take a block.
 abbrev pub IsLookupFault : LookupParts → List ℕ → FolderErrorKind → Type 0

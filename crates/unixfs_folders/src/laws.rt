@@ -3,11 +3,12 @@
 ghost use Rattle.std.specs.Prelude.{◌≡◌, ◌⊎◌, ℕ, List, []};
 ghost use Rattle.ipld_cid.specs.Cid.{Link};
 ghost use Rattle.unixfs.specs.Files.{Hashing, Collision};
-ghost use Rattle.unixfs_folders.specs.Folders.{EntryParts, SlotParts, AreSlots, Has, HasEntry, HasNoEntry, bit_field};
+ghost use Rattle.unixfs_folders.specs.FileTrees.{FileTree, folder, Members, AreSame, NamesTree, AreOf};
+ghost use Rattle.unixfs_folders.specs.Folders.{EntryParts, SlotParts, AreSlots, Has, Lacks, HasEntry, HasNoEntry, bit_field};
 ghost use Rattle.unixfs_folders.specs.Laws.{AllDiffer, number_of, bits_of, HasNoZeros};
 ghost use Rattle.unixfs_folders.specs.Listing.{Waiting, Lists};
 
-use unixfs::laws::parsed_law;
+use unixfs::laws::{content_law, parsed_law};
 
 /// States the laws of entries. A call does nothing.
 ///
@@ -45,6 +46,33 @@ pub fn listing_law()
         (remain : List Waiting) → Lists hashing root listed remain → AllDiffer listed }
 {
     parsed_law();
+}
+
+/// States the laws of trees of files, folders and symbolic links. A call does nothing.
+///
+/// - A CID names at most one tree: the same bytes, targets and names, unless two blocks that differ
+///   have one digest.
+/// - A folder that is made names the tree of its entries: it has each of them, and no other.
+/// - A listing that is at its end gives the tree that the folder names.
+///
+/// So what is unpacked is what was packed. Each is a tree that the root names: files by
+/// [`content_law`], symbolic links by their nodes, and folders by the last two of these laws.
+pub fn tree_law()
+    ensures one_tree { (hashing : Hashing) (root : Link) (tree other : FileTree)
+        → NamesTree hashing tree root → NamesTree hashing other root
+        → AreSame tree other ⊎ Collision hashing }
+    ensures made { (hashing : Hashing) (root : Link) (entries : List EntryParts)
+        (members : Members) → AreOf hashing entries members
+        → ((name : List ℕ) (target : Link) → Has entries name target
+        → HasEntry hashing root name target)
+        → ((name : List ℕ) → Lacks entries name → HasNoEntry hashing root name)
+        → NamesTree hashing (folder members) root }
+    ensures listed { (hashing : Hashing) (root : Link) (listed : List EntryParts)
+        (members : Members) → Lists hashing root listed [] → AreOf hashing listed members
+        → NamesTree hashing (folder members) root }
+{
+    parsed_law();
+    content_law();
 }
 
 /// States the laws of bit fields. A call does nothing.

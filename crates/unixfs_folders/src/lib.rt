@@ -33,6 +33,7 @@ mod lookup;
 mod names;
 mod path;
 mod saying;
+mod symlink_target;
 #[cfg(test)]
 mod tests;
 mod visit;
@@ -42,4 +43,5 @@ pub use error::FolderErrorKind;
 pub use folder::{Folder, FolderEntry, ShardLink, bit_field, comes_after, read_folder};
 pub use lookup::{Lookup, LookupStep};
 pub use names::is_entry_name;
+pub use symlink_target::stays_inside;
 pub use walk::FolderWalk;

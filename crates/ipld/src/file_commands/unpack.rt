@@ -10,7 +10,7 @@ use ipld_block::verify;
 use ipld_cid::{Cid, DAG_PB};
 use ipld_cli::{
     CarStore, Escaped, MOST_SECTIONS, NamedCid, NewFolder, Outcome, OutputError, complain, report,
-    report_out_of_memory, report_unwritable, stays_inside,
+    report_out_of_memory, report_unwritable,
 };
 use std::alloc::Global;
 use std::cell::Cell;
@@ -23,7 +23,7 @@ use unixfs::{Data, DataType, UnixTime, read_unixfs};
 use unixfs_files::{
     BlockStore, FileError, FileErrorKind, FileLimits, FileRange, PartError, write_file,
 };
-use unixfs_folders::FolderWalk;
+use unixfs_folders::{FolderWalk, stays_inside};
 
 // How many bytes are written at most by default, and how many each entry counts for beside its
 // bytes.

@@ -1,4 +1,4 @@
-use Rattle.std.proofs.Common.{◌≡◌, map, drop, option_map, None}
+use Rattle.std.proofs.Common.{map, drop, option_map, None}
 use Rattle.unixfs_folders.specs.Folders.{AreEntries}
 use Rattle.unixfs_build.specs.Packing.{IsNameFault}
 use Rattle.unixfs_build.specs.Views.{entry_of}

@@ -1,4 +1,4 @@
-use Rattle.std.proofs.Common.{List, ℕ, arith, map, refl, ap, subst, sym, ◌∙◌}
+use Rattle.std.proofs.Common.{List, ℕ, arith, map, refl, ap, subst, ◌∙◌}
 use Rattle.unixfs.specs.Nodes.{IsParsed}
 use Rattle.unixfs_build.specs.Blocks.{link_to, file_message, sha_link}
 use Rattle.unixfs_build.specs.Faults.{not_encoded, too_large}

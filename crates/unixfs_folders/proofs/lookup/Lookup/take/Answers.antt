@@ -1,4 +1,4 @@
-use Rattle.std.proofs.Common.{refl, subst, sym, ap}
+use Rattle.std.proofs.Common.{refl, subst, sym, ap, add-one}
 use Rattle.ipld_block.specs.Digest.{digest_by}
 use Rattle.ipld_cid.specs.Cid.{Link}
 use Rattle.ipld_cid.specs.LinkOf.{link_of}
@@ -32,14 +32,17 @@ returns-in-Ok-Nothing-clause-answers c =
     )
 
 pub returns-in-Ok-Deeper-clause-answers : goal.returns-in-Ok-Deeper-clause-answers
-returns-in-Ok-Deeper-clause-answers c = λ root looks.
+returns-in-Ok-Deeper-clause-answers c =
     let self = c.args.self.now in
     let next = link_of c.in-Ok-Deeper.next in (
-      next,
-      refl,
-      one_deeper digest_by root self.name.now self.depth next
-          (deeper_said digest_by root (link_of c.in-Some.at) self.name.now self.depth c.args.block.now next self.in_range (subst (λ (s : Saying). Says digest_by (link_of c.in-Some.at) self.name.now self.depth c.args.block.now s) (ap saying_of c.in-Ok-Deeper.field-0-is) c.in-Ok-Deeper.ensures.found)
-          (subst (λ (l : Link). Descends digest_by root self.name.now self.depth l) (sym (at_is self.wanted c.in-Some.at looks.0 c.in-Some.is looks.1)) looks.2)),
+      add-one self.depth,
+      λ root looks. (
+        next,
+        refl,
+        one_deeper digest_by root self.name.now self.depth next
+            (deeper_said digest_by root (link_of c.in-Some.at) self.name.now self.depth c.args.block.now next self.in_range (subst (λ (s : Saying). Says digest_by (link_of c.in-Some.at) self.name.now self.depth c.args.block.now s) (ap saying_of c.in-Ok-Deeper.field-0-is) c.in-Ok-Deeper.ensures.found)
+            (subst (λ (l : Link). Descends digest_by root self.name.now self.depth l) (sym (at_is self.wanted c.in-Some.at looks.0 c.in-Some.is looks.1)) looks.2)),
+      ),
     )
 
 pub returns-in-Err-clause-only : goal.returns-in-Err-clause-only

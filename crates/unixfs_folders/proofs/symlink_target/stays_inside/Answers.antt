@@ -1,9 +1,9 @@
-use Rattle.std.proofs.Common.{◌≡◌, ℕ, ◌<◌, ◌==◌, true, List, [], ◌∷◌, length, Option, Some, None, is_some, refl, sym, ap, ◌∙◌, rules, arith}
+use Rattle.std.proofs.Common.{◌≡◌, ℕ, ◌<◌, ◌==◌, true, List, ◌∷◌, length, Option, Some, None, is_some, refl, sym, ap, ◌∙◌, rules, arith}
 use Rattle.std.specs.List.{position_or_len, before_first, after_first}
 use Rattle.ipld_tree.specs.Path.{parts_of}
 use Rattle.ipld_tree.proofs.Paths.{cut_at, not_cut}
-use Rattle.ipld_cli.specs.SymlinkTargets.{levels_after, if_left, stays_below}
-use Rattle.ipld_cli.proofs.symlink_target.stays_inside.Goals as goal
+use Rattle.unixfs_folders.specs.SymlinkTargets.{levels_after, if_left, stays_below}
+use Rattle.unixfs_folders.proofs.symlink_target.stays_inside.Goals as goal
 
 -- a path with a slash: its first segment, and then the path behind it
 step : (path front back : List ℕ) (levels : ℕ) → (front ≡ before_first (λ b. b == 47) path) × (back ≡ after_first (λ b. b == 47) path) × (position_or_len (λ b. b == 47) path < length path)

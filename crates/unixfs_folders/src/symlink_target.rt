@@ -1,7 +1,7 @@
 //! The targets of symbolic links.
 
 ghost use Rattle.std.specs.Prelude.{◌≡◌};
-ghost use Rattle.ipld_cli.specs.SymlinkTargets as targets;
+ghost use Rattle.unixfs_folders.specs.SymlinkTargets as targets;
 
 // Returns how many folders up a path may lead behind this segment, if it may lead up `levels`
 // folders before it. Returns `None` if the segment leads too far.
