@@ -7,5 +7,9 @@ pub mod PbTapes
 pub mod CarLengths
 pub mod CarParts
 pub mod CarFronts
-pub mod FilePlaces
+pub mod Places
 pub mod Files
+pub mod FolderRows
+pub mod Lookups
+pub mod FolderRoom
+pub mod FolderErrors

@@ -1,39 +1,38 @@
--- The results of the exports about files. `old` and `new` are the walk of a handle before a call and
--- after it, if the handle has one.
-use Rattle.std.specs.Prelude.{◌≡◌, ◌⊎◌, ◌<◌, ℕ, List, [], ◌∷◌, length, Option, Some, None, MatchOption, IsSomeAnd}
+-- The results of the exports about files. `old` and `new` are what a handle holds before a call and
+-- after it, if it holds anything.
+use Rattle.std.specs.Prelude.{◌≡◌, ◌⊎◌, ℕ, List, [], ◌∷◌, length, Option, Some, None}
 use Rattle.ipld_cid.specs.Cid.{Link}
-use Rattle.unixfs.specs.Files.{whole, everything}
+use Rattle.unixfs.specs.Files.{whole}
 use Rattle.unixfs_files.specs.declared.error.PartError.{PartError}
 use Rattle.unixfs_files.specs.declared.state.FileLimits.{FileLimits}
+use Rattle.unixfs_files.specs.declared.state.FileRange.{FileRange}
 use Rattle.unixfs_files.specs.declared.state.FileWalk.{FileWalk}
-use Rattle.unixfs_files.specs.Walking.{range_of, parts_left, remain_of, wanted_of, HaveLevel, Takes, Counts, Stays, WalkFault}
-use Rattle.kombilad_c.specs.declared.cid_record.CidBytes.{CidBytes}
-use Rattle.kombilad_c.specs.CidRecord.{record_of}
+use Rattle.unixfs_files.specs.Walking.{range_of, parts_left, remain_of, HaveLevel, Takes, Counts, Stays, WalkFault}
+use Rattle.kombilad_c.specs.declared.held.Held.{Held}
+use Rattle.kombilad_c.specs.declared.held.Held.TheVariants.{File, Folder}
 use Rattle.kombilad_c.specs.Fill.{Variable, IsFilled, IsTooShort, IsUntouched}
 use Rattle.kombilad_c.specs.Status.{file_status, file_place}
 
--- True if a walk has yet to take the whole file of the root, within these limits.
-pub record IsAtRoot (root : Link) (limits : FileLimits) (walk : FileWalk) : Type 0 where
+-- True if a walk has yet to take this range of the file of the root, within these limits.
+pub record IsAtRoot (root : Link) (range : FileRange) (limits : FileLimits) (walk : FileWalk) : Type 0 where
   pub remains : remain_of walk ≡ whole root ∷ []
   pub top : HaveLevel 0 (parts_left walk)
-  pub range : range_of walk.range ≡ everything
+  pub in_range : range_of walk.range ≡ range_of range
   pub within : walk.limits ≡ limits
   pub bytes : walk.bytes_left ≡ limits.bytes
   pub blocks : walk.blocks_left ≡ limits.blocks
 
--- True if the handle has a walk that begins at the root, and the status is 0. Or an allocation
--- failed, and the walk is as before.
-abbrev pub BeginsFile : Link → FileLimits → (status : ℕ) → (old new : Option FileWalk) → Type 0
-BeginsFile root limits status old new =
-    ((status ≡ 0) × IsSomeAnd new (IsAtRoot root limits)) ⊎ ((status ≡ 1) × (new ≡ old))
+-- True if the handle holds a walk over a file that satisfies `Q`.
+abbrev pub HoldsFile : Option Held → (FileWalk → Type 0) → Type 0
+HoldsFile None Q = ⊥
+HoldsFile (Some (File walk)) Q = Q walk
+HoldsFile (Some (Folder walk)) Q = ⊥
 
--- True if the CID of the first block that remains is written, and the status is 0. Or no block
--- remains (status 192) or the handle has no walk (status 193), and nothing is written.
-abbrev pub WantsBlock : Option FileWalk → (status : ℕ) → (before after : CidBytes) → Type 0
-WantsBlock None status before after = (status ≡ 193) × (after ≡ before)
-WantsBlock (Some walk) status before after =
-    MatchOption (wanted_of (remain_of walk)) ((status ≡ 192) × (after ≡ before))
-    (λ link. (status ≡ 0) × (after ≡ record_of link))
+-- True if the handle holds a walk that begins at the root, and the status is 0. Or an allocation
+-- failed, and the handle is as before.
+abbrev pub BeginsFile : Link → FileRange → FileLimits → (status : ℕ) → (old new : Option Held) → Type 0
+BeginsFile root range limits status old new =
+    ((status ≡ 0) × HoldsFile new (IsAtRoot root range limits)) ⊎ ((status ≡ 1) × (new ≡ old))
 
 -- True if a walk took a block with these bytes of the file, they are at the beginning of the buffer,
 -- and the status is 0.
@@ -64,13 +63,17 @@ TakesBlock old new block status bytes needed offset =
     ⊎ Refuses old new block status bytes needed offset
     ⊎ ((status ≡ 2) × IsTooShort block bytes.before bytes.after × (needed.after ≡ length block) × (new ≡ old) × (offset.after ≡ offset.before))
 
--- True if this is the result for the walk of a handle. If the handle has no walk, the status is 193
--- and nothing is written.
+-- True if the handle holds no walk over a file: the status is 193, and nothing is written.
+abbrev pub IsClosed : (old new : Option Held) → (status : ℕ) → Variable (List ℕ) → (needed offset : Variable ℕ) → Type 0
+IsClosed old new status bytes needed offset =
+    (status ≡ 193) × (new ≡ old) × IsUntouched bytes.before bytes.after needed.before needed.after × (offset.after ≡ offset.before)
+
+-- True if this is the result for what a handle holds.
 abbrev pub TakesFrom :
-    (old new : Option FileWalk) → (block : List ℕ) → (status : ℕ) → Variable (List ℕ) → (needed offset : Variable ℕ) → Type 0
-TakesFrom None new block status bytes needed offset =
-    (status ≡ 193) × (new ≡ None) × IsUntouched bytes.before bytes.after needed.before needed.after × (offset.after ≡ offset.before)
-TakesFrom (Some walk) new block status bytes needed offset = IsSomeAnd new (λ next. TakesBlock walk next block status bytes needed offset)
+    (old new : Option Held) → (block : List ℕ) → (status : ℕ) → Variable (List ℕ) → (needed offset : Variable ℕ) → Type 0
+TakesFrom None new block status bytes needed offset = IsClosed None new status bytes needed offset
+TakesFrom (Some (File walk)) new block status bytes needed offset = HoldsFile new (λ next. TakesBlock walk next block status bytes needed offset)
+TakesFrom (Some (Folder walk)) new block status bytes needed offset = IsClosed (Some (Folder walk)) new status bytes needed offset
 
 -- True if these bytes are at the beginning of the buffer, and the status is 0. Or an allocation
 -- failed.

@@ -1,7 +1,11 @@
 pub mod Status
 pub mod Fill
-pub mod FileHandle
+pub mod Handle
+pub mod Walk
 pub mod File
+pub mod Folder
+pub mod Lookup
+pub mod Node
 pub mod CidRecord
 pub mod Cid
 pub mod Block

@@ -24,6 +24,8 @@ use Rattle.unixfs.specs.declared.node.NodeError.{NodeError}
 use Rattle.unixfs.specs.declared.node.NodeError.TheVariants as node
 use Rattle.unixfs_files.specs.declared.error.PartError.{PartError}
 use Rattle.unixfs_files.specs.declared.error.PartError.TheVariants as file
+use Rattle.unixfs_folders.specs.declared.error.FolderErrorKind.{FolderErrorKind}
+use Rattle.unixfs_folders.specs.declared.error.FolderErrorKind.TheVariants as folder
 
 -- The status of an error of bytes that are not a CID, named in `bindings/c/kombilad.h`. No export
 -- returns 15.
@@ -194,3 +196,34 @@ node_place (node.Message error) = error.offset
 abbrev pub file_place : PartError → ℕ
 file_place (file.Node error) = node_place error
 file_place error = 0
+
+-- The status of an error of a block that is not taken for a folder, named in
+-- `bindings/c/kombilad.h`.
+abbrev pub folder_status : FolderErrorKind → ℕ
+folder_status folder.Memory = 1
+folder_status (folder.Codec code) = 224
+folder_status (folder.Verify error) = verify_status error
+folder_status (folder.Node error) = node_status error
+folder_status (folder.NotFolder data_type) = 225
+folder_status folder.HashFunction = 226
+folder_status folder.Fanout = 227
+folder_status (folder.InvalidName index) = 228
+folder_status (folder.NameOrder index) = 229
+folder_status (folder.InvalidSlot index) = 230
+folder_status (folder.SlotOrder index) = 231
+folder_status folder.BitField = 232
+folder_status folder.NotShard = 233
+folder_status (folder.WrongSlot index) = 234
+folder_status folder.TooDeep = 235
+folder_status folder.Finished = 192
+
+-- The place of an error of a block that is not taken for a folder: the byte at which it is not a
+-- node, or the number of the link at fault, counted from 0. Other errors have the place 0.
+abbrev pub folder_place : FolderErrorKind → ℕ
+folder_place (folder.Node error) = node_place error
+folder_place (folder.InvalidName index) = index
+folder_place (folder.NameOrder index) = index
+folder_place (folder.InvalidSlot index) = index
+folder_place (folder.SlotOrder index) = index
+folder_place (folder.WrongSlot index) = index
+folder_place error = 0

@@ -132,8 +132,8 @@ part_sentence n = if n == 0 then Some (codes "more bytes of the CAR are needed")
 -- The sentences of the statuses from 192 on: a block that a walk over a file does not take
 abbrev pub file_sentence : ℕ → Option (List ℕ)
 file_sentence n =
-    if n == 0 then Some (codes "all blocks of the file were taken")
-    else if n == 1 then Some (codes "the walk over a file is not open")
+    if n == 0 then Some (codes "the walk has taken all its blocks")
+    else if n == 1 then Some (codes "the walk is not open, or is not over what the call reads")
     else if n == 2 then Some (codes "the codec of the CID is neither raw nor dag-pb")
     else if n == 3 then Some (codes "the node has no data")
     else if n == 4 then Some (codes "the node is a folder, a symbolic link or metadata, not a file")
@@ -160,6 +160,25 @@ message_sentence n =
     else if n == 8 then Some (codes "the nanoseconds of the node's time are not from 1 to 999999999")
     else None
 
+-- Why a block is not taken for a folder, by the status minus 224
+abbrev pub folder_sentence : ℕ → Option (List ℕ)
+folder_sentence n =
+    if n == 0 then Some (codes "a folder is a DAG-PB block, but the CID has another codec")
+    else if n == 1 then Some (codes "the node is not a folder")
+    else if n == 2 then Some (codes "the hash function of the shard is not murmur3-x64-64")
+    else if n == 3 then Some (codes "the shard does not have 256 slots")
+    else if n == 4 then Some (codes "an entry of the folder has an invalid name")
+    else if n == 5 then Some (codes "the name of an entry is repeated or out of order")
+    else if n == 6 then Some (codes "the name of a link in the shard does not begin with two hexadecimal digits")
+    else if n == 7 then Some (codes "a slot of the shard is repeated or out of order")
+    else if n == 8 then Some (codes "the bit field of the shard is not that of its slots")
+    else if n == 9 then Some (codes "a plain folder is below a shard")
+    else if n == 10 then Some (codes "the hash of a name leads to another slot of the shard")
+    else if n == 11 then Some (codes "the folder has more than eight levels of shards")
+    else if n == 12 then Some (codes "the folder has no entry with this name")
+    else if n == 13 then Some (codes "the search needs one more block of the folder")
+    else None
+
 -- The sentence of the number `n` in a family, if it has one
 abbrev pub sentence_in : ℕ → ℕ → Option (List ℕ)
 sentence_in family n =
@@ -176,6 +195,7 @@ sentence_in family n =
     else if family == 11 then part_sentence n
     else if family == 12 then file_sentence n
     else if family == 13 then message_sentence n
+    else if family == 14 then folder_sentence n
     else None
 
 -- The sentence of a status, in ASCII and without a full stop.

@@ -9,50 +9,44 @@ ghost use Rattle.unixfs_files.specs.declared.state.FileWalk as walks;
 ghost use Rattle.unixfs_files.specs.declared.state.WaitingPart.{WaitingPart};
 ghost use Rattle.unixfs_files.specs.Parts.{Part, IsPartIn};
 ghost use Rattle.unixfs_files.specs.Walking.{range_of, parts_left, excess};
+ghost use Rattle.kombilad_c.specs.declared.held.Held.TheVariants as holding;
 ghost use Rattle.kombilad_c.specs.Status as numbers;
-ghost use Rattle.kombilad_c.specs.File.{BeginsFile, WantsBlock, TakesBlock, TakesFrom, IsTaken};
+ghost use Rattle.kombilad_c.specs.File.{BeginsFile, TakesBlock, TakesFrom, IsTaken};
 
-use crate::cid_record::CidBytes;
-use crate::file_handle::FileHandle;
 use crate::fill::fill;
-use crate::status::{FILE_CLOSED, FILE_DONE, MEMORY, OK, TOO_SHORT, cid_status, stop_file};
+use crate::handle::Handle;
+use crate::held::Held;
+use crate::status::{TOO_SHORT, WALK_CLOSED, cid_status, stop_file};
 use ipld_cid::Cid;
 use std::alloc::Global;
 use unixfs_files::{FileLimits, FileRange, FileWalk};
 
-// Begins a walk. Frees the walk that the handle had.
-fn begin(alloc: Global, root: &Cid, limits: &FileLimits, file: &mut FileHandle) -> u32
-    ensures { BeginsFile (link_of root.now) limits.now result file.old.place.walk
-        file.new.place.walk }
-{
-    match Box::new(alloc, FileWalk::new(alloc, root, FileRange::WHOLE, limits)) {
-        Ok(walk) => {
-            drop(file.take_walk(alloc));
-            file.put_walk(walk);
-            OK
-        }
-        Err(_) => MEMORY,
-    }
-}
-
-/// Begins a walk over the file of the CID that the bytes encode. Frees the walk that the handle had.
+/// Begins a walk over at most `count` bytes, from the byte `start` on, of the file of the CID that
+/// the bytes encode. Frees what the handle held.
 #[unsafe(no_mangle)]
 pub extern "C" fn kombilad_file_new(
     alloc: Global,
     root: &[u8],
+    start: u64,
+    count: u64,
     bytes: u64,
     blocks: u64,
     waiting: usize,
     levels: usize,
-    file: &mut FileHandle,
+    walk: &mut Handle,
 ) -> u32
     ensures { MatchResult (read_cid 64 root.now)
         (λ link. BeginsFile link
+        (record { start = start; length = Some count })
         (record { bytes = bytes; blocks = blocks; waiting = waiting; levels = levels })
-        result file.old.place.walk file.new.place.walk)
+        result walk.old.place.held walk.new.place.held)
         (λ error. (result ≡ numbers.cid_status error)
-        × (file.new.place.walk ≡ file.old.place.walk)) }
+        × (walk.new.place.held ≡ walk.old.place.held)) }
 {
+    let range = FileRange {
+        start,
+        length: Some(count),
+    };
     let limits = FileLimits {
         bytes,
         blocks,
@@ -60,34 +54,11 @@ pub extern "C" fn kombilad_file_new(
         levels,
     };
     match Cid::try_from(root) {
-        Ok(root) => begin(alloc, &root, &limits, file),
+        Ok(root) => walk.hold(
+            alloc,
+            Held::File(FileWalk::new(alloc, &root, range, &limits)),
+        ),
         Err(error) => cid_status(error),
-    }
-}
-
-/// Writes the CID of the block that the walk wants next.
-#[unsafe(no_mangle)]
-pub extern "C" fn kombilad_file_wanted(
-    alloc: Global,
-    file: &mut FileHandle,
-    cid: &mut CidBytes,
-) -> u32
-    ensures wants { WantsBlock file.old.place.walk result cid.old cid.new }
-    ensures stays { file.new.place.walk ≡ file.old.place.walk }
-{
-    match file.take_walk(alloc) {
-        Some(walk) => {
-            let wanted = walk.wanted();
-            file.put_walk(walk);
-            match wanted {
-                Some(link) => {
-                    *cid = CidBytes::of(&link);
-                    OK
-                }
-                None => FILE_DONE,
-            }
-        }
-        None => FILE_CLOSED,
     }
 }
 
@@ -121,43 +92,63 @@ fn take_block(
     }
 }
 
-/// Gives the block that it wants to the walk, and copies the bytes of the file in it to the
-/// beginning of the buffer, which is at least as long as the block.
-#[unsafe(no_mangle)]
-pub extern "C" fn kombilad_file_take(
+// Gives a block to the walk over a file that a handle holds.
+fn take_held(
     alloc: Global,
-    file: &mut FileHandle,
+    held: &mut Held,
     block: &[u8],
     bytes: &mut [u8],
     needed: &mut usize,
     offset: &mut usize,
 ) -> u32
-    ensures exact { TakesFrom file.old.place.walk file.new.place.walk block.now result
+    ensures exact { TakesFrom (Some held.old) (Some held.new) block.now result
         (record { before = bytes.old; after = bytes.new })
         (record { before = needed.old; after = needed.new })
         (record { before = offset.old; after = offset.new }) }
-    ensures only { (walk : walks.FileWalk) (next : WaitingPart) (others : List WaitingPart)
-        (part : Part) → file.old.place.walk ≡ Some walk → parts_left walk ≡ next ∷ others
+    ensures only { (w : walks.FileWalk) (next : WaitingPart) (others : List WaitingPart)
+        (part : Part) → held.old ≡ holding.File w → parts_left w ≡ next ∷ others
         → IsBlockOf digest_by (link_of next.cid) block.now
         → IsPartIn (link_of next.cid).codec block.now part → part.size < 2 ^ 64
-        → excess walk next part.size (length part.children) ≡ None
+        → excess w next part.size (length part.children) ≡ None
         → length block.now ≤ length bytes.old
-        → IsTaken (slice (range_of walk.range) part.head) result bytes.old bytes.new needed.new }
+        → IsTaken (slice (range_of w.range) part.head) result bytes.old bytes.new needed.new }
 {
-    match file.take_walk(alloc) {
-        Some(mut walk) => {
-            let status = take_block(alloc, &mut walk, block, bytes, needed, offset);
-            file.put_walk(walk);
-            status
-        }
-        None => FILE_CLOSED,
+    match held {
+        Held::File(walk) => take_block(alloc, walk, block, bytes, needed, offset),
+        Held::Folder(_) => WALK_CLOSED,
     }
 }
 
-/// Frees the walk of a handle, if it has one.
+/// Gives the block that it wants to the walk, and copies the bytes of the file in it to the
+/// beginning of the buffer, which is at least as long as the block.
 #[unsafe(no_mangle)]
-pub extern "C" fn kombilad_file_free(alloc: Global, file: &mut FileHandle)
-    ensures { file.new.place.walk ≡ None }
+pub extern "C" fn kombilad_file_take(
+    alloc: Global,
+    walk: &mut Handle,
+    block: &[u8],
+    bytes: &mut [u8],
+    needed: &mut usize,
+    offset: &mut usize,
+) -> u32
+    ensures exact { TakesFrom walk.old.place.held walk.new.place.held block.now result
+        (record { before = bytes.old; after = bytes.new })
+        (record { before = needed.old; after = needed.new })
+        (record { before = offset.old; after = offset.new }) }
+    ensures only { (w : walks.FileWalk) (next : WaitingPart) (others : List WaitingPart)
+        (part : Part) → walk.old.place.held ≡ Some (holding.File w)
+        → parts_left w ≡ next ∷ others
+        → IsBlockOf digest_by (link_of next.cid) block.now
+        → IsPartIn (link_of next.cid).codec block.now part → part.size < 2 ^ 64
+        → excess w next part.size (length part.children) ≡ None
+        → length block.now ≤ length bytes.old
+        → IsTaken (slice (range_of w.range) part.head) result bytes.old bytes.new needed.new }
 {
-    drop(file.take_walk(alloc));
+    match walk.take(alloc) {
+        Some(mut held) => {
+            let status = take_held(alloc, &mut held, block, bytes, needed, offset);
+            walk.put(held);
+            status
+        }
+        None => WALK_CLOSED,
+    }
 }

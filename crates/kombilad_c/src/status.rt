@@ -14,6 +14,7 @@ use ipld_cid::CidError;
 use ipld_cid_text::TextError;
 use unixfs::{NodeError, UnixFsErrorKind};
 use unixfs_files::PartError;
+use unixfs_folders::FolderErrorKind;
 
 /// The call succeeded.
 pub(crate) const OK: u32 = 0;
@@ -40,10 +41,16 @@ pub(crate) const JSON_RESERVED_MAP: u32 = 169;
 
 /// More bytes of a CAR are needed.
 pub(crate) const CAR_MORE: u32 = 176;
-/// A walk has taken all blocks of its file.
-pub(crate) const FILE_DONE: u32 = 192;
-/// A handle has no walk.
-pub(crate) const FILE_CLOSED: u32 = 193;
+/// A walk has taken all its blocks.
+pub(crate) const WALK_DONE: u32 = 192;
+/// A handle holds no walk of this kind.
+pub(crate) const WALK_CLOSED: u32 = 193;
+/// The codec of a CID is neither raw nor dag-pb.
+pub(crate) const FILE_CODEC: u32 = 194;
+/// A folder has no entry with the name.
+pub(crate) const FOLDER_MISSING: u32 = 236;
+/// A search needs one more block of its folder.
+pub(crate) const FOLDER_MORE: u32 = 237;
 
 /// Returns the number of the reason why bytes are not a CID.
 pub(crate) fn cid_status(error: CidError) -> u32
@@ -239,8 +246,8 @@ fn message_status(kind: UnixFsErrorKind) -> u32
     }
 }
 
-// Returns the number of the reason why a block is not a node of UnixFS.
-fn node_status(error: NodeError) -> u32
+/// Returns the number of the reason why a block is not a node of UnixFS.
+pub(crate) fn node_status(error: NodeError) -> u32
     ensures { result ≡ numbers.node_status error }
 {
     match error {
@@ -257,7 +264,7 @@ fn file_status(error: PartError) -> u32
     match error {
         PartError::Memory => MEMORY,
         PartError::Verify(error) => verify_status(error),
-        PartError::Codec(_) => 194,
+        PartError::Codec(_) => FILE_CODEC,
         PartError::Node(error) => node_status(error),
         PartError::NotFile(_) => 196,
         PartError::SizeCount => 197,
@@ -267,13 +274,13 @@ fn file_status(error: PartError) -> u32
         PartError::TooManyBlocks => 201,
         PartError::TooDeep => 202,
         PartError::TooManyParts => 203,
-        PartError::Finished => FILE_DONE,
+        PartError::Finished => WALK_DONE,
     }
 }
 
-// Returns the byte at which a block is not a node of UnixFS: a byte of the block, or of the data of
-// the node.
-fn node_place(error: NodeError) -> usize
+/// Returns the byte at which a block is not a node of UnixFS: a byte of the block, or of the data of
+/// the node.
+pub(crate) fn node_place(error: NodeError) -> usize
     ensures { result ≡ numbers.node_place error }
 {
     match error {
@@ -294,4 +301,53 @@ pub(crate) fn stop_file(error: PartError, offset: &mut usize) -> u32
         _ => 0,
     };
     file_status(error)
+}
+
+// Returns the number of the reason why a block is not taken for a folder.
+fn folder_status(error: FolderErrorKind) -> u32
+    ensures { result ≡ numbers.folder_status error }
+{
+    match error {
+        FolderErrorKind::Memory => MEMORY,
+        FolderErrorKind::Codec(_) => 224,
+        FolderErrorKind::Verify(error) => verify_status(error),
+        FolderErrorKind::Node(error) => node_status(error),
+        FolderErrorKind::NotFolder(_) => 225,
+        FolderErrorKind::HashFunction => 226,
+        FolderErrorKind::Fanout => 227,
+        FolderErrorKind::InvalidName(_) => 228,
+        FolderErrorKind::NameOrder(_) => 229,
+        FolderErrorKind::InvalidSlot(_) => 230,
+        FolderErrorKind::SlotOrder(_) => 231,
+        FolderErrorKind::BitField => 232,
+        FolderErrorKind::NotShard => 233,
+        FolderErrorKind::WrongSlot(_) => 234,
+        FolderErrorKind::TooDeep => 235,
+        FolderErrorKind::Finished => WALK_DONE,
+    }
+}
+
+// Returns the byte at which a block is not a node, the number of the link at fault, or 0.
+fn folder_place(error: FolderErrorKind) -> usize
+    ensures { result ≡ numbers.folder_place error }
+{
+    match error {
+        FolderErrorKind::Node(error) => node_place(error),
+        FolderErrorKind::InvalidName(index) => index,
+        FolderErrorKind::NameOrder(index) => index,
+        FolderErrorKind::InvalidSlot(index) => index,
+        FolderErrorKind::SlotOrder(index) => index,
+        FolderErrorKind::WrongSlot(index) => index,
+        _ => 0,
+    }
+}
+
+/// Returns the number of the reason why a block is not taken for a folder, and writes the place of
+/// the error: the byte at which the block is not a node, the number of the link at fault, or 0.
+pub(crate) fn stop_folder(error: FolderErrorKind, place: &mut usize) -> u32
+    ensures status { result ≡ numbers.folder_status error }
+    ensures place { place.new ≡ numbers.folder_place error }
+{
+    *place = folder_place(error);
+    folder_status(error)
 }

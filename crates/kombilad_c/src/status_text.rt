@@ -3,7 +3,7 @@
 ghost use Rattle.std.specs.Prelude.{◌≡◌, option_map};
 ghost use Rattle.kombilad_c.specs.Fill.{Fills};
 ghost use Rattle.kombilad_c.specs.StatusText as sentences;
-ghost use Rattle.kombilad_c.specs.StatusText.{any_sentence, cid_sentence, text_sentence, block_sentence, link_sentence, car_sentence, digest_sentence, tape_sentence, pb_sentence, json_sentence, part_sentence, file_sentence, message_sentence, status_sentence};
+ghost use Rattle.kombilad_c.specs.StatusText.{any_sentence, cid_sentence, text_sentence, block_sentence, link_sentence, car_sentence, digest_sentence, tape_sentence, pb_sentence, json_sentence, part_sentence, file_sentence, message_sentence, folder_sentence, status_sentence};
 
 use crate::fill::fill;
 
@@ -194,13 +194,13 @@ fn part_text(number: u32) -> Option<&'static str>
     }
 }
 
-// Returns why a walk doesn't take a block of a file, by the status minus 192.
+// Returns why a walk doesn't take a block, by the status minus 192.
 fn file_text(number: u32) -> Option<&'static str>
     ensures { option_map (λ text. text.now) result ≡ file_sentence number }
 {
     let text = match number {
-        0 => "all blocks of the file were taken",
-        1 => "the walk over a file is not open",
+        0 => "the walk has taken all its blocks",
+        1 => "the walk is not open, or is not over what the call reads",
         2 => "the codec of the CID is neither raw nor dag-pb",
         3 => "the node has no data",
         4 => "the node is a folder, a symbolic link or metadata, not a file",
@@ -235,6 +235,30 @@ fn message_text(number: u32) -> Option<&'static str>
     Some(text)
 }
 
+// Returns why a block isn't taken for a folder, by the status minus 224.
+fn folder_text(number: u32) -> Option<&'static str>
+    ensures { option_map (λ text. text.now) result ≡ folder_sentence number }
+{
+    let text = match number {
+        0 => "a folder is a DAG-PB block, but the CID has another codec",
+        1 => "the node is not a folder",
+        2 => "the hash function of the shard is not murmur3-x64-64",
+        3 => "the shard does not have 256 slots",
+        4 => "an entry of the folder has an invalid name",
+        5 => "the name of an entry is repeated or out of order",
+        6 => "the name of a link in the shard does not begin with two hexadecimal digits",
+        7 => "a slot of the shard is repeated or out of order",
+        8 => "the bit field of the shard is not that of its slots",
+        9 => "a plain folder is below a shard",
+        10 => "the hash of a name leads to another slot of the shard",
+        11 => "the folder has more than eight levels of shards",
+        12 => "the folder has no entry with this name",
+        13 => "the search needs one more block of the folder",
+        _ => return None,
+    };
+    Some(text)
+}
+
 // Returns the sentence of a number in a family, if it has one.
 fn sentence_in(family: u32, number: u32) -> Option<&'static str>
     ensures { option_map (λ text. text.now) result ≡ sentences.sentence_in family number }
@@ -253,6 +277,7 @@ fn sentence_in(family: u32, number: u32) -> Option<&'static str>
         11 => part_text(number),
         12 => file_text(number),
         13 => message_text(number),
+        14 => folder_text(number),
         _ => None,
     }
 }

@@ -1,5 +1,5 @@
 -- `none` makes the place at null, which owns nothing.
-use Rattle.std.proofs.Common.{◌≡◌, List, [], ◌∷◌, refl, lit<}
+use Rattle.std.proofs.Common.{◌≡◌, [], ◌∷◌, refl, lit<}
 use Rattle.std.specs.Prelude.{None}
 use mir.Val.{Val}
 use base.Logic.{SProp, emp}
@@ -7,7 +7,7 @@ use contract.Monad.{fact, fact_i}
 use contract.Running.{tables}
 use types.Kit.{‵, raw, ◌⊛◌, ◌$◌, ◌∵◌, !, qed, by, keep, use0, split}
 use types.Run.{lit, no_more, and_then, returns, enter}
-use types.ByLocal.{alloc_all, pass_all, free_all, look_at, get, sets}
+use types.ByLocal.{alloc_all, pass_all, free_all, look_at, sets}
 use types.Part.{agg}
 use base.Fml.{ftrue}
 use denote.RawPtr.{null_ptr}
@@ -15,20 +15,20 @@ use denote.Steps.{nothing}
 use denote.Triple.Entry.{alive}
 use denote.Triple.Walked.{walk_of}
 use Rattle.std.proofs.raw_atomic.Walks.{proved, leaves}
-use Rattle.kombilad_c.proofs.FilePlaces.{Place, lone, place_in}
-use Rattle.kombilad_c.specs.contracts.file_handle.FilePlace.none.{ended, clauses}
-use Rattle.kombilad_c.specs.contracts.file_handle.FilePlace.none.Key.{name as #self}
-use Rattle.kombilad_c.proofs.file_handle.FilePlace.none.Statement.{statement}
-use Rattle.kombilad_c.proofs.file_handle.FilePlace.none.Code as code
+use Rattle.kombilad_c.proofs.Places.{Place, lone, place_in}
+use Rattle.kombilad_c.specs.contracts.handle.Place.none.{ended, clauses}
+use Rattle.kombilad_c.specs.contracts.handle.Place.none.Key.{name as #self}
+use Rattle.kombilad_c.proofs.handle.Place.none.Statement.{statement}
+use Rattle.kombilad_c.proofs.handle.Place.none.Code as code
 
 pub none_spec : {M : Type 1} → statement M
 none_spec 𝓤 𝓛 𝓜 𝓡 wired =
     let H = 𝓛.H in let 𝓣 = tables 𝓤 H 𝓜 𝓡 𝓡.env in let En = ended in let c = clauses 𝓛 𝓜.mem 𝓡.returns in let fn = code.function in
     proved 𝓛 En tt c 𝓜 𝓡 tt #self fn (code.unfolded 𝓤 H 𝓜 𝓡 wired) (λ κs. tt) (λ κs. tt) (λ κs qs bounds a gh are.
     let y : (walk_of 𝓛 En tt c).Ghost = ((κs, qs, bounds, a, tt), gh) in let Post : Val → SProp 𝓤 = (walk_of 𝓛 En tt c).post y in
-    let made : Place.Denot = record { at = null_ptr; walk = None } in
+    let made : Place.Denot = record { at = null_ptr; held = None } in
     qed 𝓛 ((raw (alive 𝓛 En.signature κs qs) ⊛ ‵ ftrue) ∷ raw ((c κs a).requires gh) ∷ []) ∵ split ! $ keep ! (0 ∷ []) $
     enter ! 𝓣.C 𝓣.Λ fn [] Post $ alloc_all ! (λ l. pass_all ! refl tt $
     sets ! (agg ! (and_then ! (lit ! tt) (no_more !))) refl (tt, (record { fits = lit< tt }, tt)) $
-    nothing ! $ place_in ! null_ptr None $ use0 𝓛 (raw (fact 𝓤 (made.walk ≡ None))) (fact_i 𝓤 (made.walk ≡ None) (emp 𝓤) refl) $ nothing ! $
+    nothing ! $ place_in ! null_ptr None $ use0 𝓛 (raw (fact 𝓤 (made.held ≡ None))) (fact_i 𝓤 (made.held ≡ None) (emp 𝓤) refl) $ nothing ! $
     returns ! (look_at ! 0 refl) $ free_all ! refl $ keep ! (3 ∷ 0 ∷ 2 ∷ 1 ∷ []) $ by ! (leaves 𝓛 En tt c y (lone null_ptr) made tt tt)))

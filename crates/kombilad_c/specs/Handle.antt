@@ -1,4 +1,4 @@
--- What a handle of a walk owns.
+-- What a handle owns.
 use Rattle.std.specs.Prelude.{Option, Some, None}
 use Rattle.std.specs.Coded.{coded_option}
 use Rattle.std.specs.Box.Ownership.{box_owns}
@@ -7,16 +7,16 @@ use Rattle.std_heap.specs.contracts.GlobalAllocator.TheImpl.{ghosts}
 use base.Fml.{Fml, ftrue}
 use base.Stored.{Coded}
 use denote.RawPtr.{Ptr}
-use Rattle.unixfs_files.specs.contracts.state.FileWalk.{the_row}
+use Rattle.kombilad_c.specs.contracts.held.Held.{the_row}
 
 -- the heap of the C library
 abbrev pub heap : Global
 heap = record { memory = record { seal = tt } }
 
--- the walk at a place, and the right to free its memory
+-- what is at a place, and the right to free its memory
 abbrev pub place_owns : Ptr → Option the_row.Denot → Fml
 place_owns at None = ftrue
-place_owns at (Some walk) = box_owns (ghosts.dealloc_token heap) the_row at walk
+place_owns at (Some held) = box_owns (ghosts.dealloc_token heap) the_row at held
 
-abbrev pub walk_coded : Coded (Option the_row.Denot)
-walk_coded = coded_option the_row.coded
+abbrev pub held_coded : Coded (Option the_row.Denot)
+held_coded = coded_option the_row.coded
