@@ -16,7 +16,7 @@ RECORD = re.compile(r"^typedef struct (\w+) \{\n(.*?)^\} \1;", re.M | re.S)
 FIELD = re.compile(r"^\s*(\w+) (\w+)(\[\d+\])?;", re.M)
 PARAMETER = re.compile(r"(const )?(\w+) (\*?)(\w+)")
 SCALARS = {"size_t": I64, "uint64_t": I64, "uint32_t": I32}
-WIDTHS = {"size_t": 8, "uint64_t": 8, "uint32_t": 4}
+WIDTHS = {"size_t": 8, "uint64_t": 8, "int64_t": 8, "uint32_t": 4}
 
 
 @dataclasses.dataclass(frozen=True)
@@ -76,18 +76,34 @@ def calls_of(header):
     return found
 
 
+@dataclasses.dataclass(frozen=True)
+class Field:
+    """A part of a record: a number, or bytes that have no order."""
+
+    width: int
+    is_number: bool
+
+
 def records_of(header):
-    """Returns the widths of the numbers of each record. A record of bytes has none."""
+    """Returns the parts of each record. A record in another one has to be declared before it."""
     found = {}
     for name, body in RECORD.findall(without_comments(header)):
-        fields = FIELD.findall(body)
-        if all(kind == "uint8_t" for kind, _, _ in fields):
-            found[name] = ()
-        elif all(kind in WIDTHS and not many for kind, _, many in fields):
-            found[name] = tuple(WIDTHS[kind] for kind, _, _ in fields)
-        else:
-            raise Unknown(f"the fields of {name}")
+        parts = []
+        for kind, _, many in FIELD.findall(body):
+            if kind == "uint8_t":
+                parts.append(Field(int(many.strip("[]") or 1), False))
+            elif kind in WIDTHS and not many:
+                parts.append(Field(WIDTHS[kind], True))
+            elif kind in found and not many:
+                parts += found[kind]
+            else:
+                raise Unknown(f"the fields of {name}")
+        found[name] = tuple(parts)
     return found
+
+
+def has_numbers(parts):
+    return any(it.is_number for it in parts)
 
 
 def check(call, function):
@@ -98,12 +114,13 @@ def check(call, function):
         raise Unknown(f"the parameters of {call.name} aren't those of the header")
 
 
-def record_functions(name, widths):
+def record_functions(name, parts):
     """Returns the function that converts records to the byte order of the code, or back."""
     offset, lines = 0, []
-    for width in widths:
-        lines.append(f"        reverse(p + {offset}, {width});")
-        offset += width
+    for part in parts:
+        if part.is_number:
+            lines.append(f"        reverse(p + {offset}, {part.width});")
+        offset += part.width
     return "\n".join(
         [
             f"static void order_{name}(void *records, size_t count) {{",
@@ -155,10 +172,10 @@ class Wrapper:
             self.before.append(f"st_u64({it.name}_bytes, *{it.name});")
             self.after.append(f"*{it.name} = ({it.type})ld_u64({it.name}_bytes);")
             return f"{it.name}_bytes"
-        if it.type == "uint8_t" or self.records.get(it.type) == ():
-            return f"(P){it.name}"
-        if it.type not in self.records:
+        if it.type != "uint8_t" and it.type not in self.records:
             raise Unknown(f"the parameter {it.name} of {self.call.name}")
+        if it.type == "uint8_t" or not has_numbers(self.records[it.type]):
+            return f"(P){it.name}"
         order = f"order_{it.type}"
         if not it.is_constant:
             line = f"if (!IS_LITTLE) {order}({it.name}, {it.count});"
@@ -225,8 +242,8 @@ def write_wrappers(header, module, names):
         texts.append(Wrapper(call, names[call.name], records).write())
     body = "\n\n".join(texts)
     orders = [
-        record_functions(name, widths)
-        for name, widths in records.items()
+        record_functions(name, parts)
+        for name, parts in records.items()
         if f"order_{name}(" in body
     ]
     if orders:

@@ -33,8 +33,13 @@ def defined():
         "message": "UNIXFS_",
         "node": "FILE_",
         "file": "FILE_",
+        "folder": "FOLDER_",
     }
-    others = {"FILE_FILE_SIZE": "FILE_SIZE", "FILE_FINISHED": "FILE_DONE"}
+    others = {
+        "FILE_FILE_SIZE": "FILE_SIZE",
+        "FILE_FINISHED": "WALK_DONE",
+        "FOLDER_FINISHED": "WALK_DONE",
+    }
     numbers = {}
     for kind, name, number in re.findall(
         r"^(\w+)_status \(?(?:\w+\.)?(\w+).*= (\d+)$",
@@ -59,7 +64,7 @@ def defined():
 
 
 def main():
-    header = found(BINDINGS / "c" / "kombilad.h", r"^    KOMBILAD_((?!BASE|KIND)\w+) = (\d+)")
+    header = found(BINDINGS / "c" / "kombilad.h", r"^    KOMBILAD_((?!BASE|KIND|NODE)\w+) = (\d+)")
     rust = found(
         BINDINGS / "rust" / "kombilad-sys" / "src" / "lib.rs",
         r"^pub const KOMBILAD_(\w+): u32 = (\d+);",

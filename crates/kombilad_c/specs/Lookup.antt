@@ -8,14 +8,14 @@ use Rattle.unixfs_folders.specs.Folders.{HasEntry, HasNoEntry}
 use Rattle.unixfs_folders.specs.Lookups.{LookupParts, Descends, LooksIn, IsLookupFault}
 use Rattle.unixfs_folders.specs.Views.{IsMemory}
 use Rattle.kombilad_c.specs.declared.cid_record.CidBytes.{CidBytes}
+use Rattle.kombilad_c.specs.declared.positions.Span.{Span}
 use Rattle.kombilad_c.specs.CidRecord.{record_of}
 use Rattle.kombilad_c.specs.Fill.{Variable}
 use Rattle.kombilad_c.specs.Status.{folder_status, folder_place}
 
--- the bytes cut into blocks of these lengths, one after the other, as far as there are bytes
-abbrev pub cut : List ℕ → List ℕ → List (List ℕ)
-cut [] bytes = []
-cut (len ∷ lens) bytes = take len bytes ∷ cut lens (drop len bytes)
+-- the bytes at a place, as far as there are bytes
+abbrev pub content_at : List ℕ → Span → List ℕ
+content_at bytes place = take place.len (drop place.offset bytes)
 
 -- the block with this index, if there is one
 abbrev pub block_at : ℕ → List (List ℕ) → Option (List ℕ)
