@@ -921,22 +921,23 @@ static const struct {
 
 /* Begins a walk with these limits on bytes, blocks, waiting blocks and levels. */
 static uint32_t begin_file(const char *digits, uint64_t size, uint64_t blocks, size_t waiting,
-                           size_t levels, kombilad_file *file) {
+                           size_t levels, kombilad_walk *walk) {
     bytes root = from_hex(digits);
-    uint32_t status = kombilad_file_new(root.at, root.len, size, blocks, waiting, levels, file);
+    uint32_t status = kombilad_file_new(root.at, root.len, 0, UINT64_MAX, size, blocks, waiting,
+                                        levels, walk);
     free(root.at);
     return status;
 }
 
 /* Gives a block to a walk. The buffer has `short_by` bytes fewer than the block. Returns the status,
  * and checks that nothing is written with an error, except the offset. */
-static uint32_t take_block(kombilad_file *file, const char *digits, size_t short_by,
+static uint32_t take_block(kombilad_walk *walk, const char *digits, size_t short_by,
                            const char *expected, size_t at) {
     bytes block = from_hex(digits);
     size_t len = block.len - short_by, needed = 7, offset = 7;
     uint8_t *out = malloc(len + 1);
     memset(out, '#', len);
-    uint32_t status = kombilad_file_take(file, block.at, block.len, out, len, &needed, &offset);
+    uint32_t status = kombilad_file_take(walk, block.at, block.len, out, len, &needed, &offset);
     if (status == KOMBILAD_OK) {
         CHECK_OF(digits, needed == strlen(expected) && memcmp(out, expected, needed) == 0);
         CHECK_OF(digits, is_all(out + needed, len - needed, '#') && offset == 7);
@@ -949,23 +950,23 @@ static uint32_t take_block(kombilad_file *file, const char *digits, size_t short
     return status;
 }
 
-static bool wants(kombilad_file *file, const char *digits) {
+static bool wants(kombilad_walk *walk, const char *digits) {
     kombilad_cid cid;
     bytes wanted = from_hex(digits);
-    bool same = kombilad_file_wanted(file, &cid) == KOMBILAD_OK && cid.len == wanted.len &&
+    bool same = kombilad_walk_wanted(walk, &cid) == KOMBILAD_OK && cid.len == wanted.len &&
                 memcmp(cid.bytes, wanted.at, cid.len) == 0;
     free(wanted.at);
     return same;
 }
 
 /* Begins a walk over the file, and gives it the first `count` of its blocks. */
-static void take_parts(kombilad_file *file, size_t count) {
+static void take_parts(kombilad_walk *walk, size_t count) {
     CHECK(begin_file(FILE_ROOT, UINT64_MAX, KOMBILAD_FILE_BLOCKS, KOMBILAD_FILE_WAITING,
-                     KOMBILAD_FILE_LEVELS, file) == KOMBILAD_OK);
+                     KOMBILAD_FILE_LEVELS, walk) == KOMBILAD_OK);
     for (size_t at = 0; at < count; at++) {
-        CHECK(wants(file, file_parts[at].cid));
-        CHECK(take_block(file, file_parts[at].block, 1, "", 7) == KOMBILAD_TOO_SHORT);
-        CHECK(take_block(file, file_parts[at].block, 0, file_parts[at].bytes, 7) == KOMBILAD_OK);
+        CHECK(wants(walk, file_parts[at].cid));
+        CHECK(take_block(walk, file_parts[at].block, 1, "", 7) == KOMBILAD_TOO_SHORT);
+        CHECK(take_block(walk, file_parts[at].block, 0, file_parts[at].bytes, 7) == KOMBILAD_OK);
     }
 }
 
@@ -1002,42 +1003,42 @@ static const struct {
 
 static void check_files(void) {
     long before = held;
-    kombilad_file file = {0};
+    kombilad_walk walk = {0};
     kombilad_cid cid = {0};
-    CHECK(kombilad_file_wanted(&file, &cid) == KOMBILAD_FILE_CLOSED && cid.len == 0);
-    CHECK(take_block(&file, "00", 0, "", 7) == KOMBILAD_FILE_CLOSED);
-    kombilad_file_free(&file);
-    CHECK(begin_file("0170", 1, 1, 1, 1, &file) == KOMBILAD_CID_END && file.is_open == 0);
+    CHECK(kombilad_walk_wanted(&walk, &cid) == KOMBILAD_WALK_CLOSED && cid.len == 0);
+    CHECK(take_block(&walk, "00", 0, "", 7) == KOMBILAD_WALK_CLOSED);
+    kombilad_walk_free(&walk);
+    CHECK(begin_file("0170", 1, 1, 1, 1, &walk) == KOMBILAD_CID_END && walk.is_open == 0);
 
-    take_parts(&file, COUNT(file_parts));
-    CHECK(kombilad_file_wanted(&file, &cid) == KOMBILAD_FILE_DONE && cid.len == 0);
-    CHECK(take_block(&file, "00", 0, "", 0) == KOMBILAD_FILE_DONE);
-    CHECK(begin_file("0170", 1, 1, 1, 1, &file) == KOMBILAD_CID_END);
-    CHECK(kombilad_file_wanted(&file, &cid) == KOMBILAD_FILE_DONE);
+    take_parts(&walk, COUNT(file_parts));
+    CHECK(kombilad_walk_wanted(&walk, &cid) == KOMBILAD_WALK_DONE && cid.len == 0);
+    CHECK(take_block(&walk, "00", 0, "", 0) == KOMBILAD_WALK_DONE);
+    CHECK(begin_file("0170", 1, 1, 1, 1, &walk) == KOMBILAD_CID_END);
+    CHECK(kombilad_walk_wanted(&walk, &cid) == KOMBILAD_WALK_DONE);
     /* A new walk frees the old one. A wrong block changes nothing. */
-    take_parts(&file, 3);
-    CHECK(take_block(&file, file_parts[2].block, 0, "", 0) == KOMBILAD_WRONG_DIGEST);
-    CHECK(wants(&file, file_parts[3].cid));
-    CHECK(take_block(&file, file_parts[3].block, 0, "ar", 7) == KOMBILAD_OK);
+    take_parts(&walk, 3);
+    CHECK(take_block(&walk, file_parts[2].block, 0, "", 0) == KOMBILAD_WRONG_DIGEST);
+    CHECK(wants(&walk, file_parts[3].cid));
+    CHECK(take_block(&walk, file_parts[3].block, 0, "ar", 7) == KOMBILAD_OK);
     /* The record may be moved. */
-    kombilad_file moved = file;
-    file = (kombilad_file){0};
+    kombilad_walk moved = walk;
+    walk = (kombilad_walk){0};
     CHECK(wants(&moved, file_parts[4].cid));
-    kombilad_file_free(&moved);
-    CHECK(kombilad_file_wanted(&moved, &cid) == KOMBILAD_FILE_CLOSED);
-    kombilad_file_free(&moved);
+    kombilad_walk_free(&moved);
+    CHECK(kombilad_walk_wanted(&moved, &cid) == KOMBILAD_WALK_CLOSED);
+    kombilad_walk_free(&moved);
     CHECK(held == before);
 
     for (size_t at = 0; at < COUNT(no_parts); at++) {
-        kombilad_file other = {0};
+        kombilad_walk other = {0};
         CHECK_OF(no_parts[at].cid, begin_file(no_parts[at].cid, 9, 9, 9, 9, &other) == KOMBILAD_OK);
         uint32_t status = take_block(&other, no_parts[at].block, 0, "", no_parts[at].offset);
         CHECK_OF(no_parts[at].cid, status == no_parts[at].status);
         CHECK_OF(no_parts[at].cid, wants(&other, no_parts[at].cid));
-        kombilad_file_free(&other);
+        kombilad_walk_free(&other);
     }
     for (size_t at = 0; at < COUNT(file_limits); at++) {
-        kombilad_file other = {0};
+        kombilad_walk other = {0};
         CHECK(begin_file(FILE_ROOT, file_limits[at].size, file_limits[at].blocks,
                          file_limits[at].waiting, file_limits[at].levels, &other) == KOMBILAD_OK);
         for (size_t part = 0; part < file_limits[at].taken; part++)
@@ -1046,30 +1047,422 @@ static void check_files(void) {
         if (file_limits[at].status != KOMBILAD_OK)
             CHECK(take_block(&other, file_parts[file_limits[at].taken].block, 0, "", 0) ==
                   file_limits[at].status);
-        kombilad_file_free(&other);
+        kombilad_walk_free(&other);
     }
     /* A leaf of one byte, which the block above it states to have two. */
-    CHECK(begin_file("01700015" LYING_NODE, 9, 9, 9, 9, &file) == KOMBILAD_OK);
-    CHECK(take_block(&file, LYING_NODE, 0, "", 7) == KOMBILAD_OK);
-    CHECK(take_block(&file, "61", 0, "", 0) == KOMBILAD_FILE_PART_SIZE);
-    kombilad_file_free(&file);
+    CHECK(begin_file("01700015" LYING_NODE, 9, 9, 9, 9, &walk) == KOMBILAD_OK);
+    CHECK(take_block(&walk, LYING_NODE, 0, "", 7) == KOMBILAD_OK);
+    CHECK(take_block(&walk, "61", 0, "", 0) == KOMBILAD_FILE_PART_SIZE);
+    kombilad_walk_free(&walk);
     CHECK(held == before);
+}
+
+/* Ranges of the file, and the parts that a walk over each wants. */
+static const struct {
+    uint64_t start, length;
+    size_t parts[6]; /* 0 ends the list: the root is wanted first in any case */
+    const char *bytes[5];
+} file_ranges[] = {
+    {0, 0, {0}, {0}},
+    {0, 1, {1}, {"f"}},
+    {1, 2, {1, 2}, {"o", "o"}},
+    {4, UINT64_MAX, {3, 4}, {"ar", "\n"}},
+    {6, 9, {4}, {"\n"}},
+    {7, UINT64_MAX, {0}, {0}},
+    {UINT64_MAX, UINT64_MAX, {0}, {0}},
+};
+
+static void check_ranges(void) {
+    bytes root = from_hex(FILE_ROOT);
+    for (size_t at = 0; at < COUNT(file_ranges); at++) {
+        kombilad_walk walk = {0};
+        kombilad_cid cid;
+        CHECK(kombilad_file_new(root.at, root.len, file_ranges[at].start, file_ranges[at].length, 7,
+                                9, 9, 9, &walk) == KOMBILAD_OK);
+        CHECK(take_block(&walk, file_parts[0].block, 0, "", 7) == KOMBILAD_OK);
+        for (size_t part = 0; file_ranges[at].parts[part]; part++) {
+            CHECK(wants(&walk, file_parts[file_ranges[at].parts[part]].cid));
+            CHECK(take_block(&walk, file_parts[file_ranges[at].parts[part]].block, 0,
+                             file_ranges[at].bytes[part], 7) == KOMBILAD_OK);
+        }
+        CHECK(kombilad_walk_wanted(&walk, &cid) == KOMBILAD_WALK_DONE);
+        kombilad_walk_free(&walk);
+    }
+    free(root.at);
 }
 
 /* Walks over the file whose blocks are `file_blocks`. */
 static bytes file_blocks[COUNT(file_parts)];
 
 static uint32_t call_file(bytes root, void *out, size_t len, size_t *needed) {
-    kombilad_file file = {0};
+    kombilad_walk walk = {0};
     uint8_t room[300];
     size_t count, offset;
     (void)out, (void)len, (void)needed;
-    uint32_t status = kombilad_file_new(root.at, root.len, 7, 5, 4, 1, &file);
+    uint32_t status = kombilad_file_new(root.at, root.len, 0, 7, 7, 5, 4, 1, &walk);
     for (size_t at = 0; at < COUNT(file_blocks) && status == KOMBILAD_OK; at++)
-        status = kombilad_file_take(&file, file_blocks[at].at, file_blocks[at].len, room,
+        status = kombilad_file_take(&walk, file_blocks[at].at, file_blocks[at].len, room,
                                     sizeof room, &count, &offset);
-    kombilad_file_free(&file);
+    kombilad_walk_free(&walk);
     return status;
+}
+
+/* ---- Folders of UnixFS */
+
+/* A plain folder with the file "a", of the bytes "hi", and the symbolic link "b" to it, and a sharded
+ * one with three names of that file, of which two are in a shard below. tests/ipld/unixfs.py wrote
+ * them. */
+#define HI "015512208f434346648f6b96df89dda901c5176b10a6d83961dd3c1ac88b59b2dc327aa4"
+#define TO_A "12201cb0285f67cb6b5b2ca01ea3e11ea650fb402575ad8d025def6b29b55580331f"
+#define PLAIN_ROOT "1220c9e9e20233f046586e7d96b6d446c14971564ca34e3d1376e03141bf61fb2ddf"
+#define PLAIN \
+    "122b0a24" HI "120161180212290a22" TO_A "12016218070a12080138ed03420b0880e2cfaa061505000000"
+#define SHARD_ROOT "0170122046ed5af0849f77d3eff2f726c85213d771b0c899b7c0f6a2c2371098f051e442"
+#define SHARD_BELOW "01701220f622ff4b593d35ad731c47a3c5f70c3daae91f0b1ccd384adbe5ca31847eb07a"
+#define NAME_016 "6c6f6e672d6e616d65642d66696c652d303136"
+#define NAME_037 "6c6f6e672d6e616d65642d66696c652d303337"
+#define NAME_048 "6c6f6e672d6e616d65642d66696c652d303438"
+#define SHARD_TOP                                                          \
+    "122d0a24" SHARD_BELOW "1202303718b101123f0a24" HI "12154631" NAME_048 \
+    "18020a280805121f" ZEROS_30 "802822308002"
+#define ZEROS_10 "00000000000000000000"
+#define ZEROS_30 "02" ZEROS_10 ZEROS_10 "000000000000000000"
+#define SHARD_REST                                                          \
+    "123f0a24" HI "12153438" NAME_016 "1802123f0a24" HI "12154642" NAME_037 \
+    "18020a290805122008" ZEROS_10 ZEROS_10 "0001"                           \
+    "000000000000000000"                                                    \
+    "2822308002"
+
+/* An entry that a walk lists: the CID, the name and the size that the link states. */
+typedef struct listed {
+    const char *cid, *name;
+    uint64_t tsize;
+} listed;
+
+static uint32_t begin_folder(const char *digits, kombilad_walk *walk) {
+    bytes root = from_hex(digits);
+    uint32_t status = kombilad_folder_new(root.at, root.len, walk);
+    free(root.at);
+    return status;
+}
+
+/* Gives a block to a walk over a folder, with room for `less` entries fewer than it asks for, and
+ * for `short_by` bytes of names fewer. Checks the entries, or that nothing is written with an
+ * error except the place. */
+static uint32_t take_folder(kombilad_walk *walk, const char *digits, size_t less, size_t short_by,
+                            const listed *expected, size_t count, size_t at) {
+    bytes block = from_hex(digits);
+    size_t most = KOMBILAD_FOLDER_ENTRIES(block.len) - less, len = block.len - short_by;
+    size_t needed = 7, place = 7, used = 0;
+    kombilad_folder_entry *entries = malloc((most + 1) * sizeof *entries);
+    uint8_t *names = malloc(len + 1);
+    memset(entries, '#', most * sizeof *entries), memset(names, '#', len);
+    uint32_t status = kombilad_folder_take(walk, block.at, block.len, entries, most, names, len,
+                                           &needed, &place);
+    if (status == KOMBILAD_OK) {
+        CHECK_OF(digits, needed == count && place == 7);
+        for (size_t i = 0; i < count; i++) {
+            bytes cid = from_hex(expected[i].cid);
+            CHECK_OF(digits, entries[i].cid.len == cid.len &&
+                                 memcmp(entries[i].cid.bytes, cid.at, cid.len) == 0);
+            CHECK_OF(digits, entries[i].name.offset == used &&
+                                 entries[i].name.len == strlen(expected[i].name) &&
+                                 memcmp(names + used, expected[i].name, entries[i].name.len) == 0);
+            CHECK_OF(digits, entries[i].tsize == expected[i].tsize && entries[i].has_tsize == 1);
+            used += entries[i].name.len;
+            free(cid.at);
+        }
+        CHECK_OF(digits,
+                 is_all((uint8_t *)(entries + count), (most - count) * sizeof *entries, '#'));
+    } else {
+        CHECK_OF(digits, is_all((uint8_t *)entries, most * sizeof *entries, '#'));
+        CHECK_OF(digits, needed == (status == KOMBILAD_TOO_SHORT ? block.len / 6 : 7));
+        CHECK_OF(digits, place == at);
+    }
+    CHECK_OF(digits, is_all(names + used, len - used, '#'));
+    free(block.at), free(entries), free(names);
+    return status;
+}
+
+/* Blocks that a walk doesn't take, and the places of their errors. */
+static const struct {
+    const char *cid, *block;
+    uint32_t status;
+    size_t place;
+} no_folders[] = {
+    {PLAIN_ROOT, "0a020801", KOMBILAD_WRONG_DIGEST, 0},
+    {"0170b32000", "", KOMBILAD_UNKNOWN_HASH, 0},
+    {"015500026869", "6869", KOMBILAD_FOLDER_CODEC, 0},
+    {"01700000", "", KOMBILAD_FILE_NO_DATA, 0},
+    {"01700003120100", "120100", KOMBILAD_PB_NO_HASH, 2},
+    {"017000040a020809", "0a020809", KOMBILAD_UNIXFS_UNKNOWN_TYPE, 0},
+    {"017000060a0408021800", "0a0408021800", KOMBILAD_FOLDER_NOT_FOLDER, 0},
+    {"017000090a0708052802308002", "0a0708052802308002", KOMBILAD_FOLDER_HASH_FUNCTION, 0},
+};
+
+/* Names of entries in a plain folder of identity blocks: "x" is empty raw data. */
+#define X_LINK(size, len, name) \
+    "12" size "0a0401550000"    \
+    "12" len name
+#define FOLDER_OF(links) links "0a020801"
+
+static const struct {
+    const char *block;
+    uint32_t status;
+    size_t place;
+} bad_names[] = {
+    {FOLDER_OF(X_LINK("09", "01", "61") X_LINK("08", "00", "")), KOMBILAD_FOLDER_INVALID_NAME, 1},
+    {FOLDER_OF(X_LINK("09", "01", "2e")), KOMBILAD_FOLDER_INVALID_NAME, 0},
+    {FOLDER_OF(X_LINK("0a", "02", "2e2e")), KOMBILAD_FOLDER_INVALID_NAME, 0},
+    {FOLDER_OF(X_LINK("0b", "03", "612f62")), KOMBILAD_FOLDER_INVALID_NAME, 0},
+    {FOLDER_OF(X_LINK("0a", "02", "6100")), KOMBILAD_FOLDER_INVALID_NAME, 0},
+    {FOLDER_OF(X_LINK("09", "01", "61") X_LINK("09", "01", "61")), KOMBILAD_FOLDER_NAME_ORDER, 1},
+    {FOLDER_OF(X_LINK("09", "01", "62") X_LINK("09", "01", "61")), KOMBILAD_FOLDER_NAME_ORDER, 1},
+};
+
+static void check_folders(void) {
+    static const listed plain[] = {{HI, "a", 2}, {TO_A, "b", 7}};
+    static const listed top[] = {{HI, "long-named-file-048", 2}};
+    static const listed rest[] = {{HI, "long-named-file-016", 2}, {HI, "long-named-file-037", 2}};
+    long before = held;
+    kombilad_walk walk = {0};
+    kombilad_cid cid = {0};
+    CHECK(take_folder(&walk, PLAIN, 0, 0, NULL, 0, 7) == KOMBILAD_WALK_CLOSED);
+    CHECK(begin_folder("0170", &walk) == KOMBILAD_CID_END && walk.is_open == 0);
+    CHECK(begin_folder(PLAIN_ROOT, &walk) == KOMBILAD_OK);
+    CHECK(wants(&walk, PLAIN_ROOT));
+    /* A walk over a folder takes no block of a file. */
+    CHECK(take_block(&walk, PLAIN, 0, "", 7) == KOMBILAD_WALK_CLOSED);
+    CHECK(take_folder(&walk, PLAIN, 1, 0, NULL, 0, 7) == KOMBILAD_TOO_SHORT);
+    CHECK(take_folder(&walk, PLAIN, 0, 1, NULL, 0, 7) == KOMBILAD_TOO_SHORT);
+    CHECK(wants(&walk, PLAIN_ROOT));
+    CHECK(take_folder(&walk, PLAIN, 0, 0, plain, 2, 7) == KOMBILAD_OK);
+    CHECK(kombilad_walk_wanted(&walk, &cid) == KOMBILAD_WALK_DONE && cid.len == 0);
+    CHECK(take_folder(&walk, PLAIN, 0, 0, NULL, 0, 0) == KOMBILAD_WALK_DONE);
+    /* A new walk frees the old one. */
+    CHECK(begin_folder(SHARD_ROOT, &walk) == KOMBILAD_OK);
+    CHECK(take_folder(&walk, SHARD_TOP, 0, 0, top, 1, 7) == KOMBILAD_OK);
+    CHECK(wants(&walk, SHARD_BELOW));
+    CHECK(take_folder(&walk, SHARD_TOP, 0, 0, NULL, 0, 0) == KOMBILAD_WRONG_DIGEST);
+    CHECK(take_folder(&walk, SHARD_REST, 0, 0, rest, 2, 7) == KOMBILAD_OK);
+    CHECK(kombilad_walk_wanted(&walk, &cid) == KOMBILAD_WALK_DONE);
+    /* A walk over a file takes no block of a folder. */
+    CHECK(begin_file(FILE_ROOT, 9, 9, 9, 9, &walk) == KOMBILAD_OK);
+    CHECK(take_folder(&walk, PLAIN, 0, 0, NULL, 0, 7) == KOMBILAD_WALK_CLOSED);
+    CHECK(wants(&walk, FILE_ROOT));
+    kombilad_walk_free(&walk);
+    CHECK(held == before);
+
+    for (size_t at = 0; at < COUNT(no_folders); at++) {
+        CHECK_OF(no_folders[at].cid, begin_folder(no_folders[at].cid, &walk) == KOMBILAD_OK);
+        uint32_t status = take_folder(&walk, no_folders[at].block, 0, 0, NULL, 0,
+                                      no_folders[at].place);
+        CHECK_OF(no_folders[at].cid, status == no_folders[at].status);
+        CHECK_OF(no_folders[at].cid, wants(&walk, no_folders[at].cid));
+        kombilad_walk_free(&walk);
+    }
+    for (size_t at = 0; at < COUNT(bad_names); at++) {
+        /* The CID of the block by the hash identity: these blocks have fewer than 64 bytes. */
+        char digits[200];
+        snprintf(digits, sizeof digits, "017000%02zx%s", strlen(bad_names[at].block) / 2,
+                 bad_names[at].block);
+        CHECK_OF(digits, begin_folder(digits, &walk) == KOMBILAD_OK);
+        CHECK_OF(digits, take_folder(&walk, bad_names[at].block, 0, 0, NULL, 0,
+                                     bad_names[at].place) == bad_names[at].status);
+        kombilad_walk_free(&walk);
+    }
+    CHECK(held == before);
+}
+
+/* Looks for a name in a folder, in blocks that stand in reverse order in the buffer. Returns the
+ * status, and checks the CID that is written, if `expected` is one, and else that none is. */
+static uint32_t look_for(const char *folder, const char *name, size_t name_len,
+                         const char *const *blocks, size_t count, const char *expected, size_t at) {
+    bytes root = from_hex(folder), wanted = from_hex(expected ? expected : "");
+    uint8_t *room = malloc(4096);
+    kombilad_span spans[4];
+    size_t used = 0, place = 7;
+    for (size_t i = count; i-- > 0;) {
+        bytes block = from_hex(blocks[i]);
+        memcpy(room + used, block.at, block.len);
+        spans[i] = (kombilad_span){used, block.len};
+        used += block.len;
+        free(block.at);
+    }
+    kombilad_cid cid;
+    memset(&cid, '#', sizeof cid);
+    uint32_t status = kombilad_folder_lookup(root.at, root.len, (const uint8_t *)name, name_len,
+                                             room, used, spans, count, &cid, &place);
+    if (expected)
+        CHECK_OF(name, cid.len == wanted.len && memcmp(cid.bytes, wanted.at, cid.len) == 0);
+    else
+        CHECK_OF(name, is_all((uint8_t *)&cid, sizeof cid, '#'));
+    CHECK_OF(name, place == at);
+    free(root.at), free(wanted.at), free(room);
+    return status;
+}
+
+#define LOOK(folder, name, blocks, count, expected, at) \
+    look_for(folder, name, strlen(name), blocks, count, expected, at)
+
+static void check_lookups(void) {
+    static const char *const plain[] = {PLAIN}, *const shards[] = {SHARD_TOP, SHARD_REST};
+    static const char *const wrong[] = {SHARD_TOP, PLAIN};
+    long before = held;
+    CHECK(LOOK(PLAIN_ROOT, "a", NULL, 0, PLAIN_ROOT, 7) == KOMBILAD_FOLDER_MORE);
+    CHECK(LOOK(PLAIN_ROOT, "a", plain, 1, HI, 7) == KOMBILAD_OK);
+    CHECK(LOOK(PLAIN_ROOT, "b", plain, 1, TO_A, 7) == KOMBILAD_OK);
+    CHECK(LOOK(PLAIN_ROOT, "c", plain, 1, NULL, 7) == KOMBILAD_FOLDER_MISSING);
+    CHECK(LOOK(PLAIN_ROOT, "", plain, 1, NULL, 7) == KOMBILAD_FOLDER_MISSING);
+    CHECK(LOOK(PLAIN_ROOT, "..", plain, 1, NULL, 7) == KOMBILAD_FOLDER_MISSING);
+    CHECK(LOOK(PLAIN_ROOT, "\xff", plain, 1, NULL, 7) == KOMBILAD_TEXT_UTF8);
+    CHECK(LOOK("0170", "a", plain, 1, NULL, 7) == KOMBILAD_CID_END);
+    CHECK(LOOK(SHARD_ROOT, "long-named-file-048", shards, 1, HI, 7) == KOMBILAD_OK);
+    CHECK(LOOK(SHARD_ROOT, "long-named-file-048", shards, 2, HI, 7) == KOMBILAD_OK);
+    CHECK(LOOK(SHARD_ROOT, "long-named-file-016", shards, 0, SHARD_ROOT, 7) ==
+          KOMBILAD_FOLDER_MORE);
+    CHECK(LOOK(SHARD_ROOT, "long-named-file-016", shards, 1, SHARD_BELOW, 7) ==
+          KOMBILAD_FOLDER_MORE);
+    CHECK(LOOK(SHARD_ROOT, "long-named-file-016", shards, 2, HI, 7) == KOMBILAD_OK);
+    CHECK(LOOK(SHARD_ROOT, "long-named-file-047", shards, 1, NULL, 7) == KOMBILAD_FOLDER_MISSING);
+    CHECK(LOOK(SHARD_ROOT, "long-named-file-016", wrong, 2, NULL, 0) == KOMBILAD_WRONG_DIGEST);
+    CHECK(LOOK(PLAIN_ROOT, "a", shards, 1, NULL, 0) == KOMBILAD_WRONG_DIGEST);
+    CHECK(LOOK(HI, "a", plain, 1, NULL, 0) == KOMBILAD_FOLDER_CODEC);
+    /* Places outside of the bytes have none. */
+    bytes root = from_hex(PLAIN_ROOT), block = from_hex(PLAIN);
+    kombilad_cid cid = {0};
+    size_t place = 7;
+    kombilad_span spans[] = {{0, SIZE_MAX}, {SIZE_MAX, SIZE_MAX}, {block.len + 1, 1}};
+    CHECK(kombilad_folder_lookup(root.at, root.len, (const uint8_t *)"a", 1, block.at, block.len,
+                                 spans, 1, &cid, &place) == KOMBILAD_OK);
+    for (size_t at = 1; at < COUNT(spans); at++)
+        CHECK(kombilad_folder_lookup(root.at, root.len, (const uint8_t *)"a", 1, block.at,
+                                     block.len, spans + at, 1, &cid,
+                                     &place) == KOMBILAD_WRONG_DIGEST);
+    free(root.at), free(block.at);
+    CHECK(held == before);
+}
+
+/* ---- Nodes of UnixFS */
+
+/* What kombilad_unixfs_node writes. `target` is NULL if it is an error. */
+static const struct {
+    const char *cid, *block, *target;
+    uint32_t status;
+    kombilad_node node;
+    size_t place;
+} unixfs_nodes[] = {
+    {HI, "6869", "", KOMBILAD_OK, {KOMBILAD_NODE_RAW, KOMBILAD_NODE_SIZE, 2, 0, 0, 0}, 7},
+    {TO_A, "0a050804120161", "a", KOMBILAD_OK, {KOMBILAD_NODE_SYMLINK, 0, 0, 0, 0, 0}, 7},
+    {PLAIN_ROOT,
+     PLAIN,
+     "",
+     KOMBILAD_OK,
+     {KOMBILAD_NODE_FOLDER, KOMBILAD_NODE_MODE | KOMBILAD_NODE_TIME, 0, 1700000000, 5, 0755},
+     7},
+    {SHARD_BELOW, SHARD_REST, "", KOMBILAD_OK, {KOMBILAD_NODE_SHARD, 0, 0, 0, 0, 0}, 7},
+    {"1220818c6a65c9b5155e1d67c7ab9458af02b2826e6dabcca5582132e73d6bfabdd8",
+     "0a1b0802120568656c6c6f180538a403420b08fbffffffffffffffff01",
+     "",
+     KOMBILAD_OK,
+     {KOMBILAD_NODE_FILE, 7, 5, -5, 0, 0644},
+     7},
+    {HI, "68", NULL, KOMBILAD_WRONG_DIGEST, {0}, 7},
+    {"01710001a0", "a0", NULL, KOMBILAD_FILE_CODEC, {0}, 7},
+    {"01700000", "", NULL, KOMBILAD_FILE_NO_DATA, {0}, 0},
+    {"01700003120100", "120100", NULL, KOMBILAD_PB_NO_HASH, {0}, 2},
+    {"017000050a0308021a", "0a0308021a", NULL, KOMBILAD_UNIXFS_UNKNOWN_FIELD, {0}, 2},
+    {"0170", "", NULL, KOMBILAD_CID_END, {0}, 7},
+};
+
+static void check_unixfs_nodes(void) {
+    for (size_t at = 0; at < COUNT(unixfs_nodes); at++) {
+        bytes cid = from_hex(unixfs_nodes[at].cid), block = from_hex(unixfs_nodes[at].block);
+        kombilad_node node, untouched;
+        uint8_t target[4];
+        memset(&node, '#', sizeof node), memset(&untouched, '#', sizeof untouched);
+        memset(target, '#', sizeof target);
+        size_t needed = 7, place = 7;
+        uint32_t status = kombilad_unixfs_node(cid.at, cid.len, block.at, block.len, &node, target,
+                                               sizeof target, &needed, &place);
+        CHECK_OF(unixfs_nodes[at].cid,
+                 status == unixfs_nodes[at].status && place == unixfs_nodes[at].place);
+        const kombilad_node *expected = unixfs_nodes[at].target ? &unixfs_nodes[at].node
+                                                                : &untouched;
+        size_t len = unixfs_nodes[at].target ? strlen(unixfs_nodes[at].target) : 0;
+        CHECK_OF(unixfs_nodes[at].cid, memcmp(&node, expected, sizeof node) == 0);
+        CHECK_OF(unixfs_nodes[at].cid, needed == (unixfs_nodes[at].target ? len : 7));
+        CHECK_OF(unixfs_nodes[at].cid,
+                 memcmp(target, unixfs_nodes[at].target ? unixfs_nodes[at].target : "", len) == 0);
+        CHECK_OF(unixfs_nodes[at].cid, is_all(target + len, sizeof target - len, '#'));
+        free(cid.at), free(block.at);
+    }
+    /* The node is written also if the target doesn't fit. */
+    bytes cid = from_hex(TO_A), block = from_hex("0a050804120161");
+    kombilad_node node = {0};
+    size_t needed = 7, place = 7;
+    CHECK(kombilad_unixfs_node(cid.at, cid.len, block.at, block.len, &node, NULL, 0, &needed,
+                               &place) == KOMBILAD_TOO_SHORT);
+    CHECK(node.kind == KOMBILAD_NODE_SYMLINK && needed == 1 && place == 7);
+    free(cid.at), free(block.at);
+}
+
+static const struct {
+    const char *target;
+    size_t depth;
+    uint32_t inside;
+} targets[] = {
+    {"", 0, 1},     {"a", 0, 1},         {"a/b", 0, 1},  {"..", 0, 0},     {"..", 1, 1},
+    {"../a", 1, 1}, {"../..", 1, 0},     {"a/..", 5, 0}, {"./../a", 1, 1}, {"/", 9, 0},
+    {"/a", 9, 0},   {"..", SIZE_MAX, 1}, {"\xff", 1, 0}, {".../a", 0, 1},
+};
+
+static void check_targets(void) {
+    for (size_t at = 0; at < COUNT(targets); at++)
+        CHECK_OF(targets[at].target,
+                 kombilad_symlink_stays_inside((const uint8_t *)targets[at].target,
+                                               strlen(targets[at].target),
+                                               targets[at].depth) == targets[at].inside);
+}
+
+static bytes shard_blocks[2];
+
+/* Lists the folder whose blocks are `shard_blocks`. */
+static uint32_t call_folder(bytes root, void *out, size_t len, size_t *needed) {
+    kombilad_walk walk = {0};
+    kombilad_folder_entry entries[64];
+    uint8_t names[400];
+    size_t count, place;
+    (void)out, (void)len, (void)needed;
+    uint32_t status = kombilad_folder_new(root.at, root.len, &walk);
+    for (size_t at = 0; at < COUNT(shard_blocks) && status == KOMBILAD_OK; at++)
+        status = kombilad_folder_take(&walk, shard_blocks[at].at, shard_blocks[at].len, entries,
+                                      COUNT(entries), names, sizeof names, &count, &place);
+    kombilad_walk_free(&walk);
+    return status;
+}
+
+/* Looks for the last name of that folder. */
+static uint32_t call_lookup(bytes root, void *out, size_t len, size_t *needed) {
+    uint8_t room[800];
+    kombilad_cid cid;
+    size_t place;
+    (void)out, (void)len, (void)needed;
+    memcpy(room, shard_blocks[0].at, shard_blocks[0].len);
+    memcpy(room + shard_blocks[0].len, shard_blocks[1].at, shard_blocks[1].len);
+    kombilad_span spans[] = {{0, shard_blocks[0].len}, {shard_blocks[0].len, shard_blocks[1].len}};
+    return kombilad_folder_lookup(root.at, root.len, (const uint8_t *)"long-named-file-037", 19,
+                                  room, sizeof room, spans, 2, &cid, &place);
+}
+
+/* Reads the node of that folder. */
+static uint32_t call_node(bytes root, void *out, size_t len, size_t *needed) {
+    kombilad_node node;
+    uint8_t target[1];
+    size_t count, place;
+    (void)out, (void)len, (void)needed;
+    return kombilad_unixfs_node(root.at, root.len, shard_blocks[0].at, shard_blocks[0].len, &node,
+                                target, sizeof target, &count, &place);
 }
 
 /* Makes the first allocation of the call fail, then the second, and so on, until none fails.
@@ -1123,6 +1516,12 @@ static void check_refused(void) {
     CHECK(refuse_each(call_file, root, 1) > 2);
     for (size_t at = 0; at < COUNT(file_blocks); at++) free(file_blocks[at].at);
     free(root.at);
+    bytes folder = from_hex(SHARD_ROOT);
+    shard_blocks[0] = from_hex(SHARD_TOP), shard_blocks[1] = from_hex(SHARD_REST);
+    CHECK(refuse_each(call_folder, folder, 1) > 2);
+    CHECK(refuse_each(call_lookup, folder, 1) > 1);
+    CHECK(refuse_each(call_node, folder, 1) > 0);
+    free(shard_blocks[0].at), free(shard_blocks[1].at), free(folder.at);
 
     /* These calls don't allocate. */
     kombilad_cid_parts parts;
@@ -1448,7 +1847,7 @@ static void check_sentences(void) {
         CHECK(kombilad_status_text(status, text, len, &needed) == KOMBILAD_OK && needed == len);
         for (size_t at = 0; at < len; at++) CHECK(' ' <= text[at] && text[at] <= '~');
         CHECK(text[len - 1] != '.' && text[len] == 0xaa);
-        if (status > KOMBILAD_UNIXFS_NANOSECONDS)
+        if (status > KOMBILAD_FOLDER_MORE)
             CHECK(reports(status, "the status is not one of this version"));
     }
     CHECK(reports(KOMBILAD_OK, "the call succeeded"));
@@ -1497,6 +1896,11 @@ int main(int count, char **words) {
     check_parts();
     check_digests();
     check_files();
+    check_ranges();
+    check_folders();
+    check_lookups();
+    check_unixfs_nodes();
+    check_targets();
     check_threads();
     puts("calls: ok");
     return 0;
