@@ -762,12 +762,13 @@ uint32_t kombilad_folder_take(kombilad_walk *walk, const uint8_t *block, size_t 
  *
  * With OK it writes the CID of the entry to `cid`, and with KOMBILAD_FOLDER_MORE that of the block
  * that it needs next. The first of these is the CID of the folder. Each block is verified. A name
- * that no entry can have, such as "..", is looked for like any other, and missing. It allocates up to
- * about 500 bytes for each link of a block. With an error of a block it writes to `place` what
- * kombilad_folder_take does.
+ * that no entry can have, such as "..", is looked for like any other, and missing. A name that isn't
+ * UTF-8 has the status KOMBILAD_TEXT_UTF8. It allocates up to about 500 bytes for each link of a
+ * block. With an error of a block it writes to `place` what kombilad_folder_take does.
  *
- * Statuses: OK, NO_MEMORY, KOMBILAD_FOLDER_MORE, KOMBILAD_FOLDER_MISSING, KOMBILAD_CID_*,
- * KOMBILAD_TEXT_UTF8 if the name isn't UTF-8, and the errors of kombilad_folder_take. */
+ * Statuses: OK, NO_MEMORY, KOMBILAD_FOLDER_*, KOMBILAD_CID_*, KOMBILAD_TEXT_UTF8,
+ * KOMBILAD_UNKNOWN_HASH, KOMBILAD_WRONG_DIGEST, KOMBILAD_FILE_NO_DATA, KOMBILAD_PB_*,
+ * KOMBILAD_LINK_*, KOMBILAD_UNIXFS_*. */
 uint32_t kombilad_folder_lookup(const uint8_t *folder, size_t folder_len, const uint8_t *name,
                                 size_t name_len, const uint8_t *bytes, size_t bytes_len,
                                 const kombilad_span *blocks, size_t blocks_len, kombilad_cid *cid,
