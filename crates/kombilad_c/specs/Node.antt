@@ -1,5 +1,5 @@
 -- What the block of a CID says of a file, a folder or a symbolic link.
-use Rattle.std.specs.Prelude.{◌≡◌, ◌≢◌, ◌⊎◌, ◌+◌, ℕ, ℤ, pos, Bool, is_some, if◌then◌else◌, List, [], length, unwrap_or, Option, Some, None, Err}
+use Rattle.std.specs.Prelude.{◌≡◌, ◌≢◌, ◌⊎◌, ◌+◌, ℕ, ℤ, pos, Bool, is_some, if◌then◌else◌, List, [], length, sum, unwrap_or, Option, Some, None, Err}
 use Rattle.ipld_block.specs.Digest.{digest_by, IsVerifyError}
 use Rattle.ipld_block.specs.declared.block_cid.error.VerifyError.{VerifyError}
 use Rattle.ipld_cid.specs.Cid.{Link}
@@ -10,6 +10,7 @@ use Rattle.unixfs.specs.declared.node.NodeError.{NodeError}
 use Rattle.unixfs.specs.Data.{DataParts, TimeParts, code_of}
 use Rattle.unixfs.specs.Files.{IsBlockOf}
 use Rattle.unixfs.specs.Nodes.{IsParsed, IsNodeMemory, read_unixfs}
+use Rattle.unixfs_files.specs.Parts.{within}
 use Rattle.kombilad_c.specs.declared.node.NodeRow.{NodeRow}
 use Rattle.kombilad_c.specs.Fill.{Variable, Fills, IsUntouched}
 use Rattle.kombilad_c.specs.Status.{verify_status, node_status, node_place}
@@ -24,6 +25,24 @@ number_if n is = if is then n else 0
 abbrev pub raw_row : ℕ → NodeRow
 raw_row len = record { kind = 0; fields = 1; size = len; seconds = pos 0; nanoseconds = 0; mode = 0 }
 
+-- how many bytes a file has by its node, if it doesn't state that: its own, and those below its links
+abbrev pub counted : DataType → (content : List ℕ) → (blocksizes : List ℕ) → Option ℕ
+counted Raw content blocksizes = within (length content + sum blocksizes)
+counted Directory content blocksizes = None
+counted File content blocksizes = within (length content + sum blocksizes)
+counted Metadata content blocksizes = None
+counted Symlink content blocksizes = None
+counted HamtShard content blocksizes = None
+
+-- the first of two numbers that is there
+abbrev pub first_of : Option ℕ → Option ℕ → Option ℕ
+first_of None other = other
+first_of (Some n) other = Some n
+
+-- how many bytes a file has, if it is less than 2^64
+abbrev pub size_of : DataParts → Option ℕ
+size_of message = first_of message.filesize (counted message.data_type (unwrap_or message.content []) message.blocksizes)
+
 -- the seconds of a time, and its nanoseconds
 abbrev pub seconds_of : Option TimeParts → ℤ
 seconds_of None = pos 0
@@ -37,8 +56,8 @@ nanoseconds_of (Some time) = time.nanoseconds
 abbrev pub row_of : DataParts → NodeRow
 row_of message = record {
   kind = code_of message.data_type;
-  fields = number_if 1 (is_some message.filesize) + number_if 2 (is_some message.mode) + number_if 4 (is_some message.mtime);
-  size = unwrap_or message.filesize 0;
+  fields = number_if 1 (is_some (size_of message)) + number_if 2 (is_some message.mode) + number_if 4 (is_some message.mtime);
+  size = unwrap_or (size_of message) 0;
   seconds = seconds_of message.mtime;
   nanoseconds = nanoseconds_of message.mtime;
   mode = unwrap_or message.mode 0;

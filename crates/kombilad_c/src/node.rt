@@ -1,14 +1,15 @@
 //! What a block says of a file, a folder or a symbolic link.
 
-ghost use Rattle.std.specs.Prelude.{◌≡◌, ◌⊎◌, ◌≤◌, option_map, MatchResult};
+ghost use Rattle.std.specs.Prelude.{◌≡◌, ◌⊎◌, ◌≤◌, ◌+◌, sum, option_map, MatchResult};
 ghost use Rattle.std.specs.Str.{IsUtf8};
 ghost use Rattle.ipld_cid.specs.Bytes.{read_cid};
 ghost use Rattle.ipld_cid.specs.LinkOf.{link_of};
 ghost use Rattle.unixfs.specs.Data.{code_of};
 ghost use Rattle.unixfs.specs.Views.{parts_of, parts_of_time};
+ghost use Rattle.unixfs_files.specs.Parts.{within};
 ghost use Rattle.unixfs_folders.specs.SymlinkTargets as targets;
 ghost use Rattle.kombilad_c.specs.Fill.{IsUntouched};
-ghost use Rattle.kombilad_c.specs.Node.{raw_row, row_of, seconds_of, nanoseconds_of, target_of, number_if, ReadsNode, ReadsBlock};
+ghost use Rattle.kombilad_c.specs.Node.{raw_row, row_of, size_of, seconds_of, nanoseconds_of, target_of, number_if, ReadsNode, ReadsBlock};
 ghost use Rattle.kombilad_c.specs.Status as numbers;
 
 use crate::fill::fill;
@@ -67,14 +68,45 @@ impl NodeRow {
     {
         NodeRow {
             kind: number_of(message.data_type),
-            fields: number_if(HAS_SIZE, message.filesize.is_some())
+            fields: number_if(HAS_SIZE, size(message).is_some())
                 + number_if(HAS_MODE, message.mode.is_some())
                 + number_if(HAS_TIME, message.mtime.is_some()),
-            size: message.filesize.unwrap_or(0),
+            size: size(message).unwrap_or(0),
             seconds: seconds(message.mtime),
             nanoseconds: nanoseconds(message.mtime),
             mode: message.mode.unwrap_or(0),
         }
+    }
+}
+
+// Returns the sum of these numbers, or `None` if it is 2^64 or more.
+fn total(first: u64, others: &[u64]) -> Option<u64>
+    ensures { result ≡ within (first + sum others.now) }
+{
+    let mut total = first;
+    for number in others {
+        match total.checked_add(*number) {
+            Some(more) => total = more,
+            None => return None,
+        }
+    }
+    Some(total)
+}
+
+// Returns the number of bytes of a file: the one that the node states, or otherwise that of its own
+// bytes and those below its links, if it is less than 2^64.
+fn size(message: &Data<'_>) -> Option<u64>
+    ensures { result ≡ size_of (parts_of message.now) }
+{
+    match message.filesize {
+        Some(size) => Some(size),
+        None => match message.data_type {
+            DataType::Raw | DataType::File => {
+                let own = message.data.unwrap_or(&[]);
+                total(own.len() as u64, &message.blocksizes)
+            }
+            _ => None,
+        },
     }
 }
 
