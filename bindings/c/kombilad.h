@@ -793,7 +793,7 @@ enum kombilad_node_field { KOMBILAD_NODE_SIZE = 1, KOMBILAD_NODE_MODE = 2, KOMBI
 typedef struct kombilad_node {
     uint32_t kind;   /* one of enum kombilad_node_kind */
     uint32_t fields; /* the sum of those of enum kombilad_node_field that it has */
-    uint64_t size;   /* bytes of the file; kombilad_file_take compares them with the file */
+    uint64_t size;   /* bytes of the file, by the node; kombilad_file_take compares them */
     int64_t seconds; /* when the content was last changed, since the beginning of 1970 in UTC */
     uint32_t nanoseconds; /* after these seconds, at most 999,999,999 */
     uint32_t mode;        /* permissions, as chmod has them in its low twelve bits */
@@ -801,8 +801,9 @@ typedef struct kombilad_node {
 
 /* Verifies the block of a CID, and writes what it says of a file, a folder or a symbolic link. A raw
  * block is a file of its bytes. The target of a symbolic link goes to the buffer `target`, and its
- * length to `needed`; for others that is 0. With OK and TOO_SHORT the node is written. It allocates
- * up to about 100 bytes for each link of the block.
+ * length to `needed`; for others that is 0. With OK and TOO_SHORT the node is written. A file has a
+ * size also if its node states none, unless it is 2^64 or more: that of its bytes and of its links.
+ * The call allocates up to about 100 bytes for each link of the block.
  *
  * With KOMBILAD_PB_* and KOMBILAD_LINK_* it writes to `place` the first byte of the invalid field of
  * the block, with KOMBILAD_UNIXFS_* that of the node's data, and with KOMBILAD_FILE_NO_DATA and
