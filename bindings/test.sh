@@ -87,9 +87,11 @@ with_debian() {
 rust=$copy/bindings/rust
 python3 -B test/car_cases.py "$tests/cars" "$blocks"
 export CARS="$tests/cars"
+PYTHONPATH=.. python3 -B test/unixfs_cases.py "$tests/unixfs"
+export UNIXFS="$tests/unixfs"
 with_debian test --manifest-path "$rust/Cargo.toml"
 said "Rust: ok"
-with_debian test --no-default-features --test calls --test car --test values --manifest-path "$rust/Cargo.toml"
+with_debian test --no-default-features --test calls --test car --test values --test unixfs --test unixfs_memory --manifest-path "$rust/Cargo.toml"
 said "Rust without serde: ok"
 RUSTDOCFLAGS="-D warnings" with_debian doc --no-deps --manifest-path "$rust/Cargo.toml"
 said "Rust, documentation: ok"

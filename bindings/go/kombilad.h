@@ -1,7 +1,7 @@
 /* This header belongs to kombilad.c. It differs from that of the library for x86-64 in the sizes in
  * records, which are uint64_t. */
 /* libkombilad: reads content identifiers (CIDs), blocks of DAG-CBOR and DAG-PB, texts in DAG-JSON,
- * CARs, and files of UnixFS by proved code.
+ * CARs, and files and folders of UnixFS by proved code.
  *
  *     #include <kombilad.h>
  *
@@ -11,8 +11,8 @@
  * nothing, except what its comment names.
  *
  * Memory. The caller owns all arguments. No call keeps a pointer after it returns. A call allocates
- * by malloc and realloc, and frees all of it before it returns, except the walk of a kombilad_file,
- * which kombilad_file_free frees. If an allocation fails, it returns KOMBILAD_NO_MEMORY.
+ * by malloc and realloc, and frees all of it before it returns, except the walk of a kombilad_walk,
+ * which kombilad_walk_free frees. If an allocation fails, it returns KOMBILAD_NO_MEMORY.
  *
  * Pointers. A buffer of length 0 may be NULL. Any other pointer has to be valid. Memory that a call
  * writes to must not overlap another argument.
@@ -227,10 +227,10 @@ enum kombilad_status {
 
     /* A walk over a file of UnixFS doesn't take the block: the first reason. The statuses of a
      * block that isn't verified, of a node of DAG-PB and of a link are those above. */
-    /* all blocks of the file were taken, which isn't an error of kombilad_file_wanted */
-    KOMBILAD_FILE_DONE = 192,
-    /* the kombilad_file has no walk */
-    KOMBILAD_FILE_CLOSED = 193,
+    /* the walk has taken all its blocks, which isn't an error of kombilad_walk_wanted */
+    KOMBILAD_WALK_DONE = 192,
+    /* the kombilad_walk has no walk, or one that is not over what the call reads */
+    KOMBILAD_WALK_CLOSED = 193,
     /* the codec of the CID is neither raw nor dag-pb */
     KOMBILAD_FILE_CODEC = 194,
     /* the node has no data */
@@ -270,7 +270,38 @@ enum kombilad_status {
     /* the time does not begin with its seconds */
     KOMBILAD_UNIXFS_NO_SECONDS = 215,
     /* the nanoseconds of the time are not from 1 to 999,999,999 */
-    KOMBILAD_UNIXFS_NANOSECONDS = 216
+    KOMBILAD_UNIXFS_NANOSECONDS = 216,
+
+    /* The block is not taken for a folder of UnixFS: the first reason. The statuses of a block that
+     * isn't verified, of a node of DAG-PB, of a link and of a message are those above. */
+    /* the codec of the CID is not dag-pb */
+    KOMBILAD_FOLDER_CODEC = 224,
+    /* the node is not a folder */
+    KOMBILAD_FOLDER_NOT_FOLDER = 225,
+    /* the hash function of a shard is not murmur3-x64-64 */
+    KOMBILAD_FOLDER_HASH_FUNCTION = 226,
+    /* a shard doesn't have 256 slots */
+    KOMBILAD_FOLDER_FANOUT = 227,
+    /* the name of an entry is missing, empty, "." or "..", or has a "/" or a zero byte */
+    KOMBILAD_FOLDER_INVALID_NAME = 228,
+    /* a name in a plain folder is not greater than the one before it */
+    KOMBILAD_FOLDER_NAME_ORDER = 229,
+    /* the name of a link in a shard doesn't begin with two upper-case hexadecimal digits */
+    KOMBILAD_FOLDER_INVALID_SLOT = 230,
+    /* a slot of a shard is not greater than the one before it */
+    KOMBILAD_FOLDER_SLOT_ORDER = 231,
+    /* the bit field of a shard is not that of its slots */
+    KOMBILAD_FOLDER_BIT_FIELD = 232,
+    /* a shard leads to a plain folder as if it were a shard */
+    KOMBILAD_FOLDER_NOT_SHARD = 233,
+    /* the hash of a name in a shard doesn't lead there */
+    KOMBILAD_FOLDER_WRONG_SLOT = 234,
+    /* a shard at the eighth level leads to another one */
+    KOMBILAD_FOLDER_TOO_DEEP = 235,
+    /* the folder has no entry with the name, which isn't an error */
+    KOMBILAD_FOLDER_MISSING = 236,
+    /* the search needs one more block, which isn't an error */
+    KOMBILAD_FOLDER_MORE = 237
 };
 
 /* Writes the sentence of a status: at most 80 bytes of ASCII, without a full stop and without a
@@ -609,23 +640,43 @@ uint32_t kombilad_car_next_part(const uint8_t *bytes, size_t len, uint32_t is_al
  * Statuses: OK, KOMBILAD_UNKNOWN_HASH, KOMBILAD_WRONG_DIGEST, KOMBILAD_CID_*. */
 uint32_t kombilad_verify(const uint8_t *cid, size_t cid_len, const uint8_t *block, size_t len);
 
-/* ---- Files of UnixFS
+/* ---- Walks over files and folders of UnixFS
  *
- * A walk over the blocks of a file, in the order of its bytes. Nobody has to trust the source of
- * the blocks: each block is verified before it is read, and each size in it is compared with the
- * number of bytes.
+ * Nobody has to trust the source of the blocks: each block is verified before it is read.
  *
- *     kombilad_file file = {0};
- *     status = kombilad_file_new(root, root_len, UINT64_MAX, KOMBILAD_FILE_BLOCKS,
- *                                KOMBILAD_FILE_WAITING, KOMBILAD_FILE_LEVELS, &file);
+ *     kombilad_walk walk = {0};
+ *     status = kombilad_file_new(root, root_len, 0, UINT64_MAX, UINT64_MAX, KOMBILAD_FILE_BLOCKS,
+ *                                KOMBILAD_FILE_WAITING, KOMBILAD_FILE_LEVELS, &walk);
  *     while (status == KOMBILAD_OK) {
- *         status = kombilad_file_wanted(&file, &cid);
+ *         status = kombilad_walk_wanted(&walk, &cid);
  *         if (status != KOMBILAD_OK) break;
  *         get_block(&cid, block, &len); // from anywhere; `bytes` has room for as many bytes
- *         status = kombilad_file_take(&file, block, len, bytes, len, &count, &offset);
+ *         status = kombilad_file_take(&walk, block, len, bytes, len, &count, &offset);
  *         if (status == KOMBILAD_OK) write(1, bytes, count);
  *     }
- *     kombilad_file_free(&file); // `status` is KOMBILAD_FILE_DONE at the end of the file
+ *     kombilad_walk_free(&walk); // `status` is KOMBILAD_WALK_DONE at the end of the file
+ */
+
+/* A walk, or none if all its bytes are zero. A caller sets them to zero before the first call.
+ * After that only the calls below may read or write them. A kombilad_walk may be moved, but only
+ * one copy of it may be used, by one call at a time. */
+typedef struct kombilad_walk {
+    uint64_t is_open;
+    uint64_t walk;
+} kombilad_walk;
+
+/* Writes the CID of the block that the walk wants next. Does not allocate.
+ *
+ * Statuses: OK, KOMBILAD_WALK_DONE, KOMBILAD_WALK_CLOSED. */
+uint32_t kombilad_walk_wanted(kombilad_walk *walk, kombilad_cid *cid);
+
+/* Frees the walk, if the kombilad_walk has one. It has none after that. */
+void kombilad_walk_free(kombilad_walk *walk);
+
+/* ---- Files of UnixFS
+ *
+ * A walk over the blocks of a file, in the order of its bytes. Each size in a block is compared with
+ * the number of bytes.
  */
 
 /* Limits for untrusted files. A file of 1 TiB in chunks of 256 KiB, with 174 links in a block, has
@@ -634,50 +685,143 @@ uint32_t kombilad_verify(const uint8_t *cid, size_t cid_len, const uint8_t *bloc
 #define KOMBILAD_FILE_WAITING ((size_t)1 << 18)
 #define KOMBILAD_FILE_LEVELS ((size_t)64)
 
-/* A walk, or none if all its bytes are zero. A caller sets them to zero before the first call.
- * After that only the calls below may read or write them. A kombilad_file may be moved, but only
- * one copy of it may be used, by one call at a time. */
-typedef struct kombilad_file {
-    uint64_t is_open;
-    uint64_t walk;
-} kombilad_file;
-
-/* Begins a walk over the file of a CID, and frees the walk that the kombilad_file had. With an
- * error the kombilad_file is as before. The limits are on:
- * - `max_bytes`: the bytes of the file.
- * - `max_blocks`: its blocks. A block that is linked twice counts twice.
+/* Begins a walk over the file of a CID, and frees the walk that the kombilad_walk had. The walk is
+ * over at most `length` bytes from the byte `start` on: with 0 and UINT64_MAX over the whole file.
+ * Blocks before and after them are neither wanted nor verified. If the file has no more bytes than
+ * `start`, there are none. With an error the kombilad_walk is as before. The limits are on:
+ * - `max_bytes`: the bytes in the range.
+ * - `max_blocks`: the blocks. A block that is linked twice counts twice.
  * - `max_waiting`: the blocks that wait to be read while another is read. Each takes about 100
  *   bytes of memory.
  * - `max_levels`: the levels of blocks below the root.
  *
  * Statuses: OK, NO_MEMORY, KOMBILAD_CID_*. */
-uint32_t kombilad_file_new(const uint8_t *root, size_t root_len, uint64_t max_bytes,
-                           uint64_t max_blocks, size_t max_waiting, size_t max_levels,
-                           kombilad_file *file);
-
-/* Writes the CID of the block that the walk wants next. Does not allocate.
- *
- * Statuses: OK, KOMBILAD_FILE_DONE, KOMBILAD_FILE_CLOSED. */
-uint32_t kombilad_file_wanted(kombilad_file *file, kombilad_cid *cid);
+uint32_t kombilad_file_new(const uint8_t *root, size_t root_len, uint64_t start, uint64_t length,
+                           uint64_t max_bytes, uint64_t max_blocks, size_t max_waiting,
+                           size_t max_levels, kombilad_walk *walk);
 
 /* Takes the block that the walk wants, and writes the bytes of the file in it, which come next in
- * the file. A block above others usually has none. With OK their number is written to `needed`. The
+ * the range. A block above others usually has none. With OK their number is written to `needed`. The
  * buffer `bytes` needs as much room as the block. If it is shorter, the call writes the length of
  * the block to `needed`, and returns TOO_SHORT. It allocates up to about 400 bytes for each link
  * of the block.
  *
  * With any status except OK the walk is as before, and still wants this block. With KOMBILAD_PB_*
  * and KOMBILAD_LINK_* the call writes to `offset` the first byte of the invalid field of the block,
- * and with KOMBILAD_UNIXFS_* that of the node's data. With OK, TOO_SHORT and KOMBILAD_FILE_CLOSED
+ * and with KOMBILAD_UNIXFS_* that of the node's data. With OK, TOO_SHORT and KOMBILAD_WALK_CLOSED
  * nothing is written to it, and with other errors 0.
  *
  * Statuses: OK, TOO_SHORT, NO_MEMORY, KOMBILAD_UNKNOWN_HASH, KOMBILAD_WRONG_DIGEST,
- * KOMBILAD_FILE_*, KOMBILAD_PB_*, KOMBILAD_LINK_*, KOMBILAD_UNIXFS_*. */
-uint32_t kombilad_file_take(kombilad_file *file, const uint8_t *block, size_t len, uint8_t *bytes,
+ * KOMBILAD_WALK_*, KOMBILAD_FILE_*, KOMBILAD_PB_*, KOMBILAD_LINK_*, KOMBILAD_UNIXFS_*. */
+uint32_t kombilad_file_take(kombilad_walk *walk, const uint8_t *block, size_t len, uint8_t *bytes,
                             size_t bytes_len, size_t *needed, size_t *offset);
 
-/* Frees the walk, if the kombilad_file has one. It has none after that. */
-void kombilad_file_free(kombilad_file *file);
+/* ---- Folders of UnixFS */
+
+/* An entry of a folder. */
+typedef struct kombilad_folder_entry {
+    kombilad_cid cid;
+    kombilad_span name; /* in `names`; UTF-8, not "", "." or "..", without "/" and zero bytes */
+    /* The size that the link states of its block and all blocks below it. Nothing checks it. It is 0
+     * if the link states none. */
+    uint64_t tsize;
+    uint64_t has_tsize; /* 1 if the link states a size, and otherwise 0 */
+} kombilad_folder_entry;
+
+/* The number of entries that a block of so many bytes has at most. */
+#define KOMBILAD_FOLDER_ENTRIES(len) ((size_t)(len) / 6)
+
+/* Begins a walk over the entries of the folder of a CID, plain or sharded, and frees the walk that
+ * the kombilad_walk had. A plain folder is one block. A sharded one is listed shard by shard: first
+ * the entries that a shard itself has, and then those of the shards below it, in the order of the
+ * slots. With an error the kombilad_walk is as before.
+ *
+ * Statuses: OK, NO_MEMORY, KOMBILAD_CID_*. */
+uint32_t kombilad_folder_new(const uint8_t *root, size_t root_len, kombilad_walk *walk);
+
+/* Takes the block that the walk wants, and writes the entries in it, with their names one after the
+ * other in `names`. With OK their number is written to `needed`. `entries_len` and `needed` count
+ * entries. There has to be room for KOMBILAD_FOLDER_ENTRIES(len) entries, and for as many bytes of
+ * names as the block has. If there is less, the call writes KOMBILAD_FOLDER_ENTRIES(len) to `needed`,
+ * and returns TOO_SHORT. It allocates up to about 500 bytes for each link of the block.
+ *
+ * With any status except OK the walk is as before, and still wants this block. With KOMBILAD_PB_*
+ * and KOMBILAD_LINK_* the call writes to `place` the first byte of the invalid field of the block,
+ * and with KOMBILAD_UNIXFS_* that of the node's data. With KOMBILAD_FOLDER_INVALID_NAME, NAME_ORDER,
+ * INVALID_SLOT, SLOT_ORDER and WRONG_SLOT it writes the number of the link, counted from 0. With OK,
+ * TOO_SHORT and KOMBILAD_WALK_CLOSED nothing is written to it, and with other errors 0.
+ *
+ * Statuses: OK, TOO_SHORT, NO_MEMORY, KOMBILAD_UNKNOWN_HASH, KOMBILAD_WRONG_DIGEST,
+ * KOMBILAD_WALK_*, KOMBILAD_FOLDER_* up to TOO_DEEP, KOMBILAD_FILE_NO_DATA, KOMBILAD_PB_*,
+ * KOMBILAD_LINK_*, KOMBILAD_UNIXFS_*. */
+uint32_t kombilad_folder_take(kombilad_walk *walk, const uint8_t *block, size_t len,
+                              kombilad_folder_entry *entries, size_t entries_len, uint8_t *names,
+                              size_t names_len, size_t *needed, size_t *place);
+
+/* Looks for the entry with this name in the folder of a CID, plain or sharded. It keeps nothing: each
+ * call gets all blocks from the folder's own on, in the order in which the calls before asked for
+ * them, at most eight. They are at the places `blocks` of `bytes`. The first call gets none.
+ *
+ * With OK it writes the CID of the entry to `cid`, and with KOMBILAD_FOLDER_MORE that of the block
+ * that it needs next. The first of these is the CID of the folder. Each block is verified. A name
+ * that no entry can have, such as "..", is looked for like any other, and missing. A name that isn't
+ * UTF-8 has the status KOMBILAD_TEXT_UTF8. It allocates up to about 500 bytes for each link of a
+ * block. With an error of a block it writes to `place` what kombilad_folder_take does.
+ *
+ * Statuses: OK, NO_MEMORY, KOMBILAD_FOLDER_*, KOMBILAD_CID_*, KOMBILAD_TEXT_UTF8,
+ * KOMBILAD_UNKNOWN_HASH, KOMBILAD_WRONG_DIGEST, KOMBILAD_FILE_NO_DATA, KOMBILAD_PB_*,
+ * KOMBILAD_LINK_*, KOMBILAD_UNIXFS_*. */
+uint32_t kombilad_folder_lookup(const uint8_t *folder, size_t folder_len, const uint8_t *name,
+                                size_t name_len, const uint8_t *bytes, size_t bytes_len,
+                                const kombilad_span *blocks, size_t blocks_len, kombilad_cid *cid,
+                                size_t *place);
+
+/* ---- Nodes of UnixFS */
+
+/* What a node stands for. */
+enum kombilad_node_kind {
+    KOMBILAD_NODE_RAW = 0, /* bytes of a file: a raw block, or a leaf of an old writer */
+    KOMBILAD_NODE_FOLDER = 1,
+    KOMBILAD_NODE_FILE = 2,
+    KOMBILAD_NODE_METADATA = 3,
+    KOMBILAD_NODE_SYMLINK = 4,
+    KOMBILAD_NODE_SHARD = 5 /* a sharded folder, or a part of one */
+};
+
+/* The fields that a node may have. */
+enum kombilad_node_field { KOMBILAD_NODE_SIZE = 1, KOMBILAD_NODE_MODE = 2, KOMBILAD_NODE_TIME = 4 };
+
+/* What a block says of a file, a folder or a symbolic link. A field that it doesn't have is 0. */
+typedef struct kombilad_node {
+    uint32_t kind;   /* one of enum kombilad_node_kind */
+    uint32_t fields; /* the sum of those of enum kombilad_node_field that it has */
+    uint64_t size;   /* bytes of the file, by the node; kombilad_file_take compares them */
+    int64_t seconds; /* when the content was last changed, since the beginning of 1970 in UTC */
+    uint32_t nanoseconds; /* after these seconds, at most 999,999,999 */
+    uint32_t mode;        /* permissions, as chmod has them in its low twelve bits */
+} kombilad_node;
+
+/* Verifies the block of a CID, and writes what it says of a file, a folder or a symbolic link. A raw
+ * block is a file of its bytes. The target of a symbolic link goes to the buffer `target`, and its
+ * length to `needed`; for others that is 0. With OK and TOO_SHORT the node is written. A file has a
+ * size also if its node states none, unless it is 2^64 or more: that of its bytes and of its links.
+ * The call allocates up to about 100 bytes for each link of the block.
+ *
+ * With KOMBILAD_PB_* and KOMBILAD_LINK_* it writes to `place` the first byte of the invalid field of
+ * the block, with KOMBILAD_UNIXFS_* that of the node's data, and with KOMBILAD_FILE_NO_DATA and
+ * NO_MEMORY 0. Otherwise nothing is written to it.
+ *
+ * Statuses: OK, TOO_SHORT, NO_MEMORY, KOMBILAD_CID_*, KOMBILAD_UNKNOWN_HASH, KOMBILAD_WRONG_DIGEST,
+ * KOMBILAD_FILE_CODEC, KOMBILAD_FILE_NO_DATA, KOMBILAD_PB_*, KOMBILAD_LINK_*, KOMBILAD_UNIXFS_*. */
+uint32_t kombilad_unixfs_node(const uint8_t *cid, size_t cid_len, const uint8_t *block, size_t len,
+                              kombilad_node *node, uint8_t *target, size_t target_len,
+                              size_t *needed, size_t *place);
+
+/* Returns 1 if a symbolic link with this target leads to nothing outside of a folder, if it is in a
+ * folder `depth` levels below that one, and none of the folders between them is a link. Otherwise it
+ * returns 0. That is so if the target is UTF-8 and relative, and has ".." only before all names, at
+ * most `depth` times. Does not allocate. */
+uint32_t kombilad_symlink_stays_inside(const uint8_t *target, size_t len, size_t depth);
 
 /* ---- The library */
 

@@ -242,9 +242,7 @@ def write_wrappers(header, module, names):
         texts.append(Wrapper(call, names[call.name], records).write())
     body = "\n\n".join(texts)
     orders = [
-        record_functions(name, parts)
-        for name, parts in records.items()
-        if f"order_{name}(" in body
+        record_functions(name, parts) for name, parts in records.items() if f"order_{name}(" in body
     ]
     if orders:
         helpers = "\n\n".join([HELPERS, *orders])

@@ -67,7 +67,7 @@ def main():
     header = found(BINDINGS / "c" / "kombilad.h", r"^    KOMBILAD_((?!BASE|KIND|NODE)\w+) = (\d+)")
     rust = found(
         BINDINGS / "rust" / "kombilad-sys" / "src" / "lib.rs",
-        r"^pub const KOMBILAD_(\w+): u32 = (\d+);",
+        r"^pub const KOMBILAD_((?!NODE)\w+): u32 = (\d+);",
     )
     rust.pop("BASE_USUAL", None)
     python = found(BINDINGS / "python" / "src" / "kombilad" / "_status.py", r"^    (\w+) = (\d+)$")

@@ -79,15 +79,11 @@ FAULTS = [
         "kombilad_verify(at, cid.length, core.room, size)",
         "kombilad_verify(at, cid.length, core.room, size - 1)",
     ),
-    (CID, "code < 1n << 64n", "code <= 1n << 64n"),
+    (CORE, "number < 1n << 64n", "number <= 1n << 64n"),
     (CID, "number > 127n; number >>= 7n", "number > 128n; number >>= 7n"),
     # The JavaScript.
     (CORE, "if (this.bytes.length === 0) this.view()", ""),
-    (
-        CORE,
-        "      throw Object.assign(ofName('TRAP'",
-        "      keep(core)\n      throw Object.assign(ofName('TRAP'",
-    ),
+    (CORE, "if (reported === error) keep(core)", "keep(core)"),
     (CORE, "{ if (core.bound === bound) instance = core }", "{ instance = core }"),
     (CORE, "  instance = undefined\n  try {", "  try {"),
     (

@@ -3,8 +3,8 @@
  * Memory is [stack, constants][room][heap]. The blocks of the heap lie side by side, each after a
  * head. The last one grows, shrinks and is freed in place. Any other block that is freed stays until
  * all blocks after it are freed. The whole heap is free after each call that frees all that it
- * takes. A walk over a file keeps blocks, and what its calls take lies after them. Memory grows up to
- * the bound, and never shrinks. */
+ * takes. A walk over a file or a folder keeps blocks, and what its calls take lies after them. Memory
+ * grows up to the bound, and never shrinks. */
 #include <stdint.h>
 #include <stdlib.h>
 

@@ -1,5 +1,5 @@
 import { ofName, ofStatus } from './errors.js'
-import { bytesOf, inputOf, place, run, sizeOf } from './core.js'
+import { bytesOf, inputOf, longOf, place, run, sizeOf } from './core.js'
 
 const PREFIXES = { base16: 'f', base32: 'b', base32upper: 'B', base36: 'k', base58btc: 'z', base64url: 'u' }
 const LONGEST_TEXT = 176
@@ -45,14 +45,8 @@ function equal (a, b) {
   return true
 }
 
-/**
- * Returns the code of a codec as a BigInt. Throws INPUT unless it is a safe integer of at least 0,
- * or a BigInt from 0 to 2^64 - 1.
- */
-function codeOf (code) {
-  if (typeof code === 'bigint' ? code >= 0n && code < 1n << 64n : Number.isSafeInteger(code) && code >= 0) return BigInt(code)
-  throw ofName('INPUT', undefined, ': the code of a codec')
-}
+/** Returns the code of a codec as a BigInt. Throws INPUT as `longOf` does. */
+function codeOf (code) { return longOf(code, 'the code of a codec') }
 
 /** Returns the bytes of a BigInt as a varint. */
 function varintBytes (number) {
@@ -74,7 +68,7 @@ function isCid (core, bytes) {
  * Returns the bytes of the CID that a call has written to the record, after a byte with their
  * number.
  */
-function madeCid (core) {
+export function madeCid (core) {
   const cid = core.cidAt
   return core.bytes.slice(cid + 1, cid + 1 + core.bytes[cid])
 }

@@ -62,7 +62,8 @@ const LARGEST = 0x7f000000
 /** The size of the record in bytes. It has a number of bytes or items, an offset, and a CID. */
 const RECORD = 96
 
-class Core {
+/** An instance of the module with its memory. */
+export class Core {
   constructor (made = instantiated()) {
     started++
     this.calls = made.exports
@@ -90,6 +91,9 @@ class Core {
    */
   refresh () { if (this.bytes.length === 0) this.view() }
 
+  /** Returns the address of `size` bytes for the record and the room, or 0. */
+  grown (size) { return this.calls.kombilad_wasm_room(size) }
+
   /**
    * Grows the room after the record to at least `size` bytes. Throws NO_MEMORY if that is
    * impossible.
@@ -100,10 +104,10 @@ class Core {
       if (size > LARGEST) throw ofStatus(1)
       // Tries the next power of two first, so that the room grows rarely, and then exactly `size`.
       let taken = Math.min(2 ** Math.ceil(Math.log2(Math.max(size, 4096))), LARGEST)
-      let begins = this.calls.kombilad_wasm_room(RECORD + taken)
+      let begins = this.grown(RECORD + taken)
       if (begins === 0) {
         taken = size
-        begins = this.calls.kombilad_wasm_room(RECORD + taken)
+        begins = this.grown(RECORD + taken)
         if (begins === 0) throw ofStatus(1)
       }
       this.size = taken
@@ -134,12 +138,6 @@ class Core {
   }
 }
 
-/**
- * Returns a core that no other call uses, for what keeps memory of the core between two calls. It
- * has the memory limit that is set now.
- */
-export const separate = () => new Core()
-
 startBy(() => {
   try {
     run(() => {})
@@ -159,6 +157,12 @@ export function failed (core, status) {
  */
 function keep (core) { if (core.bound === bound) instance = core }
 
+/** Returns the error TRAP for a trap or a RangeError, and any other error unchanged. */
+export function trapOf (error) {
+  if (!(error instanceof WebAssembly.RuntimeError || error instanceof RangeError)) return error
+  return Object.assign(ofName('TRAP', undefined, `: ${error.message}`), { cause: error })
+}
+
 /**
  * Calls `work` with the core, and returns its result. Throws TRAP after a trap or a RangeError, and
  * drops the instance, so that no later call uses it. A call that begins during `work` uses another
@@ -172,11 +176,9 @@ export function run (work, a, b, c, d) {
     keep(core)
     return made
   } catch (error) {
-    if (error instanceof WebAssembly.RuntimeError || error instanceof RangeError) {
-      throw Object.assign(ofName('TRAP', undefined, `: ${error.message}`), { cause: error })
-    }
-    keep(core)
-    throw error
+    const reported = trapOf(error)
+    if (reported === error) keep(core)
+    throw reported
   }
 }
 
@@ -289,6 +291,15 @@ export function place (core, bytes, size, behind) {
   // `run` drops the instance.
   if (sizeOf(bytes) !== size) throw new RangeError('a shared buffer grew while it was copied')
   return core.room + after
+}
+
+/**
+ * Returns a number of at most 64 bits as a BigInt. Throws INPUT, with `what` in the message, unless
+ * it is a safe integer of at least 0, or a BigInt from 0 to 2^64 - 1.
+ */
+export function longOf (number, what) {
+  if (typeof number === 'bigint' ? number >= 0n && number < 1n << 64n : Number.isSafeInteger(number) && number >= 0) return BigInt(number)
+  throw ofName('INPUT', undefined, `: ${what}`)
 }
 
 const LEVELS = 1024

@@ -66,8 +66,8 @@ const NAMES = {
   168: 'JSON_RESERVED',
   169: 'JSON_RESERVED_MAP',
   176: 'CAR_MORE',
-  192: 'FILE_DONE',
-  193: 'FILE_CLOSED',
+  192: 'WALK_DONE',
+  193: 'WALK_CLOSED',
   194: 'FILE_CODEC',
   195: 'FILE_NO_DATA',
   196: 'FILE_NOT_FILE',
@@ -86,7 +86,21 @@ const NAMES = {
   213: 'UNIXFS_UNKNOWN_TYPE',
   214: 'UNIXFS_MODE_TOO_LARGE',
   215: 'UNIXFS_NO_SECONDS',
-  216: 'UNIXFS_NANOSECONDS'
+  216: 'UNIXFS_NANOSECONDS',
+  224: 'FOLDER_CODEC',
+  225: 'FOLDER_NOT_FOLDER',
+  226: 'FOLDER_HASH_FUNCTION',
+  227: 'FOLDER_FANOUT',
+  228: 'FOLDER_INVALID_NAME',
+  229: 'FOLDER_NAME_ORDER',
+  230: 'FOLDER_INVALID_SLOT',
+  231: 'FOLDER_SLOT_ORDER',
+  232: 'FOLDER_BIT_FIELD',
+  233: 'FOLDER_NOT_SHARD',
+  234: 'FOLDER_WRONG_SLOT',
+  235: 'FOLDER_TOO_DEEP',
+  236: 'FOLDER_MISSING',
+  237: 'FOLDER_MORE'
 }
 
 /**
@@ -129,6 +143,7 @@ const OTHERS = {
   WRONG_VERSION: 'only a CID of DAG-PB with SHA2-256 has a version 0',
   CAR_READ_ONCE: 'the blocks of an iterator were asked for a second time',
   MISSING_BLOCK: 'a block is missing',
+  MISSING_ENTRY: 'a folder has no entry with this name',
   NO_TAPE: 'this build of the core has no tapes',
   INPUT: 'the input is not of the type that the call takes',
   NOT_STARTED: 'the core can\'t be started here; in a browser call `await init()` first',
@@ -137,8 +152,9 @@ const OTHERS = {
 
 /**
  * Represents an error of this package. `code` is its name. `offset` is the byte of the input at
- * which it occurred, or undefined. `cid` is the CID of the block at which `readFile` stopped, or
- * undefined.
+ * which it occurred, or undefined. The calls for UnixFS also set `cid`, which is the CID of the
+ * block, `link`, which is the index of the invalid link of a folder, and `path`, which is the path
+ * up to a missing name.
  */
 export class KombiladError extends Error {
   constructor (code, message, offset) {
@@ -147,6 +163,8 @@ export class KombiladError extends Error {
     this.code = code
     this.offset = offset
     this.cid = undefined
+    this.link = undefined
+    this.path = undefined
   }
 }
 

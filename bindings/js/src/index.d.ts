@@ -28,8 +28,9 @@ export type ErrorCode =
   | 'CAR_UNEXPECTED_END' | 'CAR_LENGTH_NOT_SHORTEST' | 'CAR_LENGTH_TOO_LARGE' | 'CAR_EMPTY' | 'CAR_TOO_LONG' | 'CAR_NOT_A_HEADER' | 'CAR_PAYLOAD' | 'CAR_SHORT_PAYLOAD' | 'CAR_READ_ONCE'
   | 'PB_END' | 'PB_VARINT_TOO_LARGE' | 'PB_UNKNOWN_FIELD' | 'PB_FIELD_ORDER' | 'PB_NO_HASH' | 'PB_UTF8'
   | 'JSON_UTF8' | 'JSON_SYNTAX' | 'JSON_END' | 'JSON_FLOAT' | 'JSON_INTEGER_RANGE' | 'JSON_DUPLICATE_KEY' | 'JSON_LINK' | 'JSON_BYTES' | 'JSON_RESERVED' | 'JSON_RESERVED_MAP'
-  | 'MISSING_BLOCK' | 'FILE_CODEC' | 'FILE_NO_DATA' | 'FILE_NOT_FILE' | 'FILE_SIZE_COUNT' | 'FILE_SIZE' | 'FILE_PART_SIZE' | 'FILE_TOO_LARGE' | 'FILE_TOO_MANY_BLOCKS' | 'FILE_TOO_DEEP' | 'FILE_TOO_MANY_PARTS'
+  | 'MISSING_BLOCK' | 'MISSING_ENTRY' | 'FILE_CODEC' | 'FILE_NO_DATA' | 'FILE_NOT_FILE' | 'FILE_SIZE_COUNT' | 'FILE_SIZE' | 'FILE_PART_SIZE' | 'FILE_TOO_LARGE' | 'FILE_TOO_MANY_BLOCKS' | 'FILE_TOO_DEEP' | 'FILE_TOO_MANY_PARTS'
   | 'UNIXFS_END' | 'UNIXFS_VARINT_TOO_LARGE' | 'UNIXFS_UNKNOWN_FIELD' | 'UNIXFS_FIELD_ORDER' | 'UNIXFS_NO_TYPE' | 'UNIXFS_UNKNOWN_TYPE' | 'UNIXFS_MODE_TOO_LARGE' | 'UNIXFS_NO_SECONDS' | 'UNIXFS_NANOSECONDS'
+  | 'FOLDER_CODEC' | 'FOLDER_NOT_FOLDER' | 'FOLDER_HASH_FUNCTION' | 'FOLDER_FANOUT' | 'FOLDER_INVALID_NAME' | 'FOLDER_NAME_ORDER' | 'FOLDER_INVALID_SLOT' | 'FOLDER_SLOT_ORDER' | 'FOLDER_BIT_FIELD' | 'FOLDER_NOT_SHARD' | 'FOLDER_WRONG_SLOT' | 'FOLDER_TOO_DEEP'
   | 'ENCODE_UNSUPPORTED' | 'ENCODE_NUMBER' | 'ENCODE_STRING' | 'ENCODE_TOO_DEEP' | 'WRONG_VERSION' | 'INPUT' | 'NO_TAPE' | 'NOT_STARTED' | 'TRAP'
 
 /** Reports why a call failed. */
@@ -40,8 +41,15 @@ export class KombiladError extends Error {
    * is the position of the invalid character.
    */
   readonly offset?: number
-  /** The CID of the block at which `readFile` stopped. */
+  /**
+   * The CID of the block at which `readFile`, `listFolder`, `resolvePath` or `readNode` stopped.
+   * For `MISSING_ENTRY` it is that of the folder.
+   */
   readonly cid?: CID
+  /** The index of the invalid link in the block of a folder, if the error is in a link. */
+  readonly link?: number
+  /** The path up to the missing name, for `MISSING_ENTRY`. */
+  readonly path?: string
 }
 
 /** A multihash. */
@@ -248,9 +256,15 @@ export interface BlockIndex {
   blockOffset: number
 }
 
+/**
+ * Returns the block of a CID, or undefined if it is missing, or a promise of these. Nobody has to
+ * trust it: each block is verified before it is read.
+ */
+export type GetBlock = (cid: CID) => Bytes | null | undefined | Promise<Bytes | null | undefined>
+
 /** The limits on a file. For Infinity there is no limit. */
 export interface FileLimits {
-  /** The maximum number of bytes. By default there is no limit. */
+  /** The maximum number of bytes that are read. By default there is no limit. */
   bytes?: number
   /** The maximum number of blocks: 2^24 by default. A block that is linked twice counts twice. */
   blocks?: number
@@ -260,16 +274,99 @@ export interface FileLimits {
   levels?: number
 }
 
+/** The limits on a file, and the range of its bytes. */
+export interface FileOptions extends FileLimits {
+  /** The offset of the first byte: 0 by default. If it is after the end, there are no bytes. */
+  start?: number | bigint
+  /** The maximum number of bytes. By default, and for Infinity, the range ends with the file. */
+  length?: number | bigint
+}
+
 /**
- * Iterates over the bytes of a file of UnixFS (IPFS), in order. `get` returns the block of a CID, or
- * undefined if it is missing, or a promise of these. Nobody has to trust it: each block is verified
- * before it is read, and each size in a block is compared with the number of bytes.
+ * Iterates over the bytes of a file of UnixFS (IPFS), or of a range of them, in order. Each size in
+ * a block is compared with the number of bytes. Blocks before and after the range are not asked
+ * for.
  *
  * Throws a `KombiladError` with the `cid` of the block if it is missing (`MISSING_BLOCK`), is not
  * that of its CID or not a part of the file, or exceeds a limit. All bytes before are those of the
- * file. Each call has an instance of the core with its own memory.
+ * file. Then the iterator has ended, as it has after an error of `get`, which is passed on. Throws
+ * `INPUT` unless `start` and `length` are safe integers of at least 0, or `bigint`s of up to 64
+ * bits. Each call has an instance of the core with its own memory.
+ *
+ *     for await (const piece of readFile(get, cid, { start: 1000, length: 500 })) out.write(piece)
  */
-export function readFile(get: (cid: CID) => Bytes | null | undefined | Promise<Bytes | null | undefined>, cid: CID, limits?: FileLimits): AsyncGenerator<Uint8Array, void, void>
+export function readFile(get: GetBlock, cid: CID, options?: FileOptions): AsyncGenerator<Uint8Array, void, void>
+
+/** An entry of a folder. */
+export interface FolderEntry {
+  /** The name, which is not empty, `.` or `..`, and has no `/` and no zero byte. */
+  name: string
+  /** The CID of a file, a folder or a symbolic link. */
+  cid: CID
+  /**
+   * The size that the folder states of the blocks of the entry, which nothing checks: a `bigint` if
+   * it isn't a safe integer, and undefined if the folder states none.
+   */
+  tsize: number | bigint | undefined
+}
+
+/**
+ * Iterates over the entries of a folder of UnixFS, plain or sharded. A plain folder is one block,
+ * with its names in the order of their UTF-8. A sharded one is listed block by block, and its names
+ * have no order. A block is asked for after the entries of those before it were taken.
+ *
+ * Throws a `KombiladError` with the `cid` of the block if it is missing (`MISSING_BLOCK`), is not
+ * that of its CID, or not a folder. All entries before are those of the folder. Then the iterator
+ * has ended, as it has after an error of `get`, which is passed on. Each call has an instance of
+ * the core with its own memory. That needs up to 22 times the size of a block.
+ *
+ *     for await (const { name, cid } of listFolder(get, root)) console.log(name, String(cid))
+ */
+export function listFolder(get: GetBlock, cid: CID): AsyncGenerator<FolderEntry, void, void>
+
+/**
+ * Returns the CID at a path such as `a/b/c` in a folder of UnixFS, plain or sharded. Empty names are
+ * skipped, so an empty path leads to the CID itself. Asks only for the blocks that lead there, at
+ * most eight for each name. Names are compared exactly, and no folder has `..`. Symbolic links are
+ * not followed.
+ *
+ * Throws a `KombiladError` with the `cid` of the block: `MISSING_ENTRY`, with the `path` up to the
+ * missing name, if that folder has no such entry, and otherwise an error of `listFolder`, such as
+ * `FOLDER_NOT_FOLDER` at a symbolic link. In a shard only the slot of the name's hash is compared
+ * with the name, so `listFolder` can find faults that this does not. Throws `ENCODE_STRING` if a
+ * name has a surrogate that has no partner.
+ *
+ *     const cid = await resolvePath(get, root, 'photos/2026/cat.jpg')
+ */
+export function resolvePath(get: GetBlock, cid: CID, path: string): Promise<CID>
+
+/** What a block says of a file, a folder or a symbolic link. What it doesn't state is undefined. */
+export interface UnixFSNode {
+  /** For the root of a sharded folder, and for each other part of it, the kind is `shard`. */
+  kind: 'raw' | 'file' | 'folder' | 'shard' | 'symlink' | 'metadata'
+  /** The number of bytes of the file, with which `readFile` compares it. */
+  size: number | bigint | undefined
+  /** The permissions, in the low twelve bits. */
+  mode: number | undefined
+  /**
+   * The time of the last change: the seconds since the beginning of 1970 in UTC, and up to
+   * 999,999,999 nanoseconds after them. The seconds are a `bigint` if they aren't a safe integer.
+   */
+  mtime: { seconds: number | bigint, nanoseconds: number } | undefined
+  /** The target of a symbolic link, which nothing checks. It may be no UTF-8. */
+  target: Uint8Array | undefined
+}
+
+/**
+ * Verifies the block of a CID, and returns what it says of a file, a folder or a symbolic link. A
+ * block of the codec raw is a file of its bytes.
+ *
+ * Throws a `KombiladError` with the `cid` if the block is not that of the CID, or not a node of
+ * UnixFS.
+ *
+ *     if (readNode(cid, await get(cid)).kind === 'symlink') console.log('a link')
+ */
+export function readNode(cid: CID, block: Bytes): UnixFSNode
 
 /** Iterates over the positions of the blocks of a CAR, in their order. */
 export class CarIndexer implements AsyncIterable<BlockIndex> {

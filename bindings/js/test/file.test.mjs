@@ -1,5 +1,5 @@
-// Tests readFile over the files of FILES, which file_cases.py packs, and the client fetch_file.mjs against
-// honest and dishonest gateways.
+// Tests readFile over the files of FILES, which file_cases.py packs, and the client fetch_file.mjs
+// against honest and dishonest gateways.
 import assert from 'node:assert/strict'
 import { execFile, spawn } from 'node:child_process'
 import { once } from 'node:events'
@@ -25,10 +25,10 @@ async function packed (name) {
 }
 
 /** Returns the bytes that are read before an error, and the error or undefined. */
-async function read (get, cid, limits) {
+async function read (get, cid, options) {
   const pieces = []
   try {
-    for await (const piece of readFile(get, cid, limits)) pieces.push(piece)
+    for await (const piece of readFile(get, cid, options)) pieces.push(piece)
   } catch (error) {
     return { bytes: Buffer.concat(pieces), error }
   }
@@ -63,6 +63,35 @@ describe('readFile', () => {
     })
   }
 
+  test('reads a range, and only the blocks that hold it', async () => {
+    const { length } = content
+    for (const [name, chunk] of [['two-levels', 262144], ['raw-leaves', 9000], ['nodes', 8000]]) {
+      const { root, blocks } = await packed(name)
+      for (const [start, count] of [[0, 10], [0, length], [chunk - 1, 2], [chunk, chunk], [chunk + 1, 3 * chunk], [length - 1, 1], [length - 5, 100], [length, 1], [length + 1, 1], [500000, 0]]) {
+        const asked = []
+        const { bytes, error } = await read((cid) => { asked.push(String(cid)); return blocks.get(String(cid)) }, root, { start, length: count })
+        assert.equal(error, undefined)
+        assert.ok(bytes.equals(content.subarray(start, start + count)), `${name} ${start} ${count}`)
+        assert.ok(asked.length <= Math.ceil(bytes.length / chunk) * 3 + 6 || count === length, `${asked.length} blocks of ${name}`)
+      }
+      for (const [options, begins, ends] of [
+        [{ start: 999999n, length: 3n }, 999999, 1000002],
+        [{ start: 999999 }, 999999, length],
+        [{ length: 7 }, 0, 7],
+        [{ start: 5, length: Infinity }, 5, length],
+        [{ start: 2n ** 64n - 1n, length: 2n ** 64n - 1n }, length, length],
+        [{ start: Number.MAX_SAFE_INTEGER, length: 1 }, length, length],
+        [{ start: undefined, length: undefined }, 0, length],
+        [{ start: 100, length: 50, bytes: 50 }, 100, 150]
+      ]) assert.ok((await read(from(blocks), root, options)).bytes.equals(content.subarray(begins, ends)), `${name} ${begins} ${ends}`)
+      assert.equal((await read(from(blocks), root, { start: 100, length: 51, bytes: 50 })).error.code, 'FILE_TOO_LARGE')
+      for (const value of [-1, 1.5, NaN, '1', -1n, 2n ** 64n, 2 ** 53, {}]) {
+        for (const options of [{ start: value }, { length: value }]) await assert.rejects(readFile(() => assert.fail(), root, options).next(), { code: 'INPUT' })
+      }
+      await assert.rejects(readFile(() => assert.fail(), root, { start: Infinity }).next(), { code: 'INPUT' })
+    }
+  })
+
   test('names a missing block', async () => {
     const { root, blocks } = await packed('two-levels')
     const last = [...blocks.keys()].at(-1)
@@ -84,7 +113,8 @@ describe('readFile', () => {
       [{ blocks: blocks.size - 1 }, 'FILE_TOO_MANY_BLOCKS'],
       [{ waiting: 1 }, 'FILE_TOO_MANY_PARTS'],
       [{ levels: 2 }, 'FILE_TOO_DEEP'],
-      [{ levels: -1 }, 'FILE_TOO_DEEP']
+      [{ levels: -1 }, 'FILE_TOO_DEEP'],
+      [{ bytes: NaN }, 'FILE_TOO_LARGE']
     ]) {
       const { bytes, error } = await read(from(blocks), root, { ...exact, ...limit })
       assert.deepEqual([error?.code, error?.offset], [code, undefined])

@@ -1,4 +1,4 @@
-import { CID, CarBlockIterator, CarIndexedReader, CarIndexer, CarReader, KombiladError, check, code, countLinks, decode, encode, fromJSON, isCanonical, linkPositions, links, name, readFile, setMemoryLimit, sha256, tape, toJSON, verify, dagCbor, dagPb } from 'kombilad'
+import { CID, CarBlockIterator, CarIndexedReader, CarIndexer, CarReader, KombiladError, check, code, countLinks, decode, encode, fromJSON, isCanonical, linkPositions, links, listFolder, name, readFile, readNode, resolvePath, setMemoryLimit, sha256, tape, toJSON, verify, dagCbor, dagPb } from 'kombilad'
 
 const cid: CID = CID.parse('bafkqaaa')
 const version: 0 | 1 = cid.version
@@ -52,7 +52,22 @@ export async function size (get: (cid: CID) => Promise<Uint8Array | undefined>):
   return size
 }
 
+export async function tree (get: (cid: CID) => Uint8Array | undefined, root: CID): Promise<Array<[string, number | bigint]>> {
+  const found: Array<[string, number | bigint]> = []
+  for await (const { name, cid, tsize } of listFolder(get, await resolvePath(get, root, 'a/b'))) {
+    const { kind, size, mode, mtime, target } = readNode(cid, get(cid) ?? new Uint8Array())
+    if (kind === 'symlink') found.push([new TextDecoder().decode(target), mode ?? mtime?.seconds ?? 0])
+    else found.push([name, size ?? tsize ?? 0])
+    if (kind === 'file') for await (const piece of readFile(get, cid, { start: 10n, length: Infinity, levels: 9 })) found.push([name, piece.length])
+  }
+  return found
+}
+
+export function missing (error: KombiladError): string | undefined { return error.code === 'MISSING_ENTRY' ? error.path : String(error.link) }
+
 export function rejected (): void {
+  // @ts-expect-error: this is not a kind of a node
+  void (readNode(cid, bytes).kind === 'directory')
   // @ts-expect-error: this is not the name of a base
   cid.toString('base1')
   // @ts-expect-error: a string is not a block

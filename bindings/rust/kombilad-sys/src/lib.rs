@@ -10,8 +10,8 @@
 //!   thread may read or write it.
 //! - During the call no thread may write to memory that the call reads.
 //!
-//! No call keeps a pointer after it returns. A `kombilad_file` is used by one call at a time, and its
-//! walk is freed by `kombilad_file_free`.
+//! No call keeps a pointer after it returns. A `kombilad_walk` is used by one call at a time, and
+//! its walk is freed by `kombilad_walk_free`.
 #![no_std]
 #![warn(missing_docs)]
 #![allow(non_camel_case_types)]
@@ -75,15 +75,49 @@ pub struct kombilad_car_place {
     pub end: u64,
 }
 
-/// A walk over the blocks of a file, or none if both numbers are 0. Only the calls may read or write
-/// it after the first one. It may be moved, but only one copy of it may be used.
+/// A walk over the blocks of a file or a folder, or none if both numbers are 0. Only the calls may
+/// read or write it after the first one. It may be moved, but only one copy of it may be used.
 #[repr(C)]
 #[derive(Debug, Default)]
-pub struct kombilad_file {
+pub struct kombilad_walk {
     /// 1 if there is a walk.
     pub is_open: u64,
     /// The address of the walk.
     pub walk: u64,
+}
+
+/// An entry of a folder.
+#[repr(C)]
+#[derive(Clone, Copy, Debug, PartialEq, Eq)]
+pub struct kombilad_folder_entry {
+    /// The CID of the file, the folder or the symbolic link.
+    pub cid: kombilad_cid,
+    /// The place of the name in the names of the call. The name is UTF-8, is not empty, `.` or
+    /// `..`, and has no `/` and no zero byte.
+    pub name: kombilad_span,
+    /// The size that the link states of its block and all blocks below it, or 0 if it states none.
+    /// Nothing checks it.
+    pub tsize: u64,
+    /// 1 if the link states a size, and otherwise 0.
+    pub has_tsize: u64,
+}
+
+/// What a block says of a file, a folder or a symbolic link. A field that it doesn't have is 0.
+#[repr(C)]
+#[derive(Clone, Copy, Debug, Default, PartialEq, Eq)]
+pub struct kombilad_node {
+    /// The kind, such as [`KOMBILAD_NODE_FILE`].
+    pub kind: u32,
+    /// The sum of the numbers of the fields that it has, such as [`KOMBILAD_NODE_SIZE`].
+    pub fields: u32,
+    /// The number of bytes of the file.
+    pub size: u64,
+    /// When the content was last changed, in seconds since the beginning of 1970 in UTC.
+    pub seconds: i64,
+    /// The nanoseconds after these seconds, at most 999,999,999.
+    pub nanoseconds: u32,
+    /// The permissions, as chmod has them in its low twelve bits.
+    pub mode: u32,
 }
 
 /// The call succeeded.
@@ -243,10 +277,10 @@ pub const KOMBILAD_JSON_RESERVED: u32 = 168;
 pub const KOMBILAD_JSON_RESERVED_MAP: u32 = 169;
 /// More bytes of a CAR are needed.
 pub const KOMBILAD_CAR_MORE: u32 = 176;
-/// All blocks of the file were taken.
-pub const KOMBILAD_FILE_DONE: u32 = 192;
-/// The `kombilad_file` has no walk.
-pub const KOMBILAD_FILE_CLOSED: u32 = 193;
+/// The walk has taken all its blocks, which isn't an error of `kombilad_walk_wanted`.
+pub const KOMBILAD_WALK_DONE: u32 = 192;
+/// The `kombilad_walk` has no walk, or one that is not over what the call reads.
+pub const KOMBILAD_WALK_CLOSED: u32 = 193;
 /// The codec of the CID is neither raw nor dag-pb.
 pub const KOMBILAD_FILE_CODEC: u32 = 194;
 /// The node has no data.
@@ -285,6 +319,34 @@ pub const KOMBILAD_UNIXFS_MODE_TOO_LARGE: u32 = 214;
 pub const KOMBILAD_UNIXFS_NO_SECONDS: u32 = 215;
 /// The nanoseconds of a node's time are not from 1 to 999,999,999.
 pub const KOMBILAD_UNIXFS_NANOSECONDS: u32 = 216;
+/// The codec of the CID is not dag-pb.
+pub const KOMBILAD_FOLDER_CODEC: u32 = 224;
+/// The node is not a folder.
+pub const KOMBILAD_FOLDER_NOT_FOLDER: u32 = 225;
+/// The hash function of a shard is not murmur3-x64-64.
+pub const KOMBILAD_FOLDER_HASH_FUNCTION: u32 = 226;
+/// A shard doesn't have 256 slots.
+pub const KOMBILAD_FOLDER_FANOUT: u32 = 227;
+/// The name of an entry is missing, empty, `.` or `..`, or has a `/` or a zero byte.
+pub const KOMBILAD_FOLDER_INVALID_NAME: u32 = 228;
+/// A name in a plain folder is not greater than the one before it.
+pub const KOMBILAD_FOLDER_NAME_ORDER: u32 = 229;
+/// The name of a link in a shard doesn't begin with two upper-case hexadecimal digits.
+pub const KOMBILAD_FOLDER_INVALID_SLOT: u32 = 230;
+/// A slot of a shard is not greater than the one before it.
+pub const KOMBILAD_FOLDER_SLOT_ORDER: u32 = 231;
+/// The bit field of a shard is not that of its slots.
+pub const KOMBILAD_FOLDER_BIT_FIELD: u32 = 232;
+/// A shard leads to a plain folder as if it were a shard.
+pub const KOMBILAD_FOLDER_NOT_SHARD: u32 = 233;
+/// The hash of a name in a shard doesn't lead there.
+pub const KOMBILAD_FOLDER_WRONG_SLOT: u32 = 234;
+/// A shard at the eighth level leads to another one.
+pub const KOMBILAD_FOLDER_TOO_DEEP: u32 = 235;
+/// The folder has no entry with the name, which isn't an error.
+pub const KOMBILAD_FOLDER_MISSING: u32 = 236;
+/// The search needs one more block, which isn't an error.
+pub const KOMBILAD_FOLDER_MORE: u32 = 237;
 
 /// Base32 in lower case for a CID of version 1, and base58btc for one of version 0.
 pub const KOMBILAD_BASE_USUAL: u32 = 0;
@@ -300,6 +362,41 @@ pub const KOMBILAD_BASE36: u32 = b'k' as u32;
 pub const KOMBILAD_BASE58BTC: u32 = b'z' as u32;
 /// Base64url: RFC 4648, section 5, without padding.
 pub const KOMBILAD_BASE64URL: u32 = b'u' as u32;
+
+/// The limit on the blocks of an untrusted file: a file of 1 TiB in chunks of 256 KiB, with 174
+/// links in a block, has about 4,200,000.
+pub const KOMBILAD_FILE_BLOCKS: u64 = 1 << 24;
+/// The limit on the blocks of an untrusted file that wait while another is read: that file has
+/// fewer than 1,000.
+pub const KOMBILAD_FILE_WAITING: usize = 1 << 18;
+/// The limit on the levels of blocks below the root of an untrusted file: that file has four.
+pub const KOMBILAD_FILE_LEVELS: usize = 64;
+
+/// Bytes of a file: a raw block, or a leaf of an old writer.
+pub const KOMBILAD_NODE_RAW: u32 = 0;
+/// A plain folder.
+pub const KOMBILAD_NODE_FOLDER: u32 = 1;
+/// A file.
+pub const KOMBILAD_NODE_FILE: u32 = 2;
+/// Metadata of a file.
+pub const KOMBILAD_NODE_METADATA: u32 = 3;
+/// A symbolic link.
+pub const KOMBILAD_NODE_SYMLINK: u32 = 4;
+/// A sharded folder, or a part of one.
+pub const KOMBILAD_NODE_SHARD: u32 = 5;
+
+/// The node has a size.
+pub const KOMBILAD_NODE_SIZE: u32 = 1;
+/// The node has a mode.
+pub const KOMBILAD_NODE_MODE: u32 = 2;
+/// The node has a time.
+pub const KOMBILAD_NODE_TIME: u32 = 4;
+
+/// Returns the number of entries that a block of so many bytes has at most.
+#[allow(non_snake_case)]
+pub const fn KOMBILAD_FOLDER_ENTRIES(len: usize) -> usize {
+    len / 6
+}
 
 extern "C" {
     /// Writes the sentence of a status, at most 80 bytes of ASCII.
@@ -479,21 +576,26 @@ extern "C" {
     /// Compares the digest of a block with that of a CID.
     pub fn kombilad_verify(cid: *const u8, cid_len: usize, block: *const u8, len: usize) -> u32;
 
-    /// Begins a walk over the file of a CID, and frees the walk that `file` had.
+    /// Writes the CID of the block that the walk wants next.
+    pub fn kombilad_walk_wanted(walk: *mut kombilad_walk, cid: *mut kombilad_cid) -> u32;
+    /// Frees the walk, if there is one.
+    pub fn kombilad_walk_free(walk: *mut kombilad_walk);
+
+    /// Begins a walk over a range of the file of a CID, and frees the walk that `walk` had.
     pub fn kombilad_file_new(
         root: *const u8,
         root_len: usize,
+        start: u64,
+        length: u64,
         max_bytes: u64,
         max_blocks: u64,
         max_waiting: usize,
         max_levels: usize,
-        file: *mut kombilad_file,
+        walk: *mut kombilad_walk,
     ) -> u32;
-    /// Writes the CID of the block that the walk wants next.
-    pub fn kombilad_file_wanted(file: *mut kombilad_file, cid: *mut kombilad_cid) -> u32;
     /// Takes the block that the walk wants, and writes the bytes of the file in it.
     pub fn kombilad_file_take(
-        file: *mut kombilad_file,
+        walk: *mut kombilad_walk,
         block: *const u8,
         len: usize,
         bytes: *mut u8,
@@ -501,8 +603,51 @@ extern "C" {
         needed: *mut usize,
         offset: *mut usize,
     ) -> u32;
-    /// Frees the walk, if there is one.
-    pub fn kombilad_file_free(file: *mut kombilad_file);
+
+    /// Begins a walk over the entries of the folder of a CID, and frees the walk that `walk` had.
+    pub fn kombilad_folder_new(root: *const u8, root_len: usize, walk: *mut kombilad_walk) -> u32;
+    /// Takes the block that the walk wants, and writes the entries in it.
+    pub fn kombilad_folder_take(
+        walk: *mut kombilad_walk,
+        block: *const u8,
+        len: usize,
+        entries: *mut kombilad_folder_entry,
+        entries_len: usize,
+        names: *mut u8,
+        names_len: usize,
+        needed: *mut usize,
+        place: *mut usize,
+    ) -> u32;
+    /// Looks for the entry with this name in the folder of a CID, in the blocks at these places of
+    /// the bytes.
+    pub fn kombilad_folder_lookup(
+        folder: *const u8,
+        folder_len: usize,
+        name: *const u8,
+        name_len: usize,
+        bytes: *const u8,
+        bytes_len: usize,
+        blocks: *const kombilad_span,
+        blocks_len: usize,
+        cid: *mut kombilad_cid,
+        place: *mut usize,
+    ) -> u32;
+
+    /// Verifies the block of a CID, and writes what it says of a file, a folder or a symbolic link.
+    pub fn kombilad_unixfs_node(
+        cid: *const u8,
+        cid_len: usize,
+        block: *const u8,
+        len: usize,
+        node: *mut kombilad_node,
+        target: *mut u8,
+        target_len: usize,
+        needed: *mut usize,
+        place: *mut usize,
+    ) -> u32;
+    /// Returns 1 if a symbolic link with this target leads to nothing outside of a folder, if it is
+    /// in a folder `depth` levels below that one. Otherwise it returns 0.
+    pub fn kombilad_symlink_stays_inside(target: *const u8, len: usize, depth: usize) -> u32;
 
     /// Returns the version: 65,536 times the major number, plus 256 times the minor, plus the
     /// patch.

@@ -88,6 +88,12 @@ impl Cid {
         Cid(cid)
     }
 
+    /// Returns the CID of a record that the library wrote.
+    #[inline]
+    pub(crate) fn of_record(record: ffi::CidBytes) -> Self {
+        Cid(record)
+    }
+
     /// Returns the CID's bytes, at most 86.
     pub fn as_bytes(&self) -> &[u8] {
         &self.0.bytes[..usize::from(self.0.len)]

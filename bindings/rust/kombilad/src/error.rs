@@ -115,6 +115,87 @@ pub enum PbError {
     Utf8,
 }
 
+/// The leftmost error of the data of a node that are not a message of UnixFS.
+#[derive(Clone, Copy, Debug, PartialEq, Eq, Hash)]
+#[non_exhaustive]
+pub enum UnixfsError {
+    /// The data end within a field.
+    End,
+    /// A varint encodes a number of 2^64 or more, or has more than ten bytes.
+    VarintTooLarge,
+    /// The number and wire type of a field are not allowed there.
+    UnknownField,
+    /// A field comes twice or out of order.
+    FieldOrder,
+    /// The data do not begin with a type.
+    NoType,
+    /// No type has this number.
+    UnknownType,
+    /// The mode has more than 32 bits.
+    ModeTooLarge,
+    /// The time does not begin with its seconds.
+    NoSeconds,
+    /// The nanoseconds of the time are not from 1 to 999,999,999.
+    Nanoseconds,
+}
+
+/// The first reason why a block is not a part of a file.
+#[derive(Clone, Copy, Debug, PartialEq, Eq, Hash)]
+#[non_exhaustive]
+pub enum FileError {
+    /// The codec of the CID is neither [`RAW`](crate::RAW) nor [`DAG_PB`](crate::DAG_PB).
+    Codec,
+    /// The node has no data. Blocks of folders and symbolic links have this error too.
+    NoData,
+    /// The node is a folder, a symbolic link or metadata.
+    NotFile,
+    /// The number of sizes in the node is not that of its links.
+    SizeCount,
+    /// The size of the file in the node is not that of its bytes and its links.
+    Size,
+    /// The node has another number of bytes of the file than the node above it states.
+    PartSize,
+    /// The file has more bytes than the limit.
+    TooLarge,
+    /// The file has more blocks than the limit.
+    TooManyBlocks,
+    /// The blocks of the file nest deeper than the limit.
+    TooDeep,
+    /// More blocks of the file wait to be read than the limit.
+    TooManyParts,
+}
+
+/// The first reason why a block is not a folder, or a part of one. The number is that of the link
+/// at fault, counted from 0.
+#[derive(Clone, Copy, Debug, PartialEq, Eq, Hash)]
+#[non_exhaustive]
+pub enum FolderError {
+    /// The codec of the CID is not [`DAG_PB`](crate::DAG_PB).
+    Codec,
+    /// The node is not a folder.
+    NotFolder,
+    /// The hash function of a shard is not murmur3-x64-64.
+    HashFunction,
+    /// A shard doesn't have 256 slots.
+    Fanout,
+    /// The name of an entry is missing, empty, `.` or `..`, or has a `/` or a zero byte.
+    InvalidName(usize),
+    /// A name in a plain folder is not greater than the one before it.
+    NameOrder(usize),
+    /// The name of a link in a shard doesn't begin with two upper-case hexadecimal digits.
+    InvalidSlot(usize),
+    /// A slot of a shard is not greater than the one before it.
+    SlotOrder(usize),
+    /// The bit field of a shard is not that of its slots.
+    BitField,
+    /// A shard leads to a plain folder as if it were a shard.
+    NotShard,
+    /// The hash of a name in a shard doesn't lead there.
+    WrongSlot(usize),
+    /// A shard at the eighth level leads to another one.
+    TooDeep,
+}
+
 /// The error of a text that is not DAG-JSON, at its first invalid token.
 #[derive(Clone, Copy, Debug, PartialEq, Eq, Hash)]
 #[non_exhaustive]
@@ -187,6 +268,17 @@ pub enum Error {
         /// The first byte of the invalid field.
         offset: usize,
     },
+    /// The data of a node of DAG-PB are not a message of UnixFS.
+    Unixfs {
+        /// The error.
+        error: UnixfsError,
+        /// The byte of the data at which the invalid field begins.
+        offset: usize,
+    },
+    /// The block is not a part of a file, or the file exceeds a limit.
+    File(FileError),
+    /// The block is not a folder, or a part of one.
+    Folder(FolderError),
     /// The text is not DAG-JSON.
     Json {
         /// The error.
@@ -274,6 +366,40 @@ fn link_error(status: u32) -> Option<CidError> {
     })
 }
 
+fn file_error(status: u32) -> Option<FileError> {
+    Some(match status {
+        sys::KOMBILAD_FILE_CODEC => FileError::Codec,
+        sys::KOMBILAD_FILE_NO_DATA => FileError::NoData,
+        sys::KOMBILAD_FILE_NOT_FILE => FileError::NotFile,
+        sys::KOMBILAD_FILE_SIZE_COUNT => FileError::SizeCount,
+        sys::KOMBILAD_FILE_SIZE => FileError::Size,
+        sys::KOMBILAD_FILE_PART_SIZE => FileError::PartSize,
+        sys::KOMBILAD_FILE_TOO_LARGE => FileError::TooLarge,
+        sys::KOMBILAD_FILE_TOO_MANY_BLOCKS => FileError::TooManyBlocks,
+        sys::KOMBILAD_FILE_TOO_DEEP => FileError::TooDeep,
+        sys::KOMBILAD_FILE_TOO_MANY_PARTS => FileError::TooManyParts,
+        _ => return None,
+    })
+}
+
+fn folder_error(status: u32, link: usize) -> Option<FolderError> {
+    Some(match status {
+        sys::KOMBILAD_FOLDER_CODEC => FolderError::Codec,
+        sys::KOMBILAD_FOLDER_NOT_FOLDER => FolderError::NotFolder,
+        sys::KOMBILAD_FOLDER_HASH_FUNCTION => FolderError::HashFunction,
+        sys::KOMBILAD_FOLDER_FANOUT => FolderError::Fanout,
+        sys::KOMBILAD_FOLDER_INVALID_NAME => FolderError::InvalidName(link),
+        sys::KOMBILAD_FOLDER_NAME_ORDER => FolderError::NameOrder(link),
+        sys::KOMBILAD_FOLDER_INVALID_SLOT => FolderError::InvalidSlot(link),
+        sys::KOMBILAD_FOLDER_SLOT_ORDER => FolderError::SlotOrder(link),
+        sys::KOMBILAD_FOLDER_BIT_FIELD => FolderError::BitField,
+        sys::KOMBILAD_FOLDER_NOT_SHARD => FolderError::NotShard,
+        sys::KOMBILAD_FOLDER_WRONG_SLOT => FolderError::WrongSlot(link),
+        sys::KOMBILAD_FOLDER_TOO_DEEP => FolderError::TooDeep,
+        _ => return None,
+    })
+}
+
 impl Error {
     /// Returns the error of a call that reads bytes. Here and below the status isn't `KOMBILAD_OK`.
     pub(crate) fn of_bytes(status: u32) -> Self {
@@ -335,6 +461,31 @@ impl Error {
             },
         };
         Error::Pb { error, offset }
+    }
+
+    /// Returns the error of a call that reads a block of a file or a folder. `place` is the byte or
+    /// the link at fault.
+    pub(crate) fn of_unixfs((status, place): (u32, usize)) -> Self {
+        let error = match status {
+            sys::KOMBILAD_UNIXFS_END => UnixfsError::End,
+            sys::KOMBILAD_UNIXFS_VARINT_TOO_LARGE => UnixfsError::VarintTooLarge,
+            sys::KOMBILAD_UNIXFS_UNKNOWN_FIELD => UnixfsError::UnknownField,
+            sys::KOMBILAD_UNIXFS_FIELD_ORDER => UnixfsError::FieldOrder,
+            sys::KOMBILAD_UNIXFS_NO_TYPE => UnixfsError::NoType,
+            sys::KOMBILAD_UNIXFS_UNKNOWN_TYPE => UnixfsError::UnknownType,
+            sys::KOMBILAD_UNIXFS_MODE_TOO_LARGE => UnixfsError::ModeTooLarge,
+            sys::KOMBILAD_UNIXFS_NO_SECONDS => UnixfsError::NoSeconds,
+            sys::KOMBILAD_UNIXFS_NANOSECONDS => UnixfsError::Nanoseconds,
+            sys::KOMBILAD_UNKNOWN_HASH | sys::KOMBILAD_WRONG_DIGEST => {
+                return Error::of_digest(status)
+            }
+            _ => match (file_error(status), folder_error(status, place)) {
+                (Some(error), _) => return Error::File(error),
+                (_, Some(error)) => return Error::Folder(error),
+                _ => return Error::of_pb((status, place)),
+            },
+        };
+        Error::Unixfs { error, offset: place }
     }
 
     /// Returns the error of a call that compares digests.
@@ -499,6 +650,62 @@ impl fmt::Display for PbError {
     }
 }
 
+impl fmt::Display for UnixfsError {
+    fn fmt(&self, f: &mut fmt::Formatter<'_>) -> fmt::Result {
+        let status = match *self {
+            UnixfsError::End => sys::KOMBILAD_UNIXFS_END,
+            UnixfsError::VarintTooLarge => sys::KOMBILAD_UNIXFS_VARINT_TOO_LARGE,
+            UnixfsError::UnknownField => sys::KOMBILAD_UNIXFS_UNKNOWN_FIELD,
+            UnixfsError::FieldOrder => sys::KOMBILAD_UNIXFS_FIELD_ORDER,
+            UnixfsError::NoType => sys::KOMBILAD_UNIXFS_NO_TYPE,
+            UnixfsError::UnknownType => sys::KOMBILAD_UNIXFS_UNKNOWN_TYPE,
+            UnixfsError::ModeTooLarge => sys::KOMBILAD_UNIXFS_MODE_TOO_LARGE,
+            UnixfsError::NoSeconds => sys::KOMBILAD_UNIXFS_NO_SECONDS,
+            UnixfsError::Nanoseconds => sys::KOMBILAD_UNIXFS_NANOSECONDS,
+        };
+        write_status(f, status)
+    }
+}
+
+impl fmt::Display for FileError {
+    fn fmt(&self, f: &mut fmt::Formatter<'_>) -> fmt::Result {
+        let status = match *self {
+            FileError::Codec => sys::KOMBILAD_FILE_CODEC,
+            FileError::NoData => sys::KOMBILAD_FILE_NO_DATA,
+            FileError::NotFile => sys::KOMBILAD_FILE_NOT_FILE,
+            FileError::SizeCount => sys::KOMBILAD_FILE_SIZE_COUNT,
+            FileError::Size => sys::KOMBILAD_FILE_SIZE,
+            FileError::PartSize => sys::KOMBILAD_FILE_PART_SIZE,
+            FileError::TooLarge => sys::KOMBILAD_FILE_TOO_LARGE,
+            FileError::TooManyBlocks => sys::KOMBILAD_FILE_TOO_MANY_BLOCKS,
+            FileError::TooDeep => sys::KOMBILAD_FILE_TOO_DEEP,
+            FileError::TooManyParts => sys::KOMBILAD_FILE_TOO_MANY_PARTS,
+        };
+        write_status(f, status)
+    }
+}
+
+impl fmt::Display for FolderError {
+    fn fmt(&self, f: &mut fmt::Formatter<'_>) -> fmt::Result {
+        let (status, link) = match *self {
+            FolderError::Codec => (sys::KOMBILAD_FOLDER_CODEC, None),
+            FolderError::NotFolder => (sys::KOMBILAD_FOLDER_NOT_FOLDER, None),
+            FolderError::HashFunction => (sys::KOMBILAD_FOLDER_HASH_FUNCTION, None),
+            FolderError::Fanout => (sys::KOMBILAD_FOLDER_FANOUT, None),
+            FolderError::InvalidName(link) => (sys::KOMBILAD_FOLDER_INVALID_NAME, Some(link)),
+            FolderError::NameOrder(link) => (sys::KOMBILAD_FOLDER_NAME_ORDER, Some(link)),
+            FolderError::InvalidSlot(link) => (sys::KOMBILAD_FOLDER_INVALID_SLOT, Some(link)),
+            FolderError::SlotOrder(link) => (sys::KOMBILAD_FOLDER_SLOT_ORDER, Some(link)),
+            FolderError::BitField => (sys::KOMBILAD_FOLDER_BIT_FIELD, None),
+            FolderError::NotShard => (sys::KOMBILAD_FOLDER_NOT_SHARD, None),
+            FolderError::WrongSlot(link) => (sys::KOMBILAD_FOLDER_WRONG_SLOT, Some(link)),
+            FolderError::TooDeep => (sys::KOMBILAD_FOLDER_TOO_DEEP, None),
+        };
+        write_status(f, status)?;
+        link.map_or(Ok(()), |link| write!(f, ", at link {link}"))
+    }
+}
+
 impl fmt::Display for JsonError {
     fn fmt(&self, f: &mut fmt::Formatter<'_>) -> fmt::Result {
         let status = match *self {
@@ -529,6 +736,11 @@ impl fmt::Display for Error {
             Error::Block { error, offset } => return write!(f, "{error}, at byte {offset}"),
             Error::Car { error, offset } => return write!(f, "{error}, at byte {offset}"),
             Error::Pb { error, offset } => return write!(f, "{error}, at byte {offset}"),
+            Error::Unixfs { error, offset } => {
+                return write!(f, "{error}, at byte {offset} of the data")
+            }
+            Error::File(error) => return error.fmt(f),
+            Error::Folder(error) => return error.fmt(f),
             Error::Json { error, offset } => return write!(f, "{error}, at byte {offset}"),
             Error::ReservedMap { offset } => (sys::KOMBILAD_JSON_RESERVED_MAP, Some(offset)),
             Error::UnknownHash => (sys::KOMBILAD_UNKNOWN_HASH, None),
@@ -578,5 +790,8 @@ impl error::Error for CidError {}
 impl error::Error for TextError {}
 impl error::Error for BlockError {}
 impl error::Error for PbError {}
+impl error::Error for UnixfsError {}
+impl error::Error for FileError {}
+impl error::Error for FolderError {}
 impl error::Error for JsonError {}
 impl error::Error for Error {}

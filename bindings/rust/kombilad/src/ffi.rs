@@ -7,6 +7,8 @@
 //! - Memory that a call writes to is borrowed mutably, so it doesn't overlap anything else.
 //! - A call writes records or bytes to the spare capacity of a vector. The vector's length is set
 //!   to no more than the number that the call reports.
+//! - A [`Walk`] has the only copy of its handle, and frees it. The handle is the address of memory
+//!   that no thread owns, and each call with it borrows the walk mutably.
 
 use std::cell::Cell;
 use std::ops::Range;
@@ -16,10 +18,11 @@ use kombilad_sys::{self as sys, kombilad_span as Span};
 
 use crate::cid::Cid;
 use crate::room::Entries;
+use crate::unixfs::FileLimits;
 
 pub(crate) use kombilad_sys::{
     kombilad_car_place as Place, kombilad_cid as CidBytes, kombilad_cid_parts as CidParts,
-    kombilad_entry as Entry,
+    kombilad_entry as Entry, kombilad_node as NodeRecord,
 };
 
 pub(crate) const NO_CID: CidBytes = CidBytes { len: 0, bytes: [0; 87] };
@@ -349,6 +352,208 @@ pub(crate) fn car_next_part(
 
 pub(crate) fn verify(cid: &[u8], block: &[u8]) -> Result<(), u32> {
     done(unsafe { sys::kombilad_verify(cid.as_ptr(), cid.len(), block.as_ptr(), block.len()) })
+}
+
+/// A walk over the blocks of a file or a folder.
+#[derive(Debug)]
+pub(crate) struct Walk(sys::kombilad_walk);
+
+impl Drop for Walk {
+    fn drop(&mut self) {
+        unsafe { sys::kombilad_walk_free(&mut self.0) }
+    }
+}
+
+impl Walk {
+    /// Begins a walk over the bytes of a file from `start` on.
+    pub(crate) fn of_file(root: &Cid, start: u64, limits: &FileLimits) -> Result<Self, Stopped> {
+        let (mut walk, root) = (Walk(sys::kombilad_walk::default()), root.as_bytes());
+        let status = unsafe {
+            sys::kombilad_file_new(
+                root.as_ptr(),
+                root.len(),
+                start,
+                u64::MAX,
+                limits.bytes,
+                limits.blocks,
+                limits.waiting,
+                limits.levels,
+                &mut walk.0,
+            )
+        };
+        done(status).map_err(|status| (status, 0))?;
+        Ok(walk)
+    }
+
+    /// Begins a walk over the entries of a folder.
+    pub(crate) fn of_folder(root: &Cid) -> Result<Self, Stopped> {
+        let (mut walk, root) = (Walk(sys::kombilad_walk::default()), root.as_bytes());
+        let status = unsafe { sys::kombilad_folder_new(root.as_ptr(), root.len(), &mut walk.0) };
+        done(status).map_err(|status| (status, 0))?;
+        Ok(walk)
+    }
+
+    /// Returns the CID of the block that the walk wants next, or `None` after the last one.
+    pub(crate) fn wanted(&mut self) -> Result<Option<Cid>, Stopped> {
+        let mut cid = NO_CID;
+        match unsafe { sys::kombilad_walk_wanted(&mut self.0, &mut cid) } {
+            sys::KOMBILAD_OK => Ok(Some(Cid::of_record(cid))),
+            sys::KOMBILAD_WALK_DONE => Ok(None),
+            status => Err((status, 0)),
+        }
+    }
+
+    /// Takes the block that the walk over a file wants, and writes the bytes of the file in it to
+    /// an empty vector.
+    pub(crate) fn take_bytes(&mut self, block: &[u8], bytes: &mut Vec<u8>) -> Result<(), Stopped> {
+        let walk: *mut sys::kombilad_walk = &mut self.0;
+        fill(bytes, block.len(), |bytes, capacity, needed, offset| unsafe {
+            sys::kombilad_file_take(
+                walk,
+                block.as_ptr(),
+                block.len(),
+                bytes,
+                capacity,
+                needed,
+                offset,
+            )
+        })
+    }
+
+    /// Takes the block that the walk over a folder wants, and replaces the entries by those in it.
+    /// With an error there are none.
+    pub(crate) fn take_entries(
+        &mut self,
+        block: &[u8],
+        listed: &mut FolderEntries,
+    ) -> Result<(), Stopped> {
+        let FolderEntries { entries, names } = listed;
+        entries.clear();
+        names.clear();
+        names.try_reserve_exact(block.len()).map_err(|_| (sys::KOMBILAD_NO_MEMORY, 0))?;
+        let (names_at, names_len) = (names.as_mut_ptr(), names.capacity());
+        let walk: *mut sys::kombilad_walk = &mut self.0;
+        fill(
+            entries,
+            sys::KOMBILAD_FOLDER_ENTRIES(block.len()),
+            |entries, capacity, needed, place| unsafe {
+                sys::kombilad_folder_take(
+                    walk,
+                    block.as_ptr(),
+                    block.len(),
+                    entries,
+                    capacity,
+                    names_at,
+                    names_len,
+                    needed,
+                    place,
+                )
+            },
+        )?;
+        let end = entries.last().map_or(0, |entry| range(entry.name).end);
+        // SAFETY: the call has written the names one after the other, from the first byte on, and
+        // the capacity was large enough for them.
+        unsafe { names.set_len(end) };
+        Ok(())
+    }
+}
+
+/// The entries of a folder in one block. Only a walk fills it, and nothing else changes it, so the
+/// places of the names are valid.
+#[derive(Debug, Default)]
+pub(crate) struct FolderEntries {
+    entries: Vec<sys::kombilad_folder_entry>,
+    names: Vec<u8>,
+}
+
+impl FolderEntries {
+    /// Returns the name, the CID and the size of the entry at an index.
+    pub(crate) fn get(&self, at: usize) -> Option<(&str, Cid, Option<u64>)> {
+        let entry = self.entries.get(at)?;
+        // SAFETY: the call that wrote the names checked that each is UTF-8, and wrote its place.
+        let name = unsafe { str::from_utf8_unchecked(&self.names[range(entry.name)]) };
+        let tsize = if entry.has_tsize == 0 { None } else { Some(entry.tsize) };
+        Some((name, Cid::of_record(entry.cid), tsize))
+    }
+}
+
+/// The result of a search in a folder.
+pub(crate) enum Found {
+    Entry(Cid),
+    /// The search needs the block of this CID, after the others.
+    More(Cid),
+    Missing,
+}
+
+/// The blocks of a folder that a search has asked for, one after the other.
+#[derive(Default)]
+pub(crate) struct FolderBlocks {
+    bytes: Vec<u8>,
+    places: Vec<Span>,
+}
+
+impl FolderBlocks {
+    /// Adds the block that the search needs.
+    pub(crate) fn push(&mut self, block: &[u8]) -> Result<(), Stopped> {
+        let no_memory = |_| (sys::KOMBILAD_NO_MEMORY, 0);
+        self.bytes.try_reserve(block.len()).map_err(no_memory)?;
+        self.places.try_reserve(1).map_err(no_memory)?;
+        self.places.push(Span { offset: self.bytes.len() as u64, len: block.len() as u64 });
+        self.bytes.extend_from_slice(block);
+        Ok(())
+    }
+
+    /// Looks for the entry with this name in the folder.
+    pub(crate) fn look_up(&self, folder: &Cid, name: &str) -> Result<Found, Stopped> {
+        let folder = folder.as_bytes();
+        let (mut cid, mut place) = (NO_CID, 0);
+        let status = unsafe {
+            sys::kombilad_folder_lookup(
+                folder.as_ptr(),
+                folder.len(),
+                name.as_ptr(),
+                name.len(),
+                self.bytes.as_ptr(),
+                self.bytes.len(),
+                self.places.as_ptr(),
+                self.places.len(),
+                &mut cid,
+                &mut place,
+            )
+        };
+        match status {
+            sys::KOMBILAD_OK => Ok(Found::Entry(Cid::of_record(cid))),
+            sys::KOMBILAD_FOLDER_MORE => Ok(Found::More(Cid::of_record(cid))),
+            sys::KOMBILAD_FOLDER_MISSING => Ok(Found::Missing),
+            status => Err((status, place)),
+        }
+    }
+}
+
+/// Verifies the block of a CID, and returns what it says of a file, a folder or a symbolic link,
+/// with the target of a link.
+pub(crate) fn unixfs_node(cid: &Cid, block: &[u8]) -> Result<(NodeRecord, Vec<u8>), Stopped> {
+    let node = Cell::new(NodeRecord::default());
+    let cid = cid.as_bytes();
+    // Most nodes have no target. The blocks of those that have one are small.
+    let target = filled(0, |target, capacity, needed, place| unsafe {
+        sys::kombilad_unixfs_node(
+            cid.as_ptr(),
+            cid.len(),
+            block.as_ptr(),
+            block.len(),
+            node.as_ptr(),
+            target,
+            capacity,
+            needed,
+            place,
+        )
+    })?;
+    Ok((node.get(), target))
+}
+
+pub(crate) fn symlink_stays_inside(target: &[u8], depth: usize) -> bool {
+    unsafe { sys::kombilad_symlink_stays_inside(target.as_ptr(), target.len(), depth) != 0 }
 }
 
 /// The DAG-JSON of most blocks has at most twice as many bytes as the block, and this many more.

@@ -1,5 +1,5 @@
-//! Content identifiers (CIDs) and blocks of DAG-CBOR and DAG-PB, read by the proved library
-//! `libkombilad`.
+//! Content identifiers (CIDs), blocks of DAG-CBOR and DAG-PB, and files and folders of UnixFS, read
+//! by the proved library `libkombilad`.
 //!
 //! ```
 //! use kombilad::Cid;
@@ -20,6 +20,8 @@
 //! - A [`PbNode`] has the links and the data of a block of DAG-PB.
 //! - A [`CarReader`] reads the blocks of a CAR file, one at a time. [`Cid::verify`] checks that a
 //!   block has the digest of its CID.
+//! - [`unixfs`] reads files and folders from blocks that it verifies: a [`unixfs::FileReader`] has
+//!   the bytes of a file, and a [`unixfs::Folder`] the entries of a folder.
 //!
 //! All of them accept untrusted bytes. Each thread keeps up to 64 KiB of buffers from one block for
 //! the next.
@@ -44,6 +46,7 @@ mod room;
 #[cfg(feature = "serde")]
 mod ser;
 mod tape;
+pub mod unixfs;
 mod write;
 
 pub use block::{
@@ -58,7 +61,8 @@ pub use de::{from_slice, SERDE_LEVELS};
 #[cfg(feature = "serde")]
 pub use error::DecodeError;
 pub use error::{
-    BlockError, CarError, CidError, EncodeError, Error, JsonError, PbError, TextError,
+    BlockError, CarError, CidError, EncodeError, Error, FileError, FolderError, JsonError, PbError,
+    TextError, UnixfsError,
 };
 pub use ipld::Ipld;
 pub use pb::{PbLink, PbNode};
