@@ -26,6 +26,13 @@ LINKED = bytes.fromhex("120b0a0401550000 120161 1801")
 NODES = [LINKED + bytes.fromhex("0a026869"), LINKED * 100]
 BLOCKS = [kombilad.encode_dag_cbor(value) for value in (NESTED, DEEP, ["x"] * 300)]
 LINKS = kombilad.encode_dag_cbor([{"b": LINK, "a": LINK}] * 200)
+# A folder with the entry "a", and a file.
+FOLDER = LINKED + bytes.fromhex("0a020801")
+UNIXFS = {
+    Cid.of_block(FOLDER, kombilad.DAG_PB): FOLDER,
+    Cid.of_block(b"hello", kombilad.RAW): b"hello",
+}
+ROOT, FILE = UNIXFS
 
 
 def works():
@@ -45,6 +52,11 @@ def works():
     yield lambda: kombilad.decode_car(CAR)
     for node in NODES:
         yield lambda: kombilad.decode_dag_pb(node)
+    yield lambda: list(kombilad.list_folder(UNIXFS.get, ROOT))
+    yield lambda: kombilad.resolve(UNIXFS.get, ROOT, "a")
+    yield lambda: [kombilad.read_node(*it) for it in UNIXFS.items()]
+    yield lambda: list(kombilad.read_file(UNIXFS.get, FILE, start=1))
+    yield lambda: kombilad.open_file(UNIXFS.get, FILE).read()
 
 
 def refused(what, begin, end, most=2000):

@@ -3,11 +3,24 @@
 """
 
 import array
+import io
 import mmap
-from typing import Any, BinaryIO, Dict, List, Tuple
+import pathlib
+import zipfile
+from typing import Any, BinaryIO, Dict, List, Optional, Tuple
 
 import kombilad
-from kombilad import CarReader, Cid, EncodeError, KombiladError, libipld
+from kombilad import (
+    CarReader,
+    Cid,
+    EncodeError,
+    FileReader,
+    FolderEntry,
+    KombiladError,
+    Node,
+    NodeKind,
+    libipld,
+)
 
 
 def described(cid: Cid) -> Tuple[int, int, int, bytes]:
@@ -26,6 +39,24 @@ def blocks_of(file: BinaryIO) -> Dict[Cid, bytes]:
     reader = CarReader(file, verify=True)
     roots: List[Cid] = reader.roots
     return {cid: block for cid, block in reader if cid not in roots}
+
+
+def file_of(blocks: Dict[Cid, bytes], cid: Cid) -> bytes:
+    file: FileReader = kombilad.open_file(blocks.get, cid, max_bytes=None)
+    with zipfile.ZipFile(io.BufferedReader(file)) as archive:
+        names: List[str] = archive.namelist()
+    return file.read(len(names)) + b"".join(kombilad.read_file(blocks.get, cid, start=1))
+
+
+def folder_of(blocks: Dict[Cid, bytes], cid: Cid, path: pathlib.Path) -> Optional[bytes]:
+    entries: List[FolderEntry] = list(kombilad.list_folder(blocks.get, cid))
+    for name, _, _ in entries:
+        cid = kombilad.resolve(blocks.get, cid, name)
+    node: Node = kombilad.read_node(cid, blocks[cid])
+    kombilad.unpack(blocks.get, cid, path, symlinks="skip", preserve=True)
+    kombilad.unpack(blocks.get, cid, "name", symlinks="none")  # type: ignore[arg-type]
+    kombilad.resolve(blocks.get, cid, b"a")  # type: ignore[arg-type]
+    return node.target if node.kind is NodeKind.SYMLINK else None
 
 
 def texts_of(cid: Cid) -> List[str]:

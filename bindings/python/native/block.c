@@ -15,16 +15,6 @@ static int read_asked(PyObject *arguments, const char *name, struct asked *asked
     return lend(given, &asked->block);
 }
 
-/* Releases the interpreter's lock for a large block that nobody can change. */
-static PyThreadState *unlock(const struct asked *asked) {
-    bool is_large = asked->block.immutable && asked->block.len >= LARGE;
-    return is_large ? PyEval_SaveThread() : NULL;
-}
-
-static void lock(PyThreadState *saved) {
-    if (saved != NULL) PyEval_RestoreThread(saved);
-}
-
 /* ---- Checks */
 
 typedef uint32_t check_call(const uint8_t *block, size_t len, size_t levels, size_t values,
@@ -34,7 +24,7 @@ typedef uint32_t check_call(const uint8_t *block, size_t len, size_t levels, siz
 static int64_t checked(PyObject *arguments, const char *name, check_call *call, size_t *offset) {
     struct asked asked;
     if (read_asked(arguments, name, &asked) < 0) return -1;
-    PyThreadState *saved = unlock(&asked);
+    PyThreadState *saved = unlock(&asked.block);
     uint32_t status = call(asked.block.bytes, asked.block.len, asked.levels, asked.values, offset);
     lock(saved);
     take_back(&asked.block);
@@ -62,7 +52,7 @@ PyObject *block_count_links(PyObject *module, PyObject *arguments) {
     struct asked asked;
     if (read_asked(arguments, "count_links", &asked) < 0) return NULL;
     size_t count = 0, offset = 0;
-    PyThreadState *saved = unlock(&asked);
+    PyThreadState *saved = unlock(&asked.block);
     uint32_t status = kombilad_links_count(asked.block.bytes, asked.block.len, asked.levels,
                                            asked.values, &count, &offset);
     lock(saved);
@@ -129,7 +119,7 @@ static int fill(const struct state *state, const struct asked *asked, fill_call 
             PyErr_NoMemory();
             return -1;
         }
-        PyThreadState *saved = unlock(asked);
+        PyThreadState *saved = unlock(&asked->block);
         status = call(asked, filled->room, capacity, &filled->count, &offset);
         lock(saved);
         if (status == KOMBILAD_TOO_SHORT) capacity = filled->count;

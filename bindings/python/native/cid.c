@@ -244,9 +244,9 @@ PyObject *cid_of_block(PyObject *module, PyObject *arguments) {
     unsigned long long codec = PyLong_AsUnsignedLongLong(given_codec);
     if (PyErr_Occurred() || lend(given, &block) < 0) return NULL;
     kombilad_cid cid;
-    PyThreadState *saved = block.immutable && block.len >= LARGE ? PyEval_SaveThread() : NULL;
+    PyThreadState *saved = unlock(&block);
     kombilad_cid_of_block(codec, block.bytes, block.len, &cid);
-    if (saved != NULL) PyEval_RestoreThread(saved);
+    lock(saved);
     take_back(&block);
     return bytes_of_record(&cid);
 }

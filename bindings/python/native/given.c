@@ -1,4 +1,4 @@
-/* Reads bytes and limits from Python, and sets its exceptions. */
+/* Reads bytes and limits from Python, releases its lock, and sets its exceptions. */
 #include "native.h"
 
 int lend(PyObject *object, struct lent *lent) {
@@ -17,6 +17,19 @@ int lend(PyObject *object, struct lent *lent) {
 
 void take_back(struct lent *lent) {
     if (lent->viewed) PyBuffer_Release(&lent->view);
+}
+
+PyThreadState *unlock(const struct lent *lent) {
+    return lent->immutable && lent->len >= LARGE ? PyEval_SaveThread() : NULL;
+}
+
+void lock(PyThreadState *saved) {
+    if (saved != NULL) PyEval_RestoreThread(saved);
+}
+
+PyObject *number_if(bool is_there, uint64_t number) {
+    if (!is_there) Py_RETURN_NONE;
+    return PyLong_FromUnsignedLongLong(number);
 }
 
 int limit_of(PyObject *given, size_t *limit) {

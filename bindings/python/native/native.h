@@ -107,10 +107,19 @@ void take_back(struct lent *lent);
 /* A call of the library releases the interpreter's lock for at least this many bytes. */
 #define LARGE ((size_t)65536)
 
+/* Releases the interpreter's lock if there are so many bytes, and nobody can change them. Returns
+ * what `lock` needs to take it again. */
+PyThreadState *unlock(const struct lent *lent);
+void lock(PyThreadState *saved);
+
 /* Writes the limit that is nearest to an integer of any size. For None there is no limit. */
 int limit_of(PyObject *given, size_t *limit);
 
-/* Sets the exception of a status that isn't KOMBILAD_OK, with the offset in a block. */
+/* Returns the number as an integer, or None if there is none. */
+PyObject *number_if(bool is_there, uint64_t number);
+
+/* Sets the exception of a status that isn't KOMBILAD_OK, with the offset in a block or the number of
+ * a link. */
 void set_failed(const struct state *state, uint32_t status, size_t offset);
 
 /* Sets the exception of a status of a text, with the index of a character in it. */
@@ -149,9 +158,16 @@ PyObject *open_part(PyObject *module, PyObject *arguments);
 PyObject *next_part(PyObject *module, PyObject *arguments);
 PyObject *verify(PyObject *module, PyObject *arguments);
 PyObject *decode_car(PyObject *module, PyObject *arguments);
+
+/* Calls on files, folders and nodes of UnixFS. */
 PyObject *file_new(PyObject *module, PyObject *arguments);
 PyObject *file_take(PyObject *module, PyObject *arguments);
-PyObject *file_wanted(PyObject *module, PyObject *capsule);
+PyObject *folder_lookup(PyObject *module, PyObject *arguments);
+PyObject *folder_new(PyObject *module, PyObject *given);
+PyObject *folder_take(PyObject *module, PyObject *arguments);
+PyObject *stays_inside(PyObject *module, PyObject *arguments);
+PyObject *unixfs_node(PyObject *module, PyObject *arguments);
+PyObject *walk_wanted(PyObject *module, PyObject *capsule);
 
 /* Returns the canonical block of a value. */
 PyObject *encode(PyObject *module, PyObject *arguments);

@@ -17,7 +17,10 @@ UnixFS, read by proved code: the library `libkombilad`.
 - `CarReader` reads the blocks of a CAR file one at a time, and `AsyncCarReader` does so with
   `async for`. `decode_car` returns the values of all blocks of a CAR in memory. `verify` compares a
   block with its CID.
-- `read_file` returns the bytes of a file of UnixFS, from blocks that it verifies.
+- `read_file` returns the bytes of a file of UnixFS, or of a range of it, from blocks that it
+  verifies, and `open_file` a binary file. `list_folder` returns the entries of a folder, `resolve`
+  the CID at a path, and `read_node` what a block says of a file, a folder or a symbolic link.
+  `unpack` writes files and folders to the disk.
 
 A block is any object with contiguous bytes, such as `bytes`, `bytearray`, `memoryview` or `mmap`.
 It isn't copied, and must not change while a call reads it. If it is `bytes` of 64 KiB or more, the
@@ -55,12 +58,17 @@ from ._errors import (
     KombiladError,
     LimitError,
     MissingBlockError,
+    MissingEntryError,
+    SymlinkError,
     TextError,
     VerifyError,
 )
-from ._file import read_file
+from ._file import FileReader, open_file, read_file
+from ._folder import FolderEntry, list_folder, resolve
 from . import _native
+from ._node import Node, NodeKind, read_node
 from ._status import Status
+from ._unpack import unpack
 from ._values import (
     decode_dag_cbor,
     decode_dag_cbor_multi,
@@ -82,11 +90,17 @@ __all__ = [
     "CidError",
     "EncodeError",
     "FileError",
+    "FileReader",
+    "FolderEntry",
     "JsonError",
     "KombiladError",
     "LimitError",
     "MissingBlockError",
+    "MissingEntryError",
+    "Node",
+    "NodeKind",
     "Status",
+    "SymlinkError",
     "TextError",
     "VerifyError",
     "canonicalize",
@@ -101,8 +115,13 @@ __all__ = [
     "is_canonical",
     "link_positions",
     "links",
+    "list_folder",
+    "open_file",
     "read_file",
+    "read_node",
+    "resolve",
     "to_json",
+    "unpack",
     "verify",
     "version",
 ]

@@ -11,8 +11,8 @@ if TYPE_CHECKING:
 
 class KombiladError(ValueError):
     """Invalid input. `name` is the name of the error in `kombilad.h` without `KOMBILAD_`, `status`
-    its number, and `offset` the byte at fault, or None. `cid` is the CID of the block at which
-    `read_file` stopped, or None.
+    its number, and `offset` the byte at fault, or None. `cid` is the CID of the block at fault in a
+    file or a folder, or None.
 
     >>> import kombilad
     >>> try:
@@ -22,6 +22,8 @@ class KombiladError(ValueError):
     BLOCK_END 48 1 the bytes end before the item does, at byte 1
     """
 
+    _at = "at"
+
     def __init__(
         self,
         status: Status,
@@ -29,7 +31,7 @@ class KombiladError(ValueError):
         offset: Optional[int] = None,
         cid: Optional["Cid"] = None,
     ):
-        at = "" if place is None else f", at {place}"
+        at = "" if place is None else f", {self._at} {place}"
         at = at if offset is None else f", at byte {offset}"
         super().__init__(
             _native.status_text(status) + at + ("" if cid is None else f", in block {cid}")
@@ -90,13 +92,17 @@ class VerifyError(KombiladError):
 
 
 class FileError(KombiladError):
-    """A block is not the part of a file of UnixFS that its CID and the blocks above it name, or the
-    file exceeds a limit. `offset` is the byte of the node's data at which a field is invalid, or
-    None."""
+    """A block is not a node of UnixFS, or not the part of a file or a folder that its CID and the
+    blocks above it name. Or a file, or what is unpacked, exceeds a limit. `offset` is the byte of the
+    node's data at which a field is invalid, or None. `place` is the number of the link in a folder
+    whose name is invalid or out of order, counted from 0, or None.
+    """
+
+    _at = "at link"
 
 
 class MissingBlockError(LookupError):
-    """A block of a file is missing. `cid` is its CID."""
+    """A block is missing. `cid` is its CID."""
 
     def __init__(self, cid: "Cid"):
         super().__init__(f"the block {cid} is missing")
@@ -104,6 +110,34 @@ class MissingBlockError(LookupError):
 
     def __reduce__(self) -> Tuple[Any, ...]:
         return (type(self), (self.cid,))
+
+
+class MissingEntryError(LookupError):
+    """A folder has no entry with a name. `path` is the path up to that name, and `cid` the CID of the
+    folder."""
+
+    def __init__(self, path: str, cid: "Cid"):
+        super().__init__(f"there is no entry {_cut(path)!r}, in folder {cid}")
+        self.path = path
+        self.cid = cid
+
+    def __reduce__(self) -> Tuple[Any, ...]:
+        return (type(self), (self.path, self.cid))
+
+
+class SymlinkError(ValueError):
+    """A symbolic link is not made: it may lead out of the folder, or no link can have its `target`
+    (bytes). `path` is the path of the link in the folder, and `cid` its CID."""
+
+    def __init__(self, reason: str, path: str, target: bytes, cid: "Cid"):
+        super().__init__(f"{reason}: {_cut(path)!r}, in block {cid}")
+        self.reason = reason
+        self.path = path
+        self.target = target
+        self.cid = cid
+
+    def __reduce__(self) -> Tuple[Any, ...]:
+        return (type(self), (self.reason, self.path, self.target, self.cid))
 
 
 _NOT_ENCODED = {
@@ -118,10 +152,13 @@ _NOT_ENCODED = {
 _LONGEST_PATH = 200
 
 
-def _shown(path: Tuple[Union[str, int], ...]) -> str:
-    text = "/".join(it if isinstance(it, str) else str(it) for it in path)
+def _cut(path: str) -> str:
     half = _LONGEST_PATH // 2
-    return text if len(text) <= _LONGEST_PATH else f"{text[:half]}..{text[-half:]}"
+    return path if len(path) <= _LONGEST_PATH else f"{path[:half]}..{path[-half:]}"
+
+
+def _shown(path: Tuple[Union[str, int], ...]) -> str:
+    return _cut("/".join(it if isinstance(it, str) else str(it) for it in path))
 
 
 class EncodeError(ValueError):
@@ -157,6 +194,16 @@ def _encode_error(
     return error
 
 
+# With these statuses `kombilad.h` has the number of a link instead of an offset.
+_OF_LINKS = (
+    Status.FOLDER_INVALID_NAME,
+    Status.FOLDER_NAME_ORDER,
+    Status.FOLDER_INVALID_SLOT,
+    Status.FOLDER_SLOT_ORDER,
+    Status.FOLDER_WRONG_SLOT,
+)
+
+
 def failed(status: int, place: Optional[int] = None, offset: Optional[int] = None) -> Exception:
     """Returns the exception for a status other than `OK`."""
     known = Status(status)
@@ -178,7 +225,9 @@ def failed(status: int, place: Optional[int] = None, offset: Optional[int] = Non
         return JsonError(known, offset=offset)
     if Status.TEXT_UNKNOWN_BASE <= known <= Status.TEXT_UTF8:
         return TextError(known, place)
-    if Status.FILE_DONE <= known <= Status.FILE_TOO_MANY_PARTS:
+    if known in _OF_LINKS:
+        return FileError(known, offset)
+    if Status.WALK_DONE <= known <= Status.FILE_TOO_MANY_PARTS or known >= Status.FOLDER_CODEC:
         return FileError(known)
     if Status.UNIXFS_END <= known <= Status.UNIXFS_NANOSECONDS:
         return FileError(known, offset=offset)
