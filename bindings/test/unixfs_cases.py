@@ -103,7 +103,10 @@ class Cases:
         _, message = self.reader.node(cid)
         target = (message.content or b"") if message.kind == SYMLINK else b""
         time = message.mtime or (None, None)
-        self.add("node", cid, message.kind, message.filesize, message.mode, *time, target)
+        size = message.filesize
+        if size is None and message.kind in (FILE, RAW_DATA):
+            size = len(message.content or b"") + sum(message.blocksizes)
+        self.add("node", cid, message.kind, size, message.mode, *time, target)
 
     def file(self, root, content):
         self.keep(root)

@@ -165,8 +165,10 @@ fn seeks_ask_only_for_the_blocks_that_lead_there() {
 fn seeks_fail_and_leave_the_position() {
     let mut blocks = Blocks::new();
     let root = file(&mut blocks, &LEAVES);
-    // Its root states no size.
-    let other = node(&mut blocks, &[], b"\x08\x02\x12\x03abc");
+    // The root of one states no size, and the links of the other state 2^64 bytes.
+    let unstated = node(&mut blocks, &[], b"\x08\x02\x12\x03abc");
+    let half = [&b"\x20"[..], &varint(1 << 63)].concat();
+    let too_large = node(&mut blocks, &[], &[b"\x08\x02", &half[..], &half].concat());
     let mut file = FileReader::new(|cid| Ok(blocks.get(cid)), &root);
     file.seek(SeekFrom::Start(4)).unwrap();
     for to in [SeekFrom::Current(-5), SeekFrom::End(-14), SeekFrom::Current(i64::MIN)] {
@@ -184,12 +186,14 @@ fn seeks_fail_and_leave_the_position() {
     assert_eq!(file.seek(SeekFrom::End(-1)).unwrap(), 12);
     file.read_exact(&mut byte).unwrap();
     assert_eq!(&byte, b"!");
-    let mut file = FileReader::new(|cid| Ok(blocks.get(cid)), &other);
-    assert_eq!(file.size().unwrap(), None);
-    assert_eq!(file.seek(SeekFrom::End(0)).unwrap_err().kind(), ErrorKind::Unsupported);
+    let mut file = FileReader::new(|cid| Ok(blocks.get(cid)), &unstated);
+    assert_eq!(file.seek(SeekFrom::End(-2)).unwrap(), 1);
     let mut text = String::new();
     file.read_to_string(&mut text).unwrap();
-    assert_eq!(text, "abc");
+    assert_eq!((&text[..], file.size().unwrap()), ("bc", Some(3)));
+    let mut file = FileReader::new(|cid| Ok(blocks.get(cid)), &too_large);
+    assert_eq!(file.size().unwrap(), None);
+    assert_eq!(file.seek(SeekFrom::End(0)).unwrap_err().kind(), ErrorKind::Unsupported);
 }
 
 #[test]
@@ -435,7 +439,7 @@ fn nodes_are_read() {
         let message = [b"\x08\x02\x38\xa4\x03", &field(8, message)[..]].concat();
         let cid = node(&mut blocks, &[], &message);
         let node = Node::read(&cid, &blocks[&cid]).unwrap();
-        assert_eq!((node.mode, node.size), (Some(0o644), None));
+        assert_eq!((node.mode, node.size), (Some(0o644), Some(0)));
         (node.mtime.unwrap(), node.modified())
     };
     let after = UNIX_EPOCH + Duration::new(1, 2);
