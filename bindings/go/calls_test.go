@@ -237,14 +237,13 @@ func TestEachStatusHasAConstantAndASentence(t *testing.T) {
 		named[string(it[1])] = true
 	}
 	// No call of this package returns these.
-	for _, name := range strings.Fields("OK OTHER TOO_SHORT CAR_DONE CAR_MORE TAPE_MISSING TAPE_LEFT_OVER TAPE_KIND TAPE_SPAN TAPE_FIELDS TAPE_CONTENT") {
+	for _, name := range strings.Fields("OK OTHER TOO_SHORT CAR_DONE CAR_MORE WALK_DONE WALK_CLOSED FOLDER_MISSING FOLDER_MORE TAPE_MISSING TAPE_LEFT_OVER TAPE_KIND TAPE_SPAN TAPE_FIELDS TAPE_CONTENT") {
 		named[name] = true
 	}
-	isOfFile := regexp.MustCompile("^(FILE|UNIXFS)_")
 	unknown := Status(999).Error()
 	sentences := map[string]string{}
 	for name, status := range statuses(t) {
-		if !named[name] && !isOfFile.MatchString(name) {
+		if !named[name] {
 			t.Errorf("KOMBILAD_%s has no constant", name)
 		}
 		if status.Error() == unknown && name != "OTHER" {
@@ -253,7 +252,7 @@ func TestEachStatusHasAConstantAndASentence(t *testing.T) {
 		sentences[name] = status.Error()
 	}
 	same(t, "a link", sentences["LINK_DIGEST_TOO_LONG"], "the digest of a link is longer than 64 bytes")
-	for status := ErrType; status <= ErrCustom; status++ {
+	for status := ErrType; status <= ErrInUse; status++ {
 		if status.Error() == unknown {
 			t.Errorf("%d has no sentence", status)
 		}

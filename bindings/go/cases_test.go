@@ -29,7 +29,7 @@ func statuses(t testing.TB) map[string]Status {
 	found := map[string]Status{}
 	for _, line := range regexp.MustCompile(`(?m)^    KOMBILAD_([A-Z0-9_]+) = (\d+)`).FindAllSubmatch(header, -1) {
 		number, _ := strconv.Atoi(string(line[2]))
-		if !strings.HasPrefix(string(line[1]), "KIND_") && !strings.HasPrefix(string(line[1]), "BASE") {
+		if !regexp.MustCompile("^(KIND_|BASE|NODE_)").Match(line[1]) {
 			found[string(line[1])] = Status(number)
 		}
 	}
@@ -60,11 +60,46 @@ type randomCase struct {
 	Sections            [][2]string
 
 	Cid string
+
+	Name   string
+	Blocks [][2]string
+	Tree   []treeRow
+	Kind   string
+	Errors []string
 }
 
 // TestRandomCases compares the results with those of a reader that shares no code with the library.
 // KOMBILAD_CASES is the file that test/cases.py has written.
 func TestRandomCases(t *testing.T) {
+	byName := statuses(t)
+	count, valid := map[string]int{}, map[string]int{}
+	eachCase(t, func(it randomCase, line []byte) bool {
+		count[it.Case]++
+		if it.Error == "" && it.Errors == nil {
+			valid[it.Case]++
+		}
+		if byName[it.Error] == 0 && it.Error != "" {
+			t.Fatalf("there is no status %s", it.Error)
+		}
+		input := unhex(t, it.Input)
+		checks := map[string]func(*testing.T, randomCase, []byte, Status){
+			"block": checkBlockCase, "cid": checkCidCase, "pb": checkPbCase, "car": checkCarCase,
+			"digest": checkDigestCase, "tree": checkTreeCase, "fault": checkFaultCase,
+		}
+		checks[it.Case](t, it, input, byName[it.Error])
+		if t.Failed() {
+			t.Fatalf("case: %.10000s", line)
+		}
+		return true
+	})
+	if len(count) != 7 {
+		t.Fatal(count)
+	}
+	t.Logf("cases: %v, of which are valid: %v", count, valid)
+}
+
+// eachCase calls a function with each case and its line, until it returns false.
+func eachCase(t *testing.T, use func(it randomCase, line []byte) bool) {
 	name := os.Getenv("KOMBILAD_CASES")
 	if name == "" {
 		t.Skip("KOMBILAD_CASES is not set: run test.sh")
@@ -74,8 +109,6 @@ func TestRandomCases(t *testing.T) {
 		t.Fatal(err)
 	}
 	defer file.Close()
-	byName := statuses(t)
-	count, valid := map[string]int{}, map[string]int{}
 	lines := bufio.NewScanner(file)
 	lines.Buffer(nil, 64<<20)
 	for lines.Scan() {
@@ -83,27 +116,13 @@ func TestRandomCases(t *testing.T) {
 		if err := json.Unmarshal(lines.Bytes(), &it); err != nil {
 			t.Fatal(err)
 		}
-		count[it.Case]++
-		if it.Error == "" {
-			valid[it.Case]++
-		}
-		if byName[it.Error] == 0 && it.Error != "" {
-			t.Fatalf("there is no status %s", it.Error)
-		}
-		input := unhex(t, it.Input)
-		checks := map[string]func(*testing.T, randomCase, []byte, Status){
-			"block": checkBlockCase, "cid": checkCidCase, "pb": checkPbCase, "car": checkCarCase,
-			"digest": checkDigestCase,
-		}
-		checks[it.Case](t, it, input, byName[it.Error])
-		if t.Failed() {
-			t.Fatalf("case: %s", lines.Text())
+		if !use(it, lines.Bytes()) {
+			return
 		}
 	}
-	if lines.Err() != nil || len(count) != 5 {
-		t.Fatal(count, lines.Err())
+	if lines.Err() != nil {
+		t.Fatal(lines.Err())
 	}
-	t.Logf("cases: %v, of which are valid: %v", count, valid)
 }
 
 func unhex(t testing.TB, digits string) []byte {

@@ -1,14 +1,19 @@
-// Package kombilad reads content identifiers (CIDs), blocks of DAG-CBOR and DAG-PB, and CARs, and
-// writes CIDs and blocks of DAG-CBOR. A proved C library decodes and encodes them.
+// Package kombilad reads content identifiers (CIDs), blocks of DAG-CBOR and DAG-PB, CARs, and files
+// and folders of UnixFS, and writes CIDs and blocks of DAG-CBOR. A proved C library decodes and
+// encodes them.
 //
-// [Decode] and [Encode] are for values of any shape, [Unmarshal] and [Marshal] for Go types. [Links]
-// finds the links of a block without decoding it, and [OpenCar] reads a CAR one block at a time.
-// [ToJSON] converts a block to DAG-JSON, and [FromJSON] converts DAG-JSON to a block.
+// [Decode] and [Encode] are for values of any shape, [Unmarshal] and [Marshal] for Go types.
+// [Links] finds the links of a block without decoding it, and [OpenCar] reads a CAR one block at a
+// time. [ToJSON] converts a block to DAG-JSON, and [FromJSON] converts DAG-JSON to a block.
+//
+// [NewFS] returns a folder of UnixFS as an [fs.FS], [NewFileReader] reads a file, and
+// [NewFolderReader] lists a folder. A [BlockGetter] gets the blocks from anywhere, and each block
+// is verified.
 //
 // All calls accept untrusted bytes. An error is an [*Error]: it has a [Status], the byte of the
-// input at fault, and for a Go type the path of the value that doesn't fit. [Options] and
-// [CarOptions] are limits. A call takes memory in proportion to its input. No input overflows the
-// stack.
+// input at fault, for a Go type the path of the value that doesn't fit, and for UnixFS the CID of
+// the block. [Options], [CarOptions] and [FileOptions] are limits. A call takes memory in
+// proportion to its input. No input overflows the stack.
 //
 // Goroutines may call all functions at the same time, also for the same block, unless one of them
 // changes it.

@@ -5,7 +5,8 @@ import (
 	"strconv"
 )
 
-// Error is the error of every call of this package, except those that an [io.Reader] returned.
+// Error is the error of every call of this package, except those that an [io.Reader] returned. An
+// [FS] returns it in an [fs.PathError].
 //
 //	var failure *kombilad.Error
 //	if errors.As(err, &failure) {
@@ -15,15 +16,19 @@ type Error struct {
 	// Status is the reason, one of the constants of this package.
 	Status Status
 	// Offset is the byte of the block, the CAR or the text at fault, or -1 if there is none. In a
-	// block the value, the key or the link at fault begins there.
+	// block the value, the key or the link at fault begins there. For an ErrUnixFS status it is the
+	// byte of the node's data.
 	Offset int64
 	// Path leads from the whole value to the part that can't be decoded or encoded, for example
 	// posts[3].author. It is empty for the whole value, and for a block that isn't valid. A path of
-	// many parts has [...] in its middle.
+	// many parts has [...] in its middle. For a link of a folder's block it is such as Links[3].
 	Path string
 	// Type is the Go type that doesn't fit the value, or nil.
 	Type reflect.Type
-	// Err is the error that a Marshaler or an Unmarshaler returned, or nil.
+	// Cid is that of the block of UnixFS that is missing or at fault. For other errors it is
+	// undefined.
+	Cid Cid
+	// Err is the error that a Marshaler, an Unmarshaler or a BlockGetter returned, or nil.
 	Err error
 
 	detail string
@@ -38,6 +43,10 @@ func (e *Error) Error() string {
 		text += e.Path + ": "
 	}
 	switch {
+	case e.Status == ErrMissingBlock:
+		return text + "the block " + e.Cid.String() + " is missing"
+	case e.Status == ErrBlockGetter:
+		return text + "cannot get the block " + e.Cid.String() + ": " + e.Err.Error()
 	case e.Err != nil:
 		text += e.Err.Error()
 	case e.detail != "":
@@ -47,6 +56,9 @@ func (e *Error) Error() string {
 	}
 	if e.Offset >= 0 {
 		text += ", at byte " + strconv.FormatInt(e.Offset, 10)
+	}
+	if e.Cid.Defined() {
+		text += ", in block " + e.Cid.String()
 	}
 	return text
 }
@@ -133,4 +145,21 @@ func failed(made outcome) *Error {
 		offset = -1
 	}
 	return &Error{Status: made.status, Offset: offset}
+}
+
+// failedIn returns the error of a status that the block of a CID has.
+func failedIn(cid Cid, made outcome) *Error {
+	e := failed(made)
+	e.Cid = cid
+	switch status := made.status; {
+	case ErrLinkEnd <= status && status <= ErrLinkTrailingBytes,
+		ErrPbEnd <= status && status <= ErrPbUTF8,
+		ErrUnixFSEnd <= status && status <= ErrUnixFSNanoseconds:
+		return e
+	case status == ErrFolderInvalidName, status == ErrFolderNameOrder,
+		status == ErrFolderInvalidSlot, status == ErrFolderSlotOrder, status == ErrFolderWrongSlot:
+		e.Path = "Links" + indexPart(int(made.offset))
+	}
+	e.Offset = -1
+	return e
 }

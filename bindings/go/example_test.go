@@ -6,6 +6,7 @@ import (
 	"errors"
 	"fmt"
 	"io"
+	"io/fs"
 	"log"
 
 	"example.org/kombilad"
@@ -155,6 +156,118 @@ func ExampleOpenCar() {
 	// 1 [bafkqaaa]
 	// bafkqaaa 0 [] <nil>
 	// bafyqaaa 1 [] <nil>
+}
+
+// published returns the CID of a folder with the files hello.txt and two.txt, and a BlockGetter that
+// has its blocks. They can come from anywhere, such as a CAR or a gateway.
+func published() (kombilad.BlockGetter, kombilad.Cid) {
+	blocks := map[kombilad.Cid][]byte{}
+	for _, text := range []string{"hello\n", "hello ", "world\n"} {
+		blocks[kombilad.NewCid(kombilad.Raw, []byte(text))] = []byte(text)
+	}
+	var root kombilad.Cid
+	for _, digits := range []string{
+		"0a0d0804120968656c6c6f2e747874",
+		"122a0a24015512205e3235a8346e5a4585f8c58562f5052b8fe26a3bb122e1e96c76784964dfc46112001806122a0a2401551220e258d248" +
+			"fda94c63753607f7c4494ee0fcbe92f1a76bfdac795c9d84101eb317120018060a080802180c20062006",
+		"12330a24015512205891b5b522d5df086d0ff0b110fbd9d21bb4fc7163af34d08286a2e846f6be03120968656c6c6f2e7478741806122e0a" +
+			"240170122011eefe699ac128ee88670118cd126e0d21e77610cd177fb13f32daf20eec1c5812046c696e6b180f12310a24017012209535a0" +
+			"cba3b76a3b14393350a9770fa026a16b5d5c6bcd7120d5baba5379d39f120774776f2e747874186e0a020801",
+	} {
+		block, _ := hex.DecodeString(digits)
+		root = kombilad.NewCid(kombilad.DagPb, block)
+		blocks[root] = block
+	}
+	return func(cid kombilad.Cid) ([]byte, error) { return blocks[cid], nil }, root
+}
+
+func ExampleNewFS() {
+	get, root := published()
+	fsys, err := kombilad.NewFS(get, root)
+	if err != nil {
+		log.Fatal(err)
+	}
+	err = fs.WalkDir(fsys, ".", func(path string, entry fs.DirEntry, err error) error {
+		if err != nil {
+			return err
+		}
+		fmt.Println(entry.Type(), path)
+		return nil
+	})
+	if err != nil {
+		log.Fatal(err)
+	}
+	text, err := fs.ReadFile(fsys, "two.txt")
+	fmt.Printf("%q %v\n", text, err)
+	_, err = fs.ReadFile(fsys, "three.txt")
+	fmt.Println(err, errors.Is(err, fs.ErrNotExist))
+	target, err := fsys.ReadLink("link")
+	fmt.Println(target, err, kombilad.SymlinkStaysInside(target, 0))
+	// Output:
+	// d--------- .
+	// ---------- hello.txt
+	// L--------- link
+	// ---------- two.txt
+	// "hello world\n" <nil>
+	// open three.txt: file does not exist true
+	// hello.txt <nil> true
+}
+
+func ExampleNewFolderReader() {
+	get, root := published()
+	folder, err := kombilad.NewFolderReader(get, root)
+	if err != nil {
+		log.Fatal(err)
+	}
+	defer folder.Close()
+	for {
+		entry, err := folder.Next()
+		if err == io.EOF {
+			break
+		}
+		if err != nil {
+			log.Fatal(err)
+		}
+		fmt.Println(entry.Name, entry.Tsize, entry.Cid)
+	}
+	// Output:
+	// hello.txt 6 bafkreicysg23kiwv34eg2d7qweipxwosdo2py4ldv42nbauguluen5v6am
+	// link 15 bafybeiar537gtgwbfdxiqzybddgre3qnehtxmegnc573cpzs3lza53a4la
+	// two.txt 110 bafybeievgwqmxi5xni5riojtkcuxod5ae2qwwxk4npgxcigvxk5fg6ott4
+}
+
+func ExampleNewFileReader() {
+	get, _ := published()
+	two, _ := kombilad.ParseCid("bafybeievgwqmxi5xni5riojtkcuxod5ae2qwwxk4npgxcigvxk5fg6ott4")
+	file, err := kombilad.NewFileReader(get, two)
+	if err != nil {
+		log.Fatal(err)
+	}
+	defer file.Close()
+	_, err = file.Seek(-6, io.SeekEnd) // the blocks before that are not read
+	if err != nil {
+		log.Fatal(err)
+	}
+	text, err := io.ReadAll(file)
+	fmt.Printf("%d %q %v\n", file.Size(), text, err)
+
+	lost := kombilad.NewCid(kombilad.Raw, []byte("lost"))
+	_, err = kombilad.NewFileReader(get, lost)
+	var failure *kombilad.Error
+	fmt.Println(errors.Is(err, kombilad.ErrMissingBlock), errors.As(err, &failure) && failure.Cid == lost)
+	// Output:
+	// 12 "world\n" <nil>
+	// true true
+}
+
+func ExampleReadNode() {
+	block, _ := hex.DecodeString("0a180802120668656c6c6f0a180638a403420708011502000000")
+	node, err := kombilad.ReadNode(kombilad.NewCid(kombilad.DagPb, block), block)
+	if err != nil {
+		log.Fatal(err)
+	}
+	fmt.Printf("%t %d %o %v\n", node.Kind == kombilad.NodeFile, node.Size, node.Mode, node.ModTime)
+	// Output: true 6 644 1970-01-01 00:00:01.000000002 +0000 UTC
 }
 
 // Time is a time. In a block it is a number of seconds.

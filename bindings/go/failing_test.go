@@ -4,8 +4,13 @@ package kombilad
 
 import (
 	"bytes"
+	"encoding/hex"
 	"errors"
+	"io"
+	"io/fs"
+	"runtime"
 	"testing"
+	"time"
 )
 
 func TestEachAllocationMayFail(t *testing.T) {
@@ -17,6 +22,18 @@ func TestEachAllocationMayFail(t *testing.T) {
 	node := unhex(t, "12260a2401551220"+zeros32+"0a0178")
 	car := carOf([]Cid{NewCid(Raw, nil)}, []byte("block"))
 	cid := NewCid(Raw, nil)
+	// A folder with an empty file, and a file of it twice.
+	empty := "0a24" + hex.EncodeToString(cid.Bytes())
+	folder := unhex(t, "1229"+empty+"120161"+"0a020801")
+	file := unhex(t, "1226"+empty+"1226"+empty+"0a06080220002000")
+	get := func(cid Cid) ([]byte, error) {
+		for _, block := range [][]byte{folder, file} {
+			if cid == NewCid(DagPb, block) {
+				return block, nil
+			}
+		}
+		return []byte{}, nil
+	}
 	value, err := Decode(block)
 	if err != nil {
 		t.Fatal(err)
@@ -27,7 +44,7 @@ func TestEachAllocationMayFail(t *testing.T) {
 	}
 	for name, call := range map[string]func() error{
 		"Check":          func() error { return Check(block) },
-		"CheckCanonical": func() error { return ignoreOrder(CheckCanonical(block)) },
+		"CheckCanonical": func() error { return ignore(CheckCanonical(block), ErrNotCanonical) },
 		"Canonicalize":   func() error { _, err := Canonicalize(block); return err },
 		"ToJSON":         func() error { _, err := ToJSON(block); return err },
 		"FromJSON":       func() error { _, err := FromJSON(text); return err },
@@ -38,7 +55,40 @@ func TestEachAllocationMayFail(t *testing.T) {
 		"Encode":         func() error { _, err := Encode(value); return err },
 		"DecodePb":       func() error { _, err := DecodePb(node); return err },
 		"OpenCar":        func() error { _, err := OpenCar(bytes.NewReader(car)); return err },
-		"StringOfBase":   func() error { _, err := cid.StringOfBase(Base58BTC); return err },
+		"ReadNode":       func() error { _, err := ReadNode(NewCid(DagPb, folder), folder); return err },
+		"FileReader": func() error {
+			r, err := NewFileReader(get, NewCid(DagPb, file))
+			if err != nil {
+				return err
+			}
+			defer r.Close()
+			if _, err := io.ReadAll(r); err != nil {
+				return err
+			}
+			_, err = r.ReadAt([]byte{0}, 0)
+			return ignore(err, io.EOF)
+		},
+		"FolderReader": func() error {
+			r, err := NewFolderReader(get, NewCid(DagPb, folder))
+			if err != nil {
+				return err
+			}
+			defer r.Close()
+			_, err = r.Next()
+			return err
+		},
+		"FS": func() error {
+			fsys, err := NewFS(get, NewCid(DagPb, folder))
+			if err != nil {
+				return err
+			}
+			if _, err := fsys.ReadDir("."); err != nil {
+				return err
+			}
+			_, err = fs.ReadFile(fsys, "a")
+			return err
+		},
+		"StringOfBase": func() error { _, err := cid.StringOfBase(Base58BTC); return err },
 	} {
 		refused := 0
 		for ; ; refused++ {
@@ -59,8 +109,49 @@ func TestEachAllocationMayFail(t *testing.T) {
 	}
 }
 
-func ignoreOrder(err error) error {
-	if errors.Is(err, ErrNotCanonical) {
+func TestReadersThatAreNotClosed(t *testing.T) {
+	link := append([]byte{0x12}, framed([]byte{0x0a}, framed(NewCid(Raw, []byte("x")).Bytes()))...)
+	file := nodeOf(link, 0x20, 1)
+	folder := unhex(t, "12090a04015500001201610a020801")
+	get := func(cid Cid) ([]byte, error) {
+		for _, block := range [][]byte{file, folder} {
+			if cid == NewCid(DagPb, block) {
+				return block, nil
+			}
+		}
+		panic("a panic of a BlockGetter")
+	}
+	for at := 0; at < 50; at++ {
+		r := newFile(t, get, NewCid(DagPb, file))
+		_, err := NewFolderReader(get, NewCid(DagPb, folder))
+		same(t, "NewFolderReader", err, nil)
+		for _, call := range []func([]byte) (int, error){
+			func(p []byte) (int, error) { return r.ReadAt(p, 0) }, r.Read,
+		} {
+			func() {
+				defer func() { same(t, "a panic", recover() != nil, true) }()
+				_, _ = call(make([]byte, 1))
+			}()
+		}
+	}
+	for end := time.Now().Add(20 * time.Second); allocationsHeld() > 0 && time.Now().Before(end); {
+		runtime.GC()
+		time.Sleep(time.Millisecond)
+	}
+	same(t, "allocations held", allocationsHeld(), 0)
+	r := newFile(t, get, NewCid(DagPb, file))
+	before := allocationsHeld()
+	func() {
+		defer func() { same(t, "a panic", recover() != nil, true) }()
+		_, _ = r.ReadAt(make([]byte, 1), 0)
+	}()
+	same(t, "ReadAt holds", allocationsHeld(), before)
+	same(t, "Close", r.Close(), nil)
+	same(t, "Close holds", allocationsHeld(), 0)
+}
+
+func ignore(err, ignored error) error {
+	if errors.Is(err, ignored) {
 		return nil
 	}
 	return err

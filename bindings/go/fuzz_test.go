@@ -137,3 +137,58 @@ func FuzzCar(f *testing.F) {
 		}
 	})
 }
+
+// FuzzUnixFS reads a block as a node, a folder and a file, which have no other blocks. It checks
+// that the calls agree.
+func FuzzUnixFS(f *testing.F) {
+	for _, digits := range []string{
+		"0a0408021800", "0a180802120668656c6c6f0a180638a403420708011502000000", "0a0508041201780a", "12060a04015500000a040802" + "2000",
+		"12090a04015500001201610a020801", "12090a0401550000120161120a0a0401550000120162620a020801", "0a020805",
+		"122d0a24015512205891b5b522d5df086d0ff0b110fbd9d21bb4fc7163af34d08286a2e846f6be0312033741621806122d0a24015512205891" +
+			"b5b522d5df086d0ff0b110fbd9d21bb4fc7163af34d08286a2e846f6be03120338356118060a1a0805121120040000000000000000000000000000002822308002",
+	} {
+		f.Add(unhex(f, digits))
+	}
+	f.Fuzz(func(t *testing.T, block []byte) {
+		cid := NewCid(DagPb, block)
+		get := BlockGetter(func(wanted Cid) ([]byte, error) {
+			if wanted == cid {
+				return block, nil
+			}
+			return nil, nil
+		})
+		node, nodeErr := ReadNode(cid, block)
+		if folder, err := NewFolderReader(get, cid); err == nil {
+			same(t, "ReadNode", nodeErr, nil)
+			folder.Entries()(func(entry FolderEntry) bool {
+				found, err := get.lookUp(cid, entry.Name)
+				same(t, "lookUp", []any{found, err}, []any{entry.Cid, nil})
+				return true
+			})
+			sameBlockAtFault(t, folder.Err(), cid)
+			same(t, "Close", folder.Close(), nil)
+		}
+		r, err := NewFileReader(get, cid)
+		if err != nil {
+			return
+		}
+		same(t, "ReadNode", []any{nodeErr, node.Kind == NodeFile || node.Kind == NodeRaw}, []any{nil, true})
+		read, err := io.ReadAll(r)
+		sameBlockAtFault(t, err, cid)
+		if err == nil {
+			same(t, "Size", int64(len(read)), r.Size())
+		}
+		part := make([]byte, len(read))
+		_, err = r.ReadAt(part, 0)
+		same(t, "ReadAt", []any{err, bytes.Equal(part, read)}, []any{nil, true})
+		same(t, "Close", r.Close(), nil)
+	})
+}
+
+// sameBlockAtFault checks that an error has the CID of a block below the root.
+func sameBlockAtFault(t *testing.T, err error, root Cid) {
+	var failure *Error
+	if err != nil && (!errors.As(err, &failure) || !failure.Cid.Defined() || failure.Cid == root) {
+		t.Error(err)
+	}
+}

@@ -154,10 +154,93 @@ static car_outcome next_part(PART, kombilad_car_place place) {
 static uint32_t verify(_GoString_ cid, const uint8_t *block, size_t len) {
 	return kombilad_verify(STRING(cid), block, len);
 }
+
+typedef struct {
+	uint32_t status;
+	size_t needed;
+	size_t place;
+	kombilad_walk walk;
+	kombilad_cid cid;
+} walk_outcome;
+
+typedef struct {
+	uint32_t status;
+	size_t needed;
+	size_t place;
+	kombilad_node node;
+} node_outcome;
+
+static walk_outcome file_new(kombilad_walk walk, _GoString_ root, uint64_t start,
+                             uint64_t max_bytes, uint64_t max_blocks, size_t max_waiting,
+                             size_t max_levels) {
+	walk_outcome made = {.walk = walk};
+	made.status = kombilad_file_new(STRING(root), start, UINT64_MAX, max_bytes, max_blocks,
+	                                max_waiting, max_levels, &made.walk);
+	return made;
+}
+
+static walk_outcome folder_new(kombilad_walk walk, _GoString_ root) {
+	walk_outcome made = {.walk = walk};
+	made.status = kombilad_folder_new(STRING(root), &made.walk);
+	return made;
+}
+
+static walk_outcome walk_wanted(kombilad_walk walk) {
+	walk_outcome made = {.walk = walk};
+	made.status = kombilad_walk_wanted(&made.walk, &made.cid);
+	return made;
+}
+
+static walk_outcome file_take(kombilad_walk walk, const uint8_t *block, size_t len, uint8_t *bytes,
+                              size_t bytes_len) {
+	walk_outcome made = {.walk = walk};
+	made.status = kombilad_file_take(&made.walk, block, len, bytes, bytes_len, &made.needed,
+	                                 &made.place);
+	return made;
+}
+
+static walk_outcome folder_take(kombilad_walk walk, const uint8_t *block, size_t len,
+                                kombilad_folder_entry *entries, size_t entries_len, uint8_t *names,
+                                size_t names_len) {
+	walk_outcome made = {.walk = walk};
+	made.status = kombilad_folder_take(&made.walk, block, len, entries, entries_len, names,
+	                                   names_len, &made.needed, &made.place);
+	return made;
+}
+
+static void walk_free(kombilad_walk walk) {
+	kombilad_walk_free(&walk);
+}
+
+static cid_outcome folder_lookup(_GoString_ folder, _GoString_ name, const uint8_t *bytes,
+                                 size_t bytes_len, const kombilad_span *blocks,
+                                 size_t blocks_len) {
+	cid_outcome made = {0};
+	made.status = kombilad_folder_lookup(STRING(folder), STRING(name), bytes, bytes_len, blocks,
+	                                     blocks_len, &made.cid, &made.place);
+	return made;
+}
+
+static node_outcome unixfs_node(_GoString_ cid, const uint8_t *block, size_t len, uint8_t *target,
+                                size_t target_len) {
+	node_outcome made = {0};
+	made.status = kombilad_unixfs_node(STRING(cid), block, len, &made.node, target, target_len,
+	                                   &made.needed, &made.place);
+	return made;
+}
+
+static uint32_t symlink_stays_inside(_GoString_ target, size_t depth) {
+	return kombilad_symlink_stays_inside(STRING(target), depth);
+}
 */
 import "C"
 
-import "unsafe"
+import (
+	"math"
+	"runtime"
+	"time"
+	"unsafe"
+)
 
 // C is called only here. A call takes a whole block, so decoding doesn't call C for each value. The
 // memory that is passed to C has no pointers in it.
@@ -228,6 +311,14 @@ const (
 	statusDone Status = C.KOMBILAD_CAR_DONE
 )
 
+// The statuses of a walk over blocks and of a search in a folder. statusWalkDone: no block is left.
+// statusFolderMore: the search needs one more block. statusFolderMissing: there is no such entry.
+const (
+	statusWalkDone      Status = C.KOMBILAD_WALK_DONE
+	statusFolderMore    Status = C.KOMBILAD_FOLDER_MORE
+	statusFolderMissing Status = C.KOMBILAD_FOLDER_MISSING
+)
+
 func cSize(size int) C.size_t {
 	return C.size_t(size)
 }
@@ -244,6 +335,13 @@ func entriesOf(entries []entry) (*C.kombilad_entry, C.size_t) {
 		return nil, 0
 	}
 	return (*C.kombilad_entry)(unsafe.Pointer(&entries[0])), C.size_t(len(entries))
+}
+
+func spansOf(spans []span) (*C.kombilad_span, C.size_t) {
+	if len(spans) == 0 {
+		return nil, 0
+	}
+	return (*C.kombilad_span)(unsafe.Pointer(&spans[0])), C.size_t(len(spans))
 }
 
 func callCheck(block []byte, within limits) outcome {
@@ -281,11 +379,7 @@ func callFromJSON(text []byte, within limits, out []byte) outcome {
 
 func callPositions(block []byte, within limits, spans []span) outcome {
 	bytes, length := bytesOf(block)
-	var to *C.kombilad_span
-	if len(spans) > 0 {
-		to = (*C.kombilad_span)(unsafe.Pointer(&spans[0]))
-	}
-	room := C.size_t(len(spans))
+	to, room := spansOf(spans)
 	return outcomeOf(C.positions(bytes, length, within.levels, within.values, to, room))
 }
 
@@ -407,6 +501,136 @@ func callCarNext(bytes []byte, isAll bool, limit int, at carPlace) carPart {
 	from, length := bytesOf(bytes)
 	place := C.kombilad_car_place{C.uint64_t(at.version), C.uint64_t(at.at), C.uint64_t(at.end)}
 	return carPartOf(C.next_part(from, length, flag(isAll), C.size_t(limit), place))
+}
+
+// walk is a walk over the blocks of a file or of a folder, whose memory is C's until free. The zero
+// value has none. A call gets a copy of the record and returns it, since C may move the walk.
+type walk struct {
+	record C.kombilad_walk
+}
+
+// newWalk returns a walk that is freed at the latest when nothing refers to it any more.
+func newWalk() *walk {
+	w := &walk{}
+	runtime.SetFinalizer(w, (*walk).free)
+	return w
+}
+
+func (w *walk) free() {
+	C.walk_free(w.record)
+	w.record = C.kombilad_walk{}
+	runtime.SetFinalizer(w, nil)
+}
+
+func (w *walk) outcomeOf(made C.walk_outcome) outcome {
+	w.record = made.walk
+	return outcome{Status(made.status), int(made.needed), int64(made.place)}
+}
+
+// fileLimits are the limits of a walk over a file.
+type fileLimits struct {
+	bytes, blocks   uint64
+	waiting, levels C.size_t
+}
+
+// usualLimits are the limits that the header has for untrusted files.
+var usualLimits = fileLimits{
+	math.MaxUint64, C.KOMBILAD_FILE_BLOCKS, C.KOMBILAD_FILE_WAITING, C.KOMBILAD_FILE_LEVELS,
+}
+
+// newFile begins a walk over the bytes of a file from the byte start on.
+func (w *walk) newFile(root string, start int64, within fileLimits) outcome {
+	return w.outcomeOf(C.file_new(w.record, root, C.uint64_t(start), C.uint64_t(within.bytes),
+		C.uint64_t(within.blocks), within.waiting, within.levels))
+}
+
+func (w *walk) newFolder(root string) outcome {
+	return w.outcomeOf(C.folder_new(w.record, root))
+}
+
+// wanted returns the CID of the block that the walk wants next.
+func (w *walk) wanted() (string, outcome) {
+	made := C.walk_wanted(w.record)
+	return cidOf(&made.cid), w.outcomeOf(made)
+}
+
+// takeFile gives a block to the walk over a file, which writes the bytes of the file in it to a
+// buffer that is not shorter than the block.
+func (w *walk) takeFile(block, bytes []byte) outcome {
+	from, length := bytesOf(block)
+	to, room := bytesOf(bytes)
+	return w.outcomeOf(C.file_take(w.record, from, length, to, room))
+}
+
+var folderBuffers buffers[C.kombilad_folder_entry]
+
+// takeFolder gives a block to the walk over a folder, and returns the entries in it.
+func (w *walk) takeFolder(block []byte) ([]FolderEntry, outcome) {
+	buffer, names := folderBuffers.get(0), byteBuffers.get(len(block))
+	defer folderBuffers.put(buffer)
+	defer byteBuffers.put(names)
+	from, length := bytesOf(block)
+	text, space := bytesOf(*names)
+	records, made := filled(*buffer, func(records []C.kombilad_folder_entry) outcome {
+		room := C.size_t(len(records))
+		return w.outcomeOf(C.folder_take(w.record, from, length, &records[0], room, text, space))
+	})
+	*buffer = records[:cap(records)]
+	if made.status != 0 {
+		return nil, made
+	}
+	entries := make([]FolderEntry, len(records))
+	for at := range records {
+		of := &records[at]
+		begin, end := of.name.offset, of.name.offset+of.name.len
+		entries[at] = FolderEntry{
+			string((*names)[begin:end]), Cid{cidOf(&of.cid)}, uint64(of.tsize), of.has_tsize != 0,
+		}
+	}
+	return entries, made
+}
+
+// callFolderLookup looks for an entry in a folder, with the blocks at these places of the bytes.
+func callFolderLookup(folder, name string, bytes []byte, blocks []span) (string, outcome) {
+	from, length := bytesOf(bytes)
+	places, count := spansOf(blocks)
+	made := C.folder_lookup(folder, name, from, length, places, count)
+	return cidOf(&made.cid), outcome{status: Status(made.status), offset: int64(made.place)}
+}
+
+// The kinds of nodes.
+const (
+	NodeRaw      NodeKind = C.KOMBILAD_NODE_RAW // bytes of a file: a raw block, or a node of old writers
+	NodeFolder   NodeKind = C.KOMBILAD_NODE_FOLDER
+	NodeFile     NodeKind = C.KOMBILAD_NODE_FILE
+	NodeMetadata NodeKind = C.KOMBILAD_NODE_METADATA
+	NodeSymlink  NodeKind = C.KOMBILAD_NODE_SYMLINK
+	NodeShard    NodeKind = C.KOMBILAD_NODE_SHARD // a sharded folder, or a part of one
+)
+
+func callUnixFSNode(cid string, block []byte) (node Node, made outcome) {
+	from, length := bytesOf(block)
+	target, made := filled(nil, func(target []byte) outcome {
+		to, room := bytesOf(target)
+		found := C.unixfs_node(cid, from, length, to, room)
+		of := found.node
+		node = Node{
+			Kind: NodeKind(of.kind),
+			Size: uint64(of.size), HasSize: of.fields&C.KOMBILAD_NODE_SIZE != 0,
+			Mode: uint32(of.mode), HasMode: of.fields&C.KOMBILAD_NODE_MODE != 0,
+			HasModTime: of.fields&C.KOMBILAD_NODE_TIME != 0,
+		}
+		if node.HasModTime {
+			node.ModTime = time.Unix(int64(of.seconds), int64(of.nanoseconds)).UTC()
+		}
+		return outcome{Status(found.status), int(found.needed), int64(found.place)}
+	})
+	node.Target = string(target)
+	return node, made
+}
+
+func callSymlinkStaysInside(target string, depth int) bool {
+	return C.symlink_stays_inside(target, cSize(depth)) != 0
 }
 
 func callStatusText(status uint32) string {

@@ -1,7 +1,7 @@
 package kombilad
 
 // PbNode is a node of DAG-PB, the codec of files and folders in IPFS. UnixFS data in it is not
-// decoded.
+// decoded: [ReadNode] does that.
 type PbNode struct {
 	// Links are in the order of the block.
 	Links []PbLink

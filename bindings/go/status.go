@@ -87,6 +87,49 @@ const (
 	ErrPbUTF8           Status = C.KOMBILAD_PB_UTF8             // a name is not UTF-8
 )
 
+// The block is not a part of a file, or the file exceeds a limit.
+const (
+	ErrFileCodec         Status = C.KOMBILAD_FILE_CODEC           // the codec isn't Raw or DagPb
+	ErrFileNoData        Status = C.KOMBILAD_FILE_NO_DATA         // the node has no data
+	ErrFileNotFile       Status = C.KOMBILAD_FILE_NOT_FILE        // a folder, a link or metadata
+	ErrFileSizeCount     Status = C.KOMBILAD_FILE_SIZE_COUNT      // not one size for each link
+	ErrFileSize          Status = C.KOMBILAD_FILE_SIZE            // not the size of its parts
+	ErrFilePartSize      Status = C.KOMBILAD_FILE_PART_SIZE       // not the size in the node above
+	ErrFileTooLarge      Status = C.KOMBILAD_FILE_TOO_LARGE       // there are too many bytes
+	ErrFileTooManyBlocks Status = C.KOMBILAD_FILE_TOO_MANY_BLOCKS // there are too many blocks
+	ErrFileTooDeep       Status = C.KOMBILAD_FILE_TOO_DEEP        // the blocks nest too deeply
+	ErrFileTooManyParts  Status = C.KOMBILAD_FILE_TOO_MANY_PARTS  // too many blocks wait
+)
+
+// The data of a node are not a message of UnixFS.
+const (
+	ErrUnixFSEnd            Status = C.KOMBILAD_UNIXFS_END              // the data end too early
+	ErrUnixFSVarintTooLarge Status = C.KOMBILAD_UNIXFS_VARINT_TOO_LARGE // a varint is 2^64 or more
+	ErrUnixFSUnknownField   Status = C.KOMBILAD_UNIXFS_UNKNOWN_FIELD    // UnixFS has no such field
+	ErrUnixFSFieldOrder     Status = C.KOMBILAD_UNIXFS_FIELD_ORDER      // repeated or misplaced
+	ErrUnixFSNoType         Status = C.KOMBILAD_UNIXFS_NO_TYPE          // the type isn't first
+	ErrUnixFSUnknownType    Status = C.KOMBILAD_UNIXFS_UNKNOWN_TYPE     // UnixFS has no such type
+	ErrUnixFSModeTooLarge   Status = C.KOMBILAD_UNIXFS_MODE_TOO_LARGE   // a mode is 2^32 or more
+	ErrUnixFSNoSeconds      Status = C.KOMBILAD_UNIXFS_NO_SECONDS       // a time without seconds
+	ErrUnixFSNanoseconds    Status = C.KOMBILAD_UNIXFS_NANOSECONDS      // not from 1 to 999,999,999
+)
+
+// The block is not a folder or a part of one.
+const (
+	ErrFolderCodec        Status = C.KOMBILAD_FOLDER_CODEC         // the codec isn't DagPb
+	ErrFolderNotFolder    Status = C.KOMBILAD_FOLDER_NOT_FOLDER    // the node isn't a folder
+	ErrFolderHashFunction Status = C.KOMBILAD_FOLDER_HASH_FUNCTION // not murmur3-x64-64
+	ErrFolderFanout       Status = C.KOMBILAD_FOLDER_FANOUT        // a shard without 256 slots
+	ErrFolderInvalidName  Status = C.KOMBILAD_FOLDER_INVALID_NAME  // no entry can have the name
+	ErrFolderNameOrder    Status = C.KOMBILAD_FOLDER_NAME_ORDER    // names repeat or are unsorted
+	ErrFolderInvalidSlot  Status = C.KOMBILAD_FOLDER_INVALID_SLOT  // a name without its slot
+	ErrFolderSlotOrder    Status = C.KOMBILAD_FOLDER_SLOT_ORDER    // slots repeat or are unsorted
+	ErrFolderBitField     Status = C.KOMBILAD_FOLDER_BIT_FIELD     // not the bits of the slots
+	ErrFolderNotShard     Status = C.KOMBILAD_FOLDER_NOT_SHARD     // a shard has a plain folder
+	ErrFolderWrongSlot    Status = C.KOMBILAD_FOLDER_WRONG_SLOT    // not the slot of the name's hash
+	ErrFolderTooDeep      Status = C.KOMBILAD_FOLDER_TOO_DEEP      // more than eight levels of shards
+)
+
 // The text is not DAG-JSON, or a map of the block has none.
 const (
 	ErrJSONUTF8         Status = C.KOMBILAD_JSON_UTF8          // the text is not UTF-8
@@ -108,7 +151,8 @@ const (
 	ErrDuplicateKey Status = C.KOMBILAD_TAPE_DUPLICATE_KEY // a map has a key twice
 )
 
-// A Go type and a block don't fit. Only this package has these reasons, and not the C library.
+// A Go type and a block don't fit, or a BlockGetter fails. Only this package has these reasons, and
+// not the C library.
 const (
 	ErrType            Status = 1<<16 + iota // the value has another type
 	ErrRange                                 // a number is out of range
@@ -119,6 +163,9 @@ const (
 	ErrNotPointer                            // Unmarshal needs a pointer that isn't nil
 	ErrUnknownCodec                          // BlockLinks doesn't know the codec
 	ErrCustom                                // a Marshaler or an Unmarshaler failed
+	ErrMissingBlock                          // a BlockGetter doesn't have the block
+	ErrBlockGetter                           // a BlockGetter failed
+	ErrInUse                                 // a BlockGetter used the reader that waits for it
 )
 
 // sentences are the sentences of the reasons that only this package has.
@@ -132,6 +179,9 @@ var sentences = map[Status]string{
 	ErrNotPointer:      "Unmarshal needs a pointer that is not nil",
 	ErrUnknownCodec:    "unknown codec: only DAG-CBOR, DAG-PB and raw are known",
 	ErrCustom:          "the type reports an error",
+	ErrMissingBlock:    "the block is missing",
+	ErrBlockGetter:     "the block cannot be read",
+	ErrInUse:           "a BlockGetter used the reader that waits for it",
 }
 
 // Error returns the reason as a sentence without a place.

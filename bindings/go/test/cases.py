@@ -1,6 +1,6 @@
 #!/usr/bin/env python3
-"""Writes random blocks, CIDs, nodes of DAG-PB, CARs and digests for cases_test.go, with the results
-of readers that share nothing with the library.
+"""Writes random blocks, CIDs, nodes of DAG-PB, CARs, digests and trees of UnixFS for cases_test.go,
+with the results of readers that share nothing with the library.
 
 usage: cases.py FILE [COUNT [SEED]]
 
@@ -16,7 +16,7 @@ import types
 
 TOP = pathlib.Path(__file__).resolve().parent.parent.parent
 sys.dont_write_bytecode = True
-sys.path.insert(0, str(TOP / "test"))
+sys.path[:0] = [str(TOP / "test"), str(TOP.parent)]
 
 # The tests of the Python package make the random input. They are imported without the package.
 _package = types.ModuleType("kombilad")
@@ -30,9 +30,57 @@ import car_cases  # noqa: E402
 import random_blocks  # noqa: E402
 import random_pb  # noqa: E402
 import reader  # noqa: E402
+from tests.ipld import formats  # noqa: E402
+from tests.ipld.bad_unixfs import BAD_FILES, BAD_FOLDERS, SHORT, A, B, file_node  # noqa: E402
+from tests.ipld.random_unixfs import Source as Trees  # noqa: E402
+from tests.ipld.unixfs import (  # noqa: E402
+    FANOUT,
+    FILE,
+    METADATA,
+    MURMUR3,
+    RAW_DATA,
+    SHARD,
+    Node,
+    Profile,
+    blocks_of,
+    data_message,
+    file_of,
+    folder,
+    node,
+    raw_leaf,
+    shard,
+    symlink,
+)
+from tests.ipld.unixfs_reader import Fault, Reader  # noqa: E402
 
 # The greatest int of Go.
 NO_LIMIT = 2**63 - 1
+
+# The statuses of the faults that the reader of files and folders finds. Some nodes have two faults.
+STATUSES = {
+    "BitField": ["FOLDER_BIT_FIELD"],
+    "End": ["UNIXFS_END"],
+    "FieldOrder": ["UNIXFS_FIELD_ORDER", "UNIXFS_NO_TYPE"],
+    "Filesize": ["FILE_SIZE"],
+    "InvalidName": ["FOLDER_INVALID_NAME"],
+    "Mode": ["UNIXFS_MODE_TOO_LARGE"],
+    "NameOrder": ["FOLDER_NAME_ORDER"],
+    "NoData": ["FILE_NO_DATA"],
+    "NotAFile": ["FILE_NOT_FILE"],
+    "NotAFolder": ["FOLDER_NOT_FOLDER"],
+    "NotAShard": ["FOLDER_NOT_SHARD", "FOLDER_NOT_FOLDER"],
+    "ShardKind": ["FOLDER_HASH_FUNCTION", "FOLDER_FANOUT"],
+    "Size": ["FILE_TOO_LARGE"],
+    "SizeCount": ["FILE_SIZE_COUNT"],
+    "Slot": ["FOLDER_INVALID_SLOT", "FOLDER_SLOT_ORDER"],
+    "Time": ["UNIXFS_NO_SECONDS", "UNIXFS_NANOSECONDS"],
+    "Type": ["UNIXFS_NO_TYPE", "UNIXFS_UNKNOWN_TYPE"],
+    "UnknownField": ["UNIXFS_UNKNOWN_FIELD"],
+    "Utf8": ["PB_UTF8"],
+    "Varint": ["UNIXFS_VARINT_TOO_LARGE"],
+    "WrongSize": ["FILE_PART_SIZE"],
+    "WrongSlot": ["FOLDER_WRONG_SLOT", "FOLDER_BIT_FIELD"],
+}
 
 
 def value_text(data, tape, at):
@@ -150,10 +198,110 @@ def digest_case(source):
     return {**case, **failed("WRONG_DIGEST", None)}
 
 
+def tree(blocks, cid, path="."):
+    """Yields what the reader finds at a path, and below it."""
+    row = {"path": path, "cid": cid.hex(), "kind": "other"}
+    try:
+        row["kind"], found = blocks.kind(cid)
+    except Fault:  # another codec, or metadata
+        yield row
+        return
+    if formats.split_varint(cid[1:])[0] != formats.RAW:
+        _, message = blocks.node(cid)
+        row["mode"], row["time"] = message.mode, message.mtime
+    if row["kind"] == "link":
+        row["target"] = found.hex()
+    elif row["kind"] == "file":
+        row["content"] = blocks.file(cid).hex()
+        row["edges"] = sorted({offset for _, offset, _ in blocks.parts(cid)})
+    else:
+        entries = {name.decode(): it for name, it in blocks.entries(cid)}
+        row["names"] = sorted(entries, key=str.encode)
+    yield row
+    for name, it in blocks.entries(cid) if row["kind"] == "folder" else ():
+        below = name.decode() if path == "." else f"{path}/{name.decode()}"
+        yield from tree(blocks, it, below)
+
+
+def tree_case(root, name=None):
+    blocks = blocks_of(root)
+    return {
+        "case": "tree",
+        "name": name,
+        "input": root.cid.hex(),
+        "blocks": [[cid.hex(), data.hex()] for cid, data in blocks],
+        "tree": list(tree(Reader(dict(blocks)), root.cid)),
+    }
+
+
+def named_trees(choose):
+    """Yields the folders that tests of one kind of thing read, with their names."""
+    content = choose.randbytes(3_001)
+    small = {b"%d.txt" % at: raw_leaf(b"%d" % at) for at in range(100)}
+    entries = {
+        b"empty": raw_leaf(b""),
+        b"empty folder": folder({}),
+        b"hello.txt": file_of(b"hello\n", mode=0o640, mtime=(1_700_000_000, 5)),
+        b"leaves": file_of(content, Profile(1, True, 100, 5)),
+        b"nodes": file_of(content, Profile(0, False, 200, 3)),
+        b"shards": shard({**small, b"below": folder(small, mode=0o700)}, 1),
+        "\u00fcber".encode(): folder({b"same": raw_leaf(b"0")}, 1, mtime=(-1, 999_999_999)),
+    }
+    yield "plain", folder(entries, mode=0o755)
+    yield "sharded", shard({**small, **entries}, mode=0o711)
+    yield "large", shard({b"%d" % at: raw_leaf(b"%d" % at) for at in range(5_000)})
+    inside = formats.block(formats.RAW, b"inside", formats.IDENTITY)
+    other = formats.dag_cbor([])
+    entries[b"inside"] = Node(inside, 6, 6, ())
+    entries[b"link"] = symlink(b"../\xff")
+    entries[b"metadata"] = node(0, data_message(METADATA))
+    entries[b"other"] = Node(other, None, 1, ())
+    # Their nodes have no size.
+    entries[b"unsized"] = file_node([A, B, A], [2, 3, 2], b"unsized")
+    entries[b"unsized leaf"] = node(0, data_message(RAW_DATA, b"some bytes"))
+    entries[b"unsized and empty"] = node(0, data_message(FILE))
+    yield "mixed", folder(entries)
+
+
+def fault_cases():
+    """Yields files and folders that are not valid, with the fault."""
+    names = [b"%d" % at for at in range(400)]
+    whole = shard({name: A for name in names}, 1)
+    label, below = next(link for link in whole.links if len(link[0]) == 2)
+    field = (1 << int(label, 16)).to_bytes(int(label, 16) // 8 + 1, "big")
+    message = data_message(SHARD, field, hash_type=MURMUR3, fanout=FANOUT)
+    others = [folder({b"a": A}), symlink(b"x"), file_of(b""), shard({b"other": A}, 1)]
+    bad = [("folder", root) for _, root in BAD_FOLDERS]
+    bad += [("folder", node(1, message, [(label, it)])) for it in others if it is not below]
+    bad += [("file", root) for root in [*(root for _, root in BAD_FILES), SHORT]]
+    for what, root in bad:
+        blocks = blocks_of(root)
+        read = Reader(dict(blocks))
+        try:
+            read.entries(root.cid) if what == "folder" else read.file(root.cid)
+        except Fault as fault:
+            yield {
+                "case": "fault",
+                "input": root.cid.hex(),
+                "blocks": [[cid.hex(), data.hex()] for cid, data in blocks],
+                "cid": fault.cid.hex(),
+                "kind": what,
+                "errors": STATUSES[fault.kind],
+            }
+        else:
+            raise AssertionError(root)
+
+
 def cases(count, seed):
     """Yields the cases."""
     source, nodes = random_blocks.Source(seed), random_pb.PbSource(seed)
+    trees = Trees(seed)
+    for name, root in named_trees(source.random):
+        yield tree_case(root, name)
+    yield from fault_cases()
     for number in range(count):
+        if number % 10 == 0:
+            yield tree_case(trees.folder().node)
         source.floats = 0.3 if number % 3 == 0 else 0.0
         block, node, car = source.block(number % 4), nodes.node(), car_cases.made(source)
         if number % 5 > 1:
