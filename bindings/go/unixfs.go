@@ -74,8 +74,8 @@ type NodeKind uint32
 // Node has the fields of a file, a folder or a symbolic link in its block.
 type Node struct {
 	Kind NodeKind
-	// Size is the number of bytes of the file, if the node has it. Only a [FileReader] compares it
-	// with the file.
+	// Size is the number of bytes of a file, by its block, if it is less than 2^64. Only a
+	// [FileReader] compares it with the file.
 	Size    uint64
 	HasSize bool
 	// Mode has the permissions as chmod has them, in its low twelve bits, if the node has them.

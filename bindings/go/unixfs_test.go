@@ -762,7 +762,8 @@ func TestNodes(t *testing.T) {
 		Kind: NodeFile, Size: 6, HasSize: true, Mode: 0o640, HasMode: true,
 		ModTime: time.Unix(1_700_000_000, 5).UTC(), HasModTime: true,
 	})
-	same(t, "no size", []Node{node("unsized"), node("unsized leaf")}, []Node{{Kind: NodeFile}, {Kind: NodeRaw}})
+	same(t, "7 bytes, and 7 below the links", node("unsized"), Node{Kind: NodeFile, Size: 14, HasSize: true})
+	same(t, "10 bytes", node("unsized leaf"), Node{Kind: NodeRaw, Size: 10, HasSize: true})
 	same(t, "link", node("link"), Node{Kind: NodeSymlink, Target: "../\xff"})
 	same(t, "shard", node("shards"), Node{Kind: NodeShard})
 	same(t, "folder", node("shards/below"), Node{Kind: NodeFolder, Mode: 0o700, HasMode: true})
