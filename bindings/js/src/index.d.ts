@@ -344,7 +344,10 @@ export function resolvePath(get: GetBlock, cid: CID, path: string): Promise<CID>
 export interface UnixFSNode {
   /** For the root of a sharded folder, and for each other part of it, the kind is `shard`. */
   kind: 'raw' | 'file' | 'folder' | 'shard' | 'symlink' | 'metadata'
-  /** The number of bytes of the file, with which `readFile` compares it. */
+  /**
+   * The number of bytes of a file, by the block, with which `readFile` compares it. It is undefined
+   * for other kinds, and if it is 2^64 or more.
+   */
   size: number | bigint | undefined
   /** The permissions, in the low twelve bits. */
   mode: number | undefined
