@@ -143,7 +143,8 @@ module() {
 failing="test/failing.c -Wl,--wrap=malloc,--wrap=realloc"
 sanitizers="-g -O1 -fsanitize=address,undefined -fno-sanitize-recover=all"
 renamed=
-for name in kombilad_tape kombilad_block_check kombilad_block_check_canonical kombilad_verify; do renamed="$renamed --redefine-sym $name=real_$name"; done
+for name in kombilad_tape kombilad_block_check kombilad_block_check_canonical kombilad_verify kombilad_file_take kombilad_folder_take \
+    kombilad_folder_lookup kombilad_unixfs_node; do renamed="$renamed --redefine-sym $name=real_$name"; done
 # shellcheck disable=SC2086
 objcopy $renamed "$library" "$tests/renamed.o"
 module lock -O1 -D_POSIX_C_SOURCE=200809L test/lock.c "$tests/renamed.o" -pthread

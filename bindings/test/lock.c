@@ -65,3 +65,20 @@ WATCHED(kombilad_block_check_canonical,
         (block, len, levels, values, offset))
 WATCHED(kombilad_verify, (const uint8_t *cid, size_t cid_len, const uint8_t *block, size_t len),
         (cid, cid_len, block, len))
+WATCHED(kombilad_file_take,
+        (kombilad_walk *walk, const uint8_t *block, size_t len, uint8_t *bytes, size_t bytes_len,
+         size_t *needed, size_t *offset),
+        (walk, block, len, bytes, bytes_len, needed, offset))
+WATCHED(kombilad_folder_take,
+        (kombilad_walk *walk, const uint8_t *block, size_t len, kombilad_folder_entry *entries,
+         size_t entries_len, uint8_t *names, size_t names_len, size_t *needed, size_t *place),
+        (walk, block, len, entries, entries_len, names, names_len, needed, place))
+WATCHED(kombilad_folder_lookup,
+        (const uint8_t *folder, size_t folder_len, const uint8_t *name, size_t name_len,
+         const uint8_t *bytes, size_t bytes_len, const kombilad_span *blocks, size_t blocks_len,
+         kombilad_cid *cid, size_t *place),
+        (folder, folder_len, name, name_len, bytes, bytes_len, blocks, blocks_len, cid, place))
+WATCHED(kombilad_unixfs_node,
+        (const uint8_t *cid, size_t cid_len, const uint8_t *block, size_t len, kombilad_node *node,
+         uint8_t *target, size_t target_len, size_t *needed, size_t *place),
+        (cid, cid_len, block, len, node, target, target_len, needed, place))

@@ -38,10 +38,21 @@ def calls(work, threads=0):
     return seen
 
 
+def framed(content):
+    """Returns these bytes after their number, as a varint of three bytes."""
+    count = len(content)
+    return bytes([count & 127 | 128, count >> 7 & 127 | 128, count >> 14]) + content
+
+
 def car_of(block):
     section = bytes(Cid.of_block(block)) + block
-    length = bytes([len(section) & 127 | 128, len(section) >> 7 & 127 | 128, len(section) >> 14])
-    return bytes.fromhex("19a265726f6f747381d82a4500015500006776657273696f6e01") + length + section
+    return bytes.fromhex("19a265726f6f747381d82a4500015500006776657273696f6e01") + framed(section)
+
+
+def folder_of(name):
+    """Returns the block of a folder with one entry, which is 18 bytes longer than its name."""
+    link = bytes.fromhex("0a040155000012") + framed(name.encode())
+    return b"\x12" + framed(link) + bytes.fromhex("0a020801")
 
 
 class Lock(unittest.TestCase):
@@ -81,6 +92,28 @@ class Lock(unittest.TestCase):
                 calls(lambda: (kombilad.check(block), kombilad.is_canonical(block))),
                 (without, with_lock),
             )
+
+    def test_files_and_folders(self):
+        for kind, size, without, with_lock in (
+            (bytes, 65_535, 0, 1),
+            (bytes, 65_536, 1, 0),
+            (bytearray, 65_536, 0, 1),
+        ):
+            name = "n" * (size - 18)
+            leaf, folder = kind(size), kind(folder_of(name))
+            self.assertEqual(len(folder), size)
+            cid, root = Cid.of_block(leaf, kombilad.RAW), Cid.of_block(folder, kombilad.DAG_PB)
+            get = {cid: leaf, root: folder}.get
+            for work in (
+                lambda: list(kombilad.read_file(get, cid)),
+                lambda: list(kombilad.list_folder(get, root)),
+                lambda: kombilad.read_node(cid, leaf),
+            ):
+                self.assertEqual(calls(work), (without, with_lock))
+            # The first call has no blocks. The second has copies, which nobody can change.
+            released = int(size >= 65_536)
+            found = calls(lambda: kombilad.resolve(get, root, name))
+            self.assertEqual(found, (released, 2 - released))
 
     def test_two_threads_are_in_the_library_at_once(self):
         for work in (
