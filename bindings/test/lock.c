@@ -66,11 +66,11 @@ WATCHED(kombilad_block_check_canonical,
 WATCHED(kombilad_verify, (const uint8_t *cid, size_t cid_len, const uint8_t *block, size_t len),
         (cid, cid_len, block, len))
 WATCHED(kombilad_file_take,
-        (kombilad_walk *walk, const uint8_t *block, size_t len, uint8_t *bytes, size_t bytes_len,
+        (kombilad_walk * walk, const uint8_t *block, size_t len, uint8_t *bytes, size_t bytes_len,
          size_t *needed, size_t *offset),
         (walk, block, len, bytes, bytes_len, needed, offset))
 WATCHED(kombilad_folder_take,
-        (kombilad_walk *walk, const uint8_t *block, size_t len, kombilad_folder_entry *entries,
+        (kombilad_walk * walk, const uint8_t *block, size_t len, kombilad_folder_entry *entries,
          size_t entries_len, uint8_t *names, size_t names_len, size_t *needed, size_t *place),
         (walk, block, len, entries, entries_len, names, names_len, needed, place))
 WATCHED(kombilad_folder_lookup,

@@ -11,6 +11,7 @@ const LATER = 150 // the number of milliseconds after which DAG-JSON follows the
 const LONGEST_HEX = 1 << 20 // the maximum number of bytes that are copied as hexadecimal digits
 const CODECS = { 0x71: 'DAG-CBOR', 0x0129: 'DAG-JSON', 0x70: 'DAG-PB', 0x55: 'raw' }
 const EXTENSIONS = { ...CODECS, 0x71: 'cbor', 0x0129: 'json', 0x70: 'pb', 0x55: 'bin' }
+const NODES = { raw: 'File', file: 'File', folder: 'Folder', shard: 'Sharded folder', symlink: 'Symbolic link', metadata: 'Metadata' }
 const element = (id) => document.getElementById(id)
 const number = new Intl.NumberFormat('en')
 const worker = new Worker(new URL('./worker.js', import.meta.url), { type: 'module' })
@@ -162,7 +163,7 @@ function enter (isNew, name, more) {
 function restore () {
   const { session: from, file } = history.state ?? {}
   if (from === session && file !== current && files.has(file)) return read(file)
-  if (fragment()) ask({ type: 'find', text: fragment(), view: { entry: 'kept', mark: history.state?.mark } })
+  if (fragment()) ask({ type: 'find', text: fragment(), view: { entry: 'kept', mark: history.state?.mark, as: history.state?.as } })
   else showSummary()
 }
 
@@ -197,7 +198,7 @@ function open (file, handle) {
   current = files.size + 1
   files.set(current, { file })
   // A link names the block to show in the first file.
-  if (isFirst) enter(false, location.hash.slice(1), { mark: history.state?.mark })
+  if (isFirst) enter(false, location.hash.slice(1), { mark: history.state?.mark, as: history.state?.as })
   else enter(true, '', { depth: 0 })
   read(current)
 }
@@ -354,24 +355,25 @@ const WHICH = {
  * Creates a link that opens a block, or shows the parts of the CID if the file doesn't have its
  * block.
  */
-function linkTo ({ text, index, mark }) {
-  const button = make('button', { type: 'button', className: 'link', textContent: text })
+function linkTo ({ text, index, mark, as }) {
+  const button = make('button', { type: 'button', className: 'link', textContent: as ?? text })
   if (index === undefined) {
     button.title = 'Its block is not in the file'
     button.addEventListener('click', () => askParts(text, button))
   } else {
-    button.addEventListener('click', () => visit(index, mark, button))
+    button.addEventListener('click', () => visit(index, { mark, as }, button))
   }
   return button
 }
 
 /**
- * Opens a block, with a new entry of the history. `mark` is the offset and length of a hit. `by` is
- * the element that opens it. Browsers don't focus each button that is clicked.
+ * Opens a block, with a new entry of the history. `mark` is the offset and length of a hit, and `as`
+ * the name that a folder has for the block. `by` is the element that opens it. Browsers don't focus
+ * each button that is clicked.
  */
-function visit (index, mark, by = document.activeElement) {
+function visit (index, { mark, as } = {}, by = document.activeElement) {
   if (!shown) opener = by
-  ask({ type: 'block', index, view: { entry: 'new', mark } })
+  ask({ type: 'block', index, view: { entry: 'new', mark, as } })
 }
 
 /** The element that asked for the parts of a CID, which gets the focus when these are closed. */
@@ -469,7 +471,7 @@ function showBlock (block) {
   const { view = {}, bytes, cid } = block
   shown = { ...block, length: bytes.length, path: [], range: () => [], marked: view.mark ?? [0, 0] }
   const name = block.isFirst ? cid.text : `${cid.text}@${block.offset}`
-  enter(view.entry === 'new', name, { mark: view.mark })
+  enter(view.entry === 'new', name, { mark: view.mark, as: view.as })
   entitle()
   show('block', true)
   show('cid', false)
@@ -502,6 +504,7 @@ function showBlock (block) {
   show('no-tree', block.tape === undefined)
   element('no-tree').textContent = block.tape ? '' : block.error ? 'No values: the block is rejected.' : block.hasValues ? 'The block has more values than can be shown here.' : 'Blocks of this codec have no values here.'
   showParts(element('block-parts'), cid)
+  showNode(block.node, view.as)
   for (const id of ['json-said', 'json-text']) element(id).replaceChildren()
   element('block-title').textContent = `Block of codec ${cid.codec}`
   show('json', block.hasJson && !block.error)
@@ -519,6 +522,97 @@ function showBlock (block) {
 }
 
 element('back').addEventListener('click', () => history.back())
+
+// ---- Files and folders
+
+/** The address of the picture that is shown. */
+let picture
+
+function showPicture (blob) {
+  if (picture) URL.revokeObjectURL(picture)
+  picture = blob && URL.createObjectURL(blob)
+  show('picture', blob !== undefined)
+  if (picture) element('picture').src = picture
+  else element('picture').removeAttribute('src')
+}
+
+function showText (text) {
+  const pre = element('file-text')
+  pre.textContent = text ?? ''
+  pre.scrollTop = 0
+  show('file-text', text !== undefined)
+}
+
+const sayOfNode = (...parts) => element('node-said').replaceChildren(...parts)
+const sayNodeError = ({ code, message }) => sayOfNode(make('span', { className: 'wrong', textContent: `${code}: ${message}.` }))
+
+/** Returns a time as a text. */
+function timeOf ({ seconds, nanoseconds }) {
+  const time = new Date(Number(seconds) * 1000 + Math.floor(nanoseconds / 1e6))
+  return Number.isNaN(time.getTime()) ? `${number.format(seconds)} seconds after 1970 began` : time.toISOString()
+}
+
+/** Shows what a block says of a file, a folder or a symbolic link with this name. */
+function showNode (node, name) {
+  show('node', node !== undefined)
+  showPicture()
+  showText()
+  sayOfNode()
+  element('entries').replaceChildren()
+  if (node === undefined) return
+  const { kind, size, mode, mtime, target, error } = node
+  const isFile = kind === 'file' || kind === 'raw'
+  element('node-title').replaceChildren(error ? 'No file or folder' : NODES[kind], ...name === undefined ? [] : [' ', make('bdi', { textContent: name })])
+  definition(element('node-facts'), [
+    ['size', size === undefined ? undefined : `${number.format(size)} bytes`],
+    ['permissions', mode?.toString(8).padStart(4, '0')],
+    ['changed', mtime && timeOf(mtime)],
+    ['leads to', target && make('bdi', { textContent: new TextDecoder().decode(target) })]
+  ].filter(([, content]) => content !== undefined))
+  for (const id of ['show-file', 'save-file']) show(id, isFile)
+  if (error) sayNodeError(error)
+  if (kind === 'folder' || kind === 'shard') showEntries()
+}
+
+async function showEntries () {
+  const of = shown
+  sayOfNode('Reading the entries.')
+  const { entries, isPart, error } = await request({ type: 'entries', index: of.index })
+  if (shown !== of) return
+  const count = number.format(entries.length)
+  sayOfNode(isPart ? `The first ${count} entries.` : `${count} ${entries.length === 1 ? 'entry' : 'entries'}.`)
+  if (error) element('node-said').append(make('span', { className: 'wrong', textContent: ` ${error.code}: ${error.message}.` }))
+  element('entries').replaceChildren(...entries.map(({ name, tsize, text, index }) => {
+    const line = make('li', {}, make('bdi', {}, linkTo({ text, index, as: name })))
+    line.append(make('span', { className: 'faint', textContent: index === undefined ? 'not in the file' : tsize === undefined ? '' : `${number.format(tsize)} bytes with all blocks` }))
+    return line
+  }))
+}
+
+element('show-file').addEventListener('click', async () => {
+  const of = shown
+  sayOfNode('Reading the file.')
+  const { blob, text, isPart, isTooLong, error } = await request({ type: 'shown-file', index: of.index })
+  if (shown !== of) return
+  if (error) return sayNodeError(error)
+  sayOfNode(blob ? '' : text === undefined ? isTooLong ? 'The picture is too long to show. You can save it.' : 'It is neither a picture nor a text that can be shown. You can save it.' : isPart ? 'The beginning of the text.' : '')
+  element('picture').alt = of.view?.as ?? 'The picture in the file'
+  showPicture(blob)
+  showText(text)
+})
+element('picture').addEventListener('error', () => {
+  // A picture that was taken away has no address.
+  if (!picture) return
+  showPicture()
+  sayOfNode('The browser can\'t show this picture. You can save it.')
+})
+element('save-file').addEventListener('click', async () => {
+  const of = shown
+  sayOfNode('Reading the file.')
+  const { blob, error } = await request({ type: 'whole-file', index: of.index })
+  if (shown === of) error ? sayNodeError(error) : sayOfNode()
+  if (blob) saveAs(blob, of.view?.as ?? `${of.cid.text}.bin`)
+})
 
 // ---- The answers of the worker
 
@@ -574,7 +668,7 @@ const answers = {
     element('graph-said').textContent = `${isPart ? `The ${nodes.length} blocks nearest to ${from}` : `What links lead to from ${from}`}: a column for each step. Arrow keys go along the links; Enter opens a block.`
     showGraph(element('drawing'), { nodes, edges }, (node) => node.index === undefined ? askParts(node.text) : visit(node.index))
   },
-  'block-file' ({ name, size, code, isOther, view = { entry: 'kept', mark: history.state?.mark } }) {
+  'block-file' ({ name, size, code, isOther, view = { entry: 'kept', mark: history.state?.mark, as: history.state?.as } }) {
     show('reading', false)
     show('choice', false)
     say(isOther ? `${name} is read. It is not the block ${fragment()}.` : `${name} is read.`)

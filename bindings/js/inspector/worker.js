@@ -1,6 +1,6 @@
 // Reads the file in a worker thread: its sections, their digests and links, and the links without a
 // block in the file.
-import { CID, CarBlockIterator, KombiladError, bases, dagPb, encode, fromJSON, isCanonical, links, tape, toJSON, verify } from './index.js'
+import { CID, CarBlockIterator, KombiladError, bases, dagPb, encode, fromJSON, isCanonical, links, listFolder, readFile, readNode, tape, toJSON, verify } from './index.js'
 import { keyOf } from './cid.js'
 import { pbTape } from './pb.js'
 import { CHUNK, patternOf, snippetOf, stringOf } from './search.js'
@@ -19,7 +19,10 @@ const DRAWN = 60 // the maximum number of blocks in the graph
 const HITS = 1000 // the maximum number of hits of a search
 const SHORTEST_CID = 4 // the minimum number of letters that are looked for in the strings of CIDs
 const CIDS = 20000 // the number of CIDs that are searched or written at once
-const SHOWN = 65536 // the maximum number of characters of DAG-JSON that the page shows
+const SHOWN = 65536 // the maximum number of characters of DAG-JSON, or of bytes of a text, that the page shows
+const ENTRIES = 1000 // the maximum number of entries of a folder that the page shows
+const LONGEST_PICTURE = 32 << 20
+const PIECE = 8 << 20 // the minimum number of bytes of a file that are passed to the browser at once
 
 /** The state of the open file. */
 let open = { turn: 0 }
@@ -358,6 +361,7 @@ async function blockOf (index, view) {
     }
     if (answer.tape) answer.links = linksOf(code, bytes).map(linkOf)
     answer.hasValues = code !== RAW && answer.hasJson
+    if (code === DAG_PB || code === RAW) answer.node = nodeOf(cid, bytes)
   } catch (error) {
     if (!isOfPackage(error)) throw error
     answer.tape = undefined
@@ -433,6 +437,91 @@ async function cidsOf (which) {
 /** Lets the worker answer other messages. */
 const pause = () => new Promise((resolve) => setTimeout(resolve))
 
+// ---- Files and folders
+
+/** Returns what a block says of a file, a folder or a symbolic link, or the error of one that is none. */
+function nodeOf (cid, bytes) {
+  try {
+    return readNode(cid, bytes)
+  } catch (error) {
+    if (!isOfPackage(error)) throw error
+    return { error: told(error) }
+  }
+}
+
+/** Returns a function that returns the block of a CID in the file, or undefined if it has none. */
+const blocksOf = (found) => (cid) => {
+  const index = found.index.get(keyOf(cid))
+  return index === undefined ? undefined : bytesOf(found, index)
+}
+
+/** Returns the first ENTRIES entries of a folder, and the error of a block that ends them. */
+async function entriesOf (found, index) {
+  const entries = []
+  try {
+    for await (const { name, cid, tsize } of listFolder(blocksOf(found), found.cids[index])) {
+      if (entries.length === ENTRIES) return { entries, isPart: true }
+      entries.push({ name, tsize, ...linkOf(cid) })
+    }
+    return { entries }
+  } catch (error) {
+    if (!isOfPackage(error)) throw error
+    return { entries, error: told(error) }
+  }
+}
+
+/** The beginnings of pictures that browsers show. In RIFF a length precedes the second part. */
+const PICTURES = [['image/png', /^\x89PNG\r\n/], ['image/jpeg', /^\xff\xd8\xff/], ['image/gif', /^GIF8[79]a/], ['image/webp', /^RIFF[^]{4}WEBP/]]
+const LONGEST_BEGINNING = 12
+
+/** Returns the type of a picture, or undefined if the bytes aren't the beginning of one. */
+const pictureOf = (bytes) => PICTURES.find(([, beginning]) => beginning.test(String.fromCharCode(...bytes.subarray(0, LONGEST_BEGINNING))))?.[0]
+
+const joined = (parts) => new Blob(parts).arrayBuffer().then((buffer) => new Uint8Array(buffer))
+
+/** Returns a file as a picture, or the beginning of its text, or neither if it is of another kind. */
+async function shownFile (found, index) {
+  let parts = []
+  let length = 0
+  let type
+  let isPart = false
+  for await (const part of readFile(blocksOf(found), found.cids[index])) {
+    parts.push(part)
+    length += part.length
+    if (type === undefined && length >= LONGEST_BEGINNING) {
+      parts = [await joined(parts)]
+      type = pictureOf(parts[0]) ?? ''
+    }
+    isPart = length > (type ? LONGEST_PICTURE : SHOWN)
+    if (isPart) break
+  }
+  if (type) return isPart ? { isTooLong: true } : { blob: new Blob(parts, { type }) }
+  const bytes = (await joined(parts)).subarray(0, SHOWN)
+  try {
+    const text = new TextDecoder('utf-8', { fatal: true }).decode(bytes, { stream: isPart })
+    return text.includes('\0') ? {} : { text, isPart }
+  } catch {
+    return {}
+  }
+}
+
+/** Returns a file as a Blob. The browser may keep its pieces on the disk. */
+async function wholeFile (found, index) {
+  const pieces = []
+  let parts = []
+  let length = 0
+  for await (const part of readFile(blocksOf(found), found.cids[index])) {
+    if (open !== found) return {}
+    parts.push(part)
+    length += part.length
+    if (length < PIECE) continue
+    pieces.push(new Blob(parts))
+    parts = []
+    length = 0
+  }
+  return { blob: new Blob([...pieces, ...parts]) }
+}
+
 // ---- Search
 
 /** Returns the index of the block that contains these bytes of the file, or undefined. */
@@ -494,6 +583,9 @@ const works = {
   search: ({ text, number }) => search(open, text, number),
   stop: () => { open.search = undefined },
   json: async ({ id, index, range, isWhole }) => postMessage({ type: 'reply', id, ...await jsonOf(index, range, isWhole) }),
+  entries: async ({ id, index }) => postMessage({ type: 'reply', id, ...await entriesOf(open, index) }),
+  'shown-file': async ({ id, index }) => postMessage({ type: 'reply', id, ...await shownFile(open, index) }),
+  'whole-file': async ({ id, index }) => postMessage({ type: 'reply', id, ...await wholeFile(open, index) }),
   cids: async ({ id, which }) => postMessage({ type: 'reply', id, ...await cidsOf(which) })
 }
 

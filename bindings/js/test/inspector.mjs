@@ -42,6 +42,19 @@ const node = Buffer.concat([
   field(2, field(1, cidOf(0x55, gone))), field(1, Buffer.from([8, 1]))
 ])
 const directory = Buffer.concat([header(cidOf(0x70, node)), ...[[0x70, node], [0x55, leaf], [0x70, Buffer.from([0x0a])]].map(([codec, bytes]) => framed(cidOf(codec, bytes), bytes))])
+// A folder of UnixFS with a text, a picture of two blocks, a link, other bytes, and a file of which a
+// block is missing.
+const png = Buffer.from('iVBORw0KGgoAAAANSUhEUgAAAAEAAAABCAYAAAAfFcSJAAAADUlEQVR42mNk+M9QDwADhgGAWjR9awAAAABJRU5ErkJggg==', 'base64')
+const halves = [png.subarray(0, 30), png.subarray(30)]
+const other = Buffer.from([0, 1, 2, 255])
+const linkTo = (cid, name = '') => field(2, Buffer.concat([field(1, cid), field(2, Buffer.from(name))]))
+const fileOf = (parts, more = []) => Buffer.concat([...parts.map((it) => linkTo(cidOf(0x55, it))), field(1, Buffer.from([8, 2, 0x18, parts.reduce((sum, { length }) => sum + length, 0), ...parts.flatMap(({ length }) => [0x20, length]), ...more]))])
+const photoNode = fileOf(halves, [0x38, 0xa0, 3, 0x42, 2, 8, 1])
+const cutNode = fileOf([leaf, gone])
+const symlinkNode = field(1, Buffer.from([8, 4, 0x12, 9, ...Buffer.from('photo.png')]))
+const members = [['cut.txt', 0x70, cutNode], ['hello.txt', 0x55, leaf], ['link', 0x70, symlinkNode], ['other', 0x55, other], ['photo.png', 0x70, photoNode]]
+const folderNode = Buffer.concat([...members.map(([name, codec, bytes]) => linkTo(cidOf(codec, bytes), name)), field(1, Buffer.from([8, 1]))])
+const unixfs = Buffer.concat([header(cidOf(0x70, folderNode)), ...[[0x70, folderNode], ...members.map(([, codec, bytes]) => [codec, bytes]), ...halves.map((bytes) => [0x55, bytes])].map(([codec, bytes]) => framed(cidOf(codec, bytes), bytes))])
 const HTML = '<img src=x onerror=alert(1)>'
 const long = 'a name that is longer than a line of a narrow window, without a place to break '.replaceAll(' ', '_').repeat(3)
 const write = (name, bytes) => {
@@ -54,6 +67,7 @@ const files = {
   block: write('post.cbor', sorted),
   wrong: write('wrong.cbor', Buffer.concat([Buffer.from([0x98, 100]), Buffer.concat(Array.from({ length: 100 }, (_, at) => Buffer.from([0x18, at < 90 ? 100 : at === 90 ? 5 : 100])))])),
   directory: write('directory.car', directory),
+  unixfs: write('unixfs.car', unixfs),
   roots: write(`${long.slice(0, 200)}.car`, Buffer.concat([header(...Array.from({ length: 500 }, (_, at) => cidOf(0x55, Buffer.from(String(at))))), framed(cidOf(0x71, map([long, text(long)])), map([long, text(long)]))])),
   integers: write('integers.cbor', Buffer.concat([Buffer.from([0x9a, 0, 0x0f, 0x42, 0x40]), Buffer.alloc(1e6, 7)])),
   photo: write('photo.jpg', Buffer.from('ffd8ffe000104a46494600010100000100010000ffd9', 'hex')),
@@ -218,6 +232,60 @@ try {
   assert.equal(await page.value("document.getElementById('tree').hidden"), true)
   await page.value("document.querySelector('#list li:last-child .link').click()")
   await page.until("document.getElementById('error').innerText.includes('PB_END')")
+
+  // Files and folders: each entry leads to its block, and what is shown of a file is verified.
+  const narrow = (width) => page.call('Emulation.setDeviceMetricsOverride', { width, height: 1000, deviceScaleFactor: 1, mobile: false })
+  const entry = async (name, title) => {
+    await page.value("document.getElementById('entries').replaceChildren(); document.querySelector('#facts .link').click()")
+    await page.until("document.querySelectorAll('#entries li').length === 5")
+    await page.value(`[...document.querySelectorAll('#entries .link')].find((it) => it.textContent === '${name}').click()`)
+    await page.until(`document.getElementById('node-title').innerText === '${title} ${name}'`)
+  }
+  const click = async (id, until) => {
+    await page.value(`document.getElementById('${id}').click()`)
+    await page.until(until)
+  }
+  await page.choose('#file', files.unixfs)
+  await page.until("document.getElementById('facts').innerText.includes('unixfs.car') && document.querySelectorAll('#list li').length === 8")
+  await page.value("document.querySelector('#facts .link').click()")
+  await page.until("document.querySelectorAll('#entries li').length === 5")
+  assert.equal(await said('node-title'), 'Folder')
+  assert.equal(await said('node-said'), '5 entries.')
+  assert.deepEqual(await page.value("[...document.querySelectorAll('#entries .link')].map((it) => it.textContent)"), members.map(([name]) => name))
+  await picture('inspector-folder')
+  await entry('hello.txt', 'File')
+  assert.equal(await fact('node-facts', 'size'), '21 bytes')
+  await click('show-file', "!document.getElementById('file-text').hidden")
+  assert.equal(await said('file-text'), String(leaf))
+  await entry('photo.png', 'File')
+  assert.deepEqual(await Promise.all(['size', 'permissions', 'changed'].map((term) => fact('node-facts', term))), [`${png.length} bytes`, '0640', '1970-01-01T00:00:01.000Z'])
+  assert.equal(await page.value("document.getElementById('file-text').hidden"), true)
+  await click('show-file', "document.getElementById('picture').naturalWidth === 1")
+  assert.equal(await page.value("document.getElementById('picture').alt"), 'photo.png')
+  await narrow(390)
+  await page.value("document.getElementById('block').scrollIntoView()")
+  assert.equal(await page.value('document.documentElement.scrollWidth - document.documentElement.clientWidth'), 0)
+  await picture('inspector-picture')
+  await narrow(1280)
+  await click('save-file', "document.getElementById('told').textContent === 'Saved photo.png.'")
+  for (let time = 0; time < 200 && !existsSync(`${page.downloads}/photo.png`); time++) await new Promise((resolve) => setTimeout(resolve, 50))
+  assert.deepEqual(readFileSync(`${page.downloads}/photo.png`), png)
+  await entry('link', 'Symbolic link')
+  assert.equal(await fact('node-facts', 'leads to'), 'photo.png')
+  assert.deepEqual(await page.value("['show-file', 'save-file', 'picture'].map((id) => document.getElementById(id).hidden)"), [true, true, true])
+  await entry('other', 'File')
+  await click('show-file', "document.getElementById('node-said').innerText === 'It is neither a picture nor a text that can be shown. You can save it.'")
+  await entry('cut.txt', 'File')
+  for (const id of ['show-file', 'save-file']) {
+    await page.value("document.getElementById('node-said').replaceChildren()")
+    await click(id, `document.getElementById('node-said').innerText.startsWith('MISSING_BLOCK: ') && document.getElementById('node-said').innerText.includes('b${base32(cidOf(0x55, gone))}')`)
+  }
+  assert.deepEqual(await page.value("['file-text', 'picture'].map((id) => document.getElementById(id).hidden)"), [true, true])
+  // The name of a file comes back with it.
+  await page.value('history.back()')
+  await page.until("document.getElementById('node-title').innerText === 'Folder'")
+  await page.value('history.back()')
+  await page.until("document.getElementById('node-title').innerText === 'File other'")
 
   // Many roots and long names, in a narrow window.
   await page.call('Emulation.setDeviceMetricsOverride', { width: 360, height: 740, deviceScaleFactor: 1, mobile: false })
@@ -414,7 +482,7 @@ try {
   await page.until("document.getElementById('facts').innerText.includes('onerror') && document.activeElement.getAttribute('aria-label') === 'map map of 1'")
   assert.equal((await find('onerror')).length, 2)
   assert.match(await json(), /^{"<img/)
-  assert.equal(await page.value("document.querySelectorAll('img').length"), 0)
+  assert.equal(await page.value("document.querySelectorAll('img:not(#picture)').length"), 0)
 
   // Back also leads to the file before. The second of two blocks with one CID has its offset in the
   // address.
