@@ -80,8 +80,7 @@ const tellError = ({ code, message }) => tell(`${code}: ${message}.`)
 
 element('copy-cid').addEventListener('click', () => copy(shown.cid.text, 'the CID'))
 element('save-block').addEventListener('click', () => {
-  const { file } = files.get(current)
-  saveAs(file.slice(shown.offset, shown.offset + shown.length), `${shown.cid.text}.${EXTENSIONS[shown.code] ?? 'bin'}`)
+  saveAs(new Blob([shown.bytes]), `${shown.cid.text}.${EXTENSIONS[shown.code] ?? 'bin'}`)
 })
 element('copy-hex').addEventListener('click', () => {
   const [begins, length] = shown.marked[1] ? shown.marked : [0, shown.length]
@@ -182,7 +181,7 @@ function showSummary () {
 
 /** Sets the title of the page, which the history of the browser shows. */
 function entitle () {
-  const name = files.get(current)?.file.name
+  const name = files.get(current)?.file?.name ?? files.get(current)?.gateway
   document.title = [shown && shorten(shown.cid.text), name, 'Kombilad inspector'].filter((it) => it).join(' - ')
 }
 
@@ -203,9 +202,18 @@ function open (file, handle) {
   read(current)
 }
 
-/** Reads a file that was opened. */
+/** Begins to show blocks of a gateway, with that of a CID. */
+function openGateway (gateway, text) {
+  show('again', false)
+  current = files.size + 1
+  files.set(current, { gateway })
+  enter(true, text, { depth: 0 })
+  read(current)
+}
+
+/** Reads a file that was opened, or the block of a gateway that the address names. */
 function read (id) {
-  const { file } = files.get(id)
+  const { file, gateway } = files.get(id)
   current = id
   turn++
   shown = opener = undefined
@@ -214,6 +222,12 @@ function read (id) {
   element('sought').value = ''
   element('progress').removeAttribute('value')
   element('read').textContent = ''
+  element('summary-title').textContent = gateway ? 'Gateway' : 'File'
+  if (gateway) {
+    say(`Asking ${gateway} for ${fragment()}.`)
+    entitle()
+    return ask({ type: 'gateway', gateway, text: fragment(), turn, view: { entry: 'kept', as: history.state?.as } })
+  }
   show('reading', true)
   say(`Reading ${file.name}.`)
   entitle()
@@ -289,6 +303,11 @@ element('open').addEventListener('submit', (event) => {
   const text = element('text').value.trim()
   if (text) ask({ type: 'cid', text })
 })
+element('fetch').addEventListener('submit', (event) => {
+  event.preventDefault()
+  const address = element('gateway').value.trim()
+  openGateway(address.replace(/\/*(\/ipfs\/?)?$/, '/'), element('cid').dataset.text)
+})
 element('cid-close').addEventListener('click', () => {
   show('cid', false)
   if (asker?.isConnected && !asker.closest('[hidden]')) asker.focus()
@@ -355,9 +374,11 @@ const WHICH = {
  * Creates a link that opens a block, or shows the parts of the CID if the file doesn't have its
  * block.
  */
-function linkTo ({ text, index, mark, as }) {
+function linkTo ({ text, index, isFar, mark, as }) {
   const button = make('button', { type: 'button', className: 'link', textContent: as ?? text })
-  if (index === undefined) {
+  if (index === undefined && isFar) {
+    button.addEventListener('click', () => visitFar(text, { as }, button))
+  } else if (index === undefined) {
     button.title = 'Its block is not in the file'
     button.addEventListener('click', () => askParts(text, button))
   } else {
@@ -374,6 +395,13 @@ function linkTo ({ text, index, mark, as }) {
 function visit (index, { mark, as } = {}, by = document.activeElement) {
   if (!shown) opener = by
   ask({ type: 'block', index, view: { entry: 'new', mark, as } })
+}
+
+/** Gets a block from the gateway and opens it, with a new entry of the history. */
+function visitFar (text, { as } = {}, by = document.activeElement) {
+  if (!shown) opener = by
+  say(`Asking for ${text}.`)
+  ask({ type: 'fetch', text, view: { entry: 'new', as } })
 }
 
 /** The element that asked for the parts of a CID, which gets the focus when these are closed. */
@@ -457,6 +485,8 @@ function showParts (parts, cid, index) {
 /** Shows the parts of a CID, or the error of the text, below the field for it. */
 function showCid ({ cid, index, error, text }) {
   show('cid', true)
+  show('fetch', !error)
+  element('cid').dataset.text = text
   element('cid-title').textContent = error ? 'Not a CID' : 'CID'
   const parts = element('parts')
   if (!error) return showParts(parts, cid, index)
@@ -498,7 +528,7 @@ function showBlock (block) {
       Object.assign(shown, { marked, path, range })
       soonJson()
     },
-    follow: (link) => link.index === undefined ? askParts(link.text) : visit(link.index)
+    follow: (link) => link.index !== undefined ? visit(link.index) : link.isFar ? visitFar(link.text) : askParts(link.text)
   })
   for (const id of ['tree', 'tree-hint']) show(id, block.tape !== undefined)
   show('no-tree', block.tape === undefined)
@@ -582,9 +612,9 @@ async function showEntries () {
   const count = number.format(entries.length)
   sayOfNode(isPart ? `The first ${count} entries.` : `${count} ${entries.length === 1 ? 'entry' : 'entries'}.`)
   if (error) element('node-said').append(make('span', { className: 'wrong', textContent: ` ${error.code}: ${error.message}.` }))
-  element('entries').replaceChildren(...entries.map(({ name, tsize, text, index }) => {
-    const line = make('li', {}, make('bdi', {}, linkTo({ text, index, as: name })))
-    line.append(make('span', { className: 'faint', textContent: index === undefined ? 'not in the file' : tsize === undefined ? '' : `${number.format(tsize)} bytes with all blocks` }))
+  element('entries').replaceChildren(...entries.map(({ name, tsize, text, index, isFar }) => {
+    const line = make('li', {}, make('bdi', {}, linkTo({ text, index, isFar, as: name })))
+    line.append(make('span', { className: 'faint', textContent: index === undefined && !isFar ? 'not in the file' : tsize === undefined ? '' : `${number.format(tsize)} bytes with all blocks` }))
     return line
   }))
 }
@@ -655,9 +685,8 @@ const answers = {
       ['missing', some('missing')]
     ])
     element('which').replaceChildren(...Object.entries(WHICH).map(([value, text]) => make('option', { value, textContent: `${text} (${number.format(all[value])})`, disabled: value !== 'all' && all[value] === 0 })))
-    show('summary', true)
+    for (const id of ['summary', 'search', 'blocks']) show(id, true)
     show('codec-bar', false)
-    show('blocks', true)
     if (failure) showFailure({ what: 'The file is read up to an error.', error: failure, bytes: failure.bytes })
     askRows()
     ask({ type: 'graph' })
@@ -668,12 +697,20 @@ const answers = {
     element('graph-said').textContent = `${isPart ? `The ${nodes.length} blocks nearest to ${from}` : `What links lead to from ${from}`}: a column for each step. Arrow keys go along the links; Enter opens a block.`
     showGraph(element('drawing'), { nodes, edges }, (node) => node.index === undefined ? askParts(node.text) : visit(node.index))
   },
+  fetched ({ gateway, count }) {
+    show('choice', false)
+    say(`${gateway} has answered.`)
+    element('failure').replaceChildren()
+    definition(element('facts'), [['gateway', gateway], ['blocks', `${number.format(count)} shown so far`]])
+    for (const id of ['codec-bar', 'search']) show(id, false)
+    show('summary', true)
+  },
   'block-file' ({ name, size, code, isOther, view = { entry: 'kept', mark: history.state?.mark, as: history.state?.as } }) {
     show('reading', false)
     show('choice', false)
     say(isOther ? `${name} is read. It is not the block ${fragment()}.` : `${name} is read.`)
     definition(element('facts'), [['name', name], ['size', `${number.format(size)} bytes`], ['format', 'a block; the CID is made of it']])
-    show('summary', true)
+    for (const id of ['summary', 'search']) show(id, true)
     show('codec-bar', true)
     element('codec').value = code
     ask({ type: 'block', index: 0, view })

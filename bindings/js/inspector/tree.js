@@ -113,8 +113,9 @@ export function showTree (root, { tape, bytes, links }, { select, follow }) {
     said.textContent = saying([kind, length, value], bytes, link)
     if (holds) said.className = 'kind'
     if (link) {
-      said.className = link.index === undefined ? 'kind' : 'link'
-      if (link.index === undefined) said.textContent += ' (not in the file)'
+      const isMissing = link.index === undefined && !link.isFar
+      said.className = isMissing ? 'kind' : 'link'
+      if (isMissing) said.textContent += ' (not in the file)'
     }
     row.append(said)
     node.append(row)

@@ -23,6 +23,7 @@ const SHOWN = 65536 // the maximum number of characters of DAG-JSON, or of bytes
 const ENTRIES = 1000 // the maximum number of entries of a folder that the page shows
 const LONGEST_PICTURE = 32 << 20
 const PIECE = 8 << 20 // the minimum number of bytes of a file that are passed to the browser at once
+const PATIENCE = 60000 // the number of milliseconds after which a gateway has not answered
 
 /** The state of the open file. */
 let open = { turn: 0 }
@@ -210,8 +211,11 @@ async function around (file, offset) {
 const lists = { wrong: 'wrong', unknown: 'unknown', unordered: 'unordered', unreadable: 'unreadable', missing: 'missing' }
 const countsOf = (found) => ({ all: found.cids.length, ...Object.fromEntries(Object.keys(lists).map((name) => [name, found[name].length])) })
 
-/** Returns a CID as a string, and the index of its block if the file has it. */
-const linkOf = (cid) => ({ text: cid.toString(), index: open.index.get(keyOf(cid)) })
+/**
+ * Returns a CID as a string, the index of its block if the file has it, and whether a gateway may have
+ * it.
+ */
+const linkOf = (cid) => ({ text: cid.toString(), index: open.index.get(keyOf(cid)), isFar: open.gateway !== undefined })
 
 function rowsOf (which, from, count) {
   const list = which === 'all' ? undefined : open[which]
@@ -253,7 +257,8 @@ function placeIn (list, number) {
 /** Returns whether a sorted list has the number. */
 const has = (list, number) => list[placeIn(list, number)] === number
 
-async function bytesOf ({ file, offsets, lengths }, index) {
+async function bytesOf ({ file, fetched, offsets, lengths }, index) {
+  if (fetched) return fetched[index].slice()
   return new Uint8Array(await file.slice(offsets[index], offsets[index] + lengths[index]).arrayBuffer())
 }
 
@@ -383,6 +388,7 @@ async function find (fragment, view) {
     if (code !== undefined) return take(open, code, bytes, { view })
   }
   const index = indexOf(text, offset)
+  if (index === undefined && open.gateway && cidOf(text)) return fetchShown(open, text, view)
   if (index === undefined) showParts(text, { isAbsent: true })
   else await blockOf(index, view)
 }
@@ -449,10 +455,69 @@ function nodeOf (cid, bytes) {
   }
 }
 
-/** Returns a function that returns the block of a CID in the file, or undefined if it has none. */
+/**
+ * Returns a function that returns the block of a CID in the file or from the gateway, or undefined if
+ * it is missing.
+ */
 const blocksOf = (found) => (cid) => {
   const index = found.index.get(keyOf(cid))
-  return index === undefined ? undefined : bytesOf(found, index)
+  if (index !== undefined) return bytesOf(found, index)
+  return found.gateway && fetchBlock(found.gateway, cid)
+}
+
+const ofGateway = (message, cid) => Object.assign(new Error(`${message}, for block ${cid}`), { code: 'GATEWAY' })
+
+/**
+ * Returns the bytes that a gateway has for a CID, or undefined if it has none. Throws if it does not
+ * answer, or with more bytes than the page reads as a block. Nothing is verified here.
+ */
+async function fetchBlock (gateway, cid) {
+  try {
+    const options = { headers: { accept: 'application/vnd.ipld.raw' }, signal: AbortSignal.timeout(PATIENCE), credentials: 'omit', referrerPolicy: 'no-referrer' }
+    const { ok, status, body } = await fetch(new URL(`ipfs/${cid}?format=raw`, gateway), options)
+    if (status === 404 || status === 410) return undefined
+    if (!ok) throw ofGateway(`the gateway answers with status ${status}`, cid)
+    const parts = []
+    let length = 0
+    for (const reader = body.getReader(); ;) {
+      const { done, value } = await reader.read()
+      if (done) return joined(parts)
+      length += value.length
+      if (length > LONGEST_BLOCK) {
+        await reader.cancel()
+        throw ofGateway(`the gateway sends more than ${LONGEST_BLOCK >> 20} MiB`, cid)
+      }
+      parts.push(value)
+    }
+  } catch (error) {
+    if (error.code === 'GATEWAY') throw error
+    throw ofGateway(`the gateway does not answer, or does not let this page ask (${error.message})`, cid)
+  }
+}
+
+/** Posts the block of a CID from the gateway, after it is verified. */
+async function fetchShown (found, text, view) {
+  const cid = CID.parse(text)
+  const key = keyOf(cid)
+  if (!found.index.has(key)) {
+    const bytes = await fetchBlock(found.gateway, cid)
+    if (open !== found) return
+    if (bytes === undefined) throw ofGateway('the gateway has no bytes', cid)
+    const right = verify(cid, bytes)
+    if (!right) throw ofGateway(right === undefined ? 'this page does not know the hash function' : 'the gateway has other bytes', cid)
+    if (!found.index.has(key)) {
+      found.fetched.push(bytes)
+      add(found, { cid, bytes, offset: 0 })
+    }
+  }
+  postMessage({ type: 'fetched', turn: found.turn, gateway: found.gateway, count: found.cids.length })
+  await blockOf(found.index.get(key), view)
+}
+
+/** Begins to show blocks of a gateway, with that of a CID. */
+async function readGateway (gateway, text, turn, view) {
+  open = { ...empty(undefined, turn), gateway, fetched: [] }
+  await fetchShown(open, text, view)
 }
 
 /** Returns the first ENTRIES entries of a folder, and the error of a block that ends them. */
@@ -465,7 +530,6 @@ async function entriesOf (found, index) {
     }
     return { entries }
   } catch (error) {
-    if (!isOfPackage(error)) throw error
     return { entries, error: told(error) }
   }
 }
@@ -574,6 +638,8 @@ async function search (found, text, number) {
 /** The work for each type of message. */
 const works = {
   open: ({ file, turn, wanted }) => read(file, turn, wanted),
+  gateway: ({ gateway, text, turn, view }) => readGateway(gateway, text, turn, view),
+  fetch: ({ text, view }) => fetchShown(open, text, view),
   rows: ({ which, from, count }) => postMessage({ type: 'rows', turn: open.turn, rows: rowsOf(which, from, count) }),
   graph: () => graphOf(open),
   block: ({ index, view }) => blockOf(index, view),
@@ -594,7 +660,7 @@ onmessage = async ({ data }) => {
     await works[data.type](data)
   } catch (error) {
     if (data.id !== undefined) postMessage({ type: 'reply', id: data.id, error: told(error) })
-    else postMessage({ type: 'failed', turn: data.turn ?? open.turn, what: `The page failed: ${error.message}` })
+    else postMessage({ type: 'failed', turn: data.turn ?? open.turn, what: error.code === 'GATEWAY' ? 'The block can\'t be shown.' : `The page failed: ${error.message}`, error: error.code === 'GATEWAY' ? told(error) : undefined })
   }
 }
 postMessage({ type: 'ready' })

@@ -4,6 +4,7 @@
 import assert from 'node:assert/strict'
 import { createHash } from 'node:crypto'
 import { appendFileSync, existsSync, mkdirSync, readFileSync, writeFileSync } from 'node:fs'
+import { createServer } from 'node:http'
 import { resolve } from 'node:path'
 import { pathToFileURL } from 'node:url'
 import { browse, serve } from './chromium.mjs'
@@ -46,13 +47,13 @@ const directory = Buffer.concat([header(cidOf(0x70, node)), ...[[0x70, node], [0
 // block is missing.
 const png = Buffer.from('iVBORw0KGgoAAAANSUhEUgAAAAEAAAABCAYAAAAfFcSJAAAADUlEQVR42mNk+M9QDwADhgGAWjR9awAAAABJRU5ErkJggg==', 'base64')
 const halves = [png.subarray(0, 30), png.subarray(30)]
-const other = Buffer.from([0, 1, 2, 255])
+const binary = Buffer.from([0, 1, 2, 255])
 const linkTo = (cid, name = '') => field(2, Buffer.concat([field(1, cid), field(2, Buffer.from(name))]))
 const fileOf = (parts, more = []) => Buffer.concat([...parts.map((it) => linkTo(cidOf(0x55, it))), field(1, Buffer.from([8, 2, 0x18, parts.reduce((sum, { length }) => sum + length, 0), ...parts.flatMap(({ length }) => [0x20, length]), ...more]))])
 const photoNode = fileOf(halves, [0x38, 0xa0, 3, 0x42, 2, 8, 1])
 const cutNode = fileOf([leaf, gone])
 const symlinkNode = field(1, Buffer.from([8, 4, 0x12, 9, ...Buffer.from('photo.png')]))
-const members = [['cut.txt', 0x70, cutNode], ['hello.txt', 0x55, leaf], ['link', 0x70, symlinkNode], ['other', 0x55, other], ['photo.png', 0x70, photoNode]]
+const members = [['cut.txt', 0x70, cutNode], ['hello.txt', 0x55, leaf], ['link', 0x70, symlinkNode], ['other', 0x55, binary], ['photo.png', 0x70, photoNode]]
 const folderNode = Buffer.concat([...members.map(([name, codec, bytes]) => linkTo(cidOf(codec, bytes), name)), field(1, Buffer.from([8, 1]))])
 const unixfs = Buffer.concat([header(cidOf(0x70, folderNode)), ...[[0x70, folderNode], ...members.map(([, codec, bytes]) => [codec, bytes]), ...halves.map((bytes) => [0x55, bytes])].map(([codec, bytes]) => framed(cidOf(codec, bytes), bytes))])
 const HTML = '<img src=x onerror=alert(1)>'
@@ -286,6 +287,58 @@ try {
   await page.until("document.getElementById('node-title').innerText === 'Folder'")
   await page.value('history.back()')
   await page.until("document.getElementById('node-title').innerText === 'File other'")
+
+  // Blocks of a gateway, which has other bytes for one CID, and none for another.
+  const asked = []
+  const gateway = createServer(({ url, headers }, response) => {
+    const [, name] = url.match(/^\/ipfs\/(b[a-z2-7]+)\?format=raw$/)
+    asked.push(`${name} ${headers.accept}`)
+    const block = [[0x70, folderNode], ...members.map(([, codec, bytes]) => [codec, bytes]), ...halves.map((bytes) => [0x55, bytes])].find(([codec, bytes]) => `b${base32(cidOf(codec, bytes))}` === name)?.[1]
+    response.writeHead(block ? 200 : 404, { 'access-control-allow-origin': '*' })
+    response.end(block === binary ? 'other bytes' : block)
+  })
+  await new Promise((resolve) => gateway.listen(0, '127.0.0.1', resolve))
+  const address = `http://127.0.0.1:${gateway.address().port}`
+  const askGateway = async (cid, from) => {
+    await page.value(`document.getElementById('text').value = 'b${base32(cid)}'; document.querySelector('#open button[type=submit]').click()`)
+    await page.until(`document.getElementById('parts').innerText.includes('b${base32(cid)}')`)
+    await page.value(`document.getElementById('gateway').value = '${from}'; document.querySelector('#fetch button').click()`)
+  }
+  await askGateway(cidOf(0x70, folderNode), `${address}/ipfs/`)
+  await page.until("document.querySelectorAll('#entries li').length === 5")
+  assert.equal(await fact('facts', 'gateway'), `${address}/`)
+  assert.deepEqual(asked, [`b${base32(cidOf(0x70, folderNode))} application/vnd.ipld.raw`])
+  const far = (name) => page.value(`[...document.querySelectorAll('#entries .link')].find((it) => it.textContent === '${name}').click()`)
+  await far('photo.png')
+  await page.until("document.getElementById('node-title').innerText === 'File photo.png'")
+  await click('show-file', "document.getElementById('picture').naturalWidth === 1")
+  assert.equal(asked.length, 4)
+  await page.value('history.back()')
+  await page.until("document.querySelectorAll('#entries li').length === 5")
+  assert.equal(asked.length, 4)
+  await far('other')
+  await page.until("document.getElementById('failure').innerText.startsWith('The block can\\'t be shown. GATEWAY: the gateway has other bytes, for block b')")
+  await far('cut.txt')
+  await page.until("document.getElementById('node-title').innerText === 'File cut.txt'")
+  assert.equal(await said('failure'), '')
+  await click('show-file', "document.getElementById('node-said').innerText.startsWith('MISSING_BLOCK: ')")
+  // A link leads to a block of the gateway.
+  for (const key of ['ArrowDown', 'ArrowDown', 'ArrowRight', 'ArrowRight', 'ArrowRight', 'ArrowRight']) await page.press(key)
+  assert.equal(await chosen(), `Hash: link b${base32(cidOf(0x55, leaf))}`)
+  await page.press('Enter')
+  await page.until("document.getElementById('block-title').textContent === 'Block of codec 0x55 (raw)'")
+  await click('show-file', "!document.getElementById('file-text').hidden")
+  assert.equal(await said('file-text'), String(leaf))
+  await narrow(390)
+  assert.equal(await page.value('document.documentElement.scrollWidth - document.documentElement.clientWidth'), 0)
+  await picture('inspector-gateway')
+  await narrow(1280)
+  await askGateway(cidOf(0x55, gone), address)
+  await page.until("document.getElementById('failure').innerText.includes('GATEWAY: the gateway has no bytes, for block b')")
+  gateway.closeAllConnections()
+  await new Promise((resolve) => gateway.close(resolve))
+  await askGateway(cidOf(0x55, leaf), address)
+  await page.until("document.getElementById('failure').innerText.includes('GATEWAY: the gateway does not answer, or does not let this page ask')")
 
   // Many roots and long names, in a narrow window.
   await page.call('Emulation.setDeviceMetricsOverride', { width: 360, height: 740, deviceScaleFactor: 1, mobile: false })
