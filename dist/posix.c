@@ -330,6 +330,10 @@ uint32_t host_symlink(uint8_t *target, uint8_t *path) {
     return (uint32_t)symlink((const char *)target, (const char *)path);
 }
 
+uint64_t host_readlink(uint8_t *path, uint8_t *to, uint64_t size) {
+    return (uint64_t)readlink((const char *)path, (char *)to, at_most(size));
+}
+
 uint32_t host_link(uint8_t *from, uint8_t *to) {
     return (uint32_t)link((const char *)from, (const char *)to);
 }
