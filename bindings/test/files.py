@@ -168,6 +168,11 @@ class Files(unittest.TestCase):
         self.assertEqual(b"".join(kombilad.read_file(get, Cid(node.cid))), CONTENT)
         self.assertEqual(asked, list(blocks))
 
+    def test_a_block_in_its_cid_is_not_asked_for(self):
+        inside = Cid(cid_of(RAW, b"inside", IDENTITY))
+        self.assertEqual(b"".join(kombilad.read_file({}.get, inside)), b"inside")
+        self.assertEqual(kombilad.open_file({}.get, inside).read(), b"inside")
+
     def test_any_wrong_block_is_refused(self):
         for profile in PROFILES:
             node = file_of(CONTENT, profile)

@@ -258,7 +258,8 @@ export interface BlockIndex {
 
 /**
  * Returns the block of a CID, or undefined if it is missing, or a promise of these. Nobody has to
- * trust it: each block is verified before it is read.
+ * trust it: each block is verified before it is read. It isn't asked for a block that is in the CID
+ * itself, by the hash function identity.
  */
 export type GetBlock = (cid: CID) => Bytes | null | undefined | Promise<Bytes | null | undefined>
 

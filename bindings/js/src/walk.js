@@ -67,8 +67,15 @@ export async function * itemsOf (OwnWalk, get, cid, options) {
   }
 }
 
-/** Returns what `get` returns for a CID. Throws MISSING_BLOCK if that is undefined or null. */
+/** The code of the hash function identity. */
+const IDENTITY = 0
+
+/**
+ * Returns the block that is in a CID, or otherwise what `get` returns. Throws MISSING_BLOCK if that is
+ * undefined or null.
+ */
 export async function blockOf (get, cid) {
+  if (cid.multihash.code === IDENTITY) return cid.multihash.digest
   const block = await get(cid)
   if (block === undefined || block === null) throw ofBlock(ofName('MISSING_BLOCK'), cid)
   return block

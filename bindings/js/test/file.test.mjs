@@ -38,6 +38,11 @@ async function read (get, cid, options) {
 const from = (blocks) => (cid) => blocks.get(String(cid))
 
 describe('readFile', () => {
+  test('reads a block that is in its CID', async () => {
+    const { bytes, error } = await read(() => assert.fail('no block is asked for'), CID.decode(Uint8Array.of(1, 0x55, 0, 2, 104, 105)))
+    assert.deepEqual([String(bytes), error], ['hi', undefined])
+  })
+
   for (const name of ['two-levels', 'raw-leaves', 'nodes']) {
     test(`reads a file (${name})`, async () => {
       const { root, blocks } = await packed(name)

@@ -74,7 +74,8 @@ def read_file(
 ) -> Iterator[bytes]:
     """Iterates over the bytes of a file of UnixFS (IPFS), in order. `get` returns the block of a
     CID, or None if it is missing. Nobody has to trust it: each block is verified before it is read,
-    and each size in a block is compared with the number of bytes.
+    and each size in a block is compared with the number of bytes. It is not asked for a block that
+    is in the CID itself, by the hash function identity.
 
     >>> from kombilad import Cid
     >>> leaf = b"hello"

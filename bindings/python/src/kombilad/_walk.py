@@ -10,6 +10,9 @@ from ._status import BytesLike
 # Returns the block of a CID, or None if it is missing.
 Source = Callable[[Cid], Optional[BytesLike]]
 
+# The code of the hash function identity.
+_IDENTITY = 0
+
 # The largest number of 64 bits.
 _NO_LIMIT = 2**64 - 1
 
@@ -26,7 +29,10 @@ def wanted(walk: object) -> Optional[Cid]:
 
 
 def block_of(get: Source, cid: Cid) -> BytesLike:
-    """Returns the block of a CID, or raises `MissingBlockError`."""
+    """Returns the block of a CID, or raises `MissingBlockError`. A CID of the hash function identity
+    has its block in itself."""
+    if cid.hash_code == _IDENTITY:
+        return cid.digest
     block = get(cid)
     if block is None:
         raise MissingBlockError(cid)

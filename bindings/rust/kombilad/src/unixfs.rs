@@ -1,7 +1,8 @@
 //! Files and folders of UnixFS (IPFS), from a source of blocks that nobody has to trust.
 //!
 //! The source is a function that returns the block of a CID, or `None` if it doesn't have it. Each
-//! block is verified before it is read.
+//! block is verified before it is read. The source isn't asked for a block that is in the CID itself,
+//! by the hash function identity.
 //!
 //! ```
 //! use std::collections::HashMap;
@@ -118,12 +119,33 @@ impl From<ReadError> for io::Error {
     }
 }
 
+/// A block: that of a source, or the one that a CID has in itself.
+enum Block<B> {
+    Found(B),
+    Inside(Cid),
+}
+
+impl<B: AsRef<[u8]>> AsRef<[u8]> for Block<B> {
+    fn as_ref(&self) -> &[u8] {
+        match self {
+            Block::Found(block) => block.as_ref(),
+            Block::Inside(cid) => cid.digest(),
+        }
+    }
+}
+
+/// The code of the hash function identity.
+const IDENTITY: u64 = 0;
+
 /// Returns the block of a CID.
-fn fetch<G, B>(get: &mut G, cid: &Cid) -> Result<B, ReadError>
+fn fetch<G, B>(get: &mut G, cid: &Cid) -> Result<Block<B>, ReadError>
 where
     G: FnMut(&Cid) -> io::Result<Option<B>>,
 {
-    get(cid)?.ok_or(ReadError::MissingBlock { cid: *cid })
+    if cid.hash_code() == IDENTITY {
+        return Ok(Block::Inside(*cid));
+    }
+    get(cid)?.map(Block::Found).ok_or(ReadError::MissingBlock { cid: *cid })
 }
 
 /// Returns the error of a call about this block.

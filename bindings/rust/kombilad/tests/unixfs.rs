@@ -108,6 +108,9 @@ fn blocks_of_any_type_and_a_car_are_sources() {
     assert_eq!(text(|_| Ok(Some(shared.clone())), &cid), "hello");
     assert_eq!(text(|_| Ok(Some(b"hello".to_vec())), &cid), "hello");
     assert_eq!(text(|_| Ok(Some(*b"hello")), &cid), "hello");
+    // Of a CID that has its block in itself the source isn't asked.
+    let inside = Cid::try_from(&b"\x01\x55\x00\x06inside"[..]).unwrap();
+    assert_eq!(text(|_| -> io::Result<Option<&[u8]>> { unreachable!() }, &inside), "inside");
     let mut car = CarWriter::new(Vec::new(), &[cid]).unwrap();
     car.write(&cid, b"hello").unwrap();
     let bytes = car.into_inner();
