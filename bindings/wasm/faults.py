@@ -26,6 +26,7 @@ CORE, BLOCK, CID, TEXT, WRITER, CAR, CAR_FILE, PB = (
     f"js/src/{name}.js"
     for name in ("core", "block", "cid", "text", "writer", "car", "car-file", "pb")
 )
+WALK, FILE, FOLDER, UNIXFS = (f"js/src/{name}.js" for name in ("walk", "file", "folder", "unixfs"))
 
 FAULTS = [
     # The heap.
@@ -238,6 +239,51 @@ FAULTS = [
     ),
     (CAR_FILE, "async close () { await this._file.close() }", "async close () {}"),
     (CAR, "    if (this._begun) throw ofName('CAR_READ_ONCE')\n", ""),
+    (WALK, "if (block === undefined || block === null)", "if (block === undefined)"),
+    (WALK, "    error.cid = cid\n", ""),
+    (WALK, "if (cid.multihash.code === IDENTITY) return cid.multihash.digest", ""),
+    (
+        WALK,
+        "for (let each = 0; each < count; each++) yield",
+        "if (count > 0) for (let each = 0; each < 1; each++) yield",
+    ),
+    (FILE, "longOf(start ?? 0, 'the start')", "0n"),
+    (FILE, ": longOf(length, 'the length')", ": longOf(length, 'the length') + 1n"),
+    (FILE, "return Math.min(this.needed(), 1)", "return 1"),
+    (FILE, "item () { return this.bytes.slice(", "item () { return this.bytes.subarray("),
+    (
+        FILE,
+        "short(waiting, 2 ** 18), short(levels, 64)",
+        "short(levels, 64), short(waiting, 2 ** 18)",
+    ),
+    (FOLDER, "if (size + behind > this.size) {", "if (false) {"),
+    (
+        FOLDER,
+        "const most = Math.floor(size / SHORTEST_ENTRY)",
+        "const most = Math.floor(size / ENTRY)",
+    ),
+    (
+        FOLDER,
+        "cid: checkedCid(bytes.slice(at + 1, at + 1 +",
+        "cid: checkedCid(bytes.slice(at, at + 1 +",
+    ),
+    (FOLDER, "tsize: hasSize === 0 ?", "tsize: hasSize !== 0 ?"),
+    (FOLDER, "getBigUint64(at + 104, true)", "getBigUint64(at + 96, true)"),
+    (FOLDER, "    if (from === to) continue\n", ""),
+    (
+        FOLDER,
+        "blocks.push(core.bytes.slice(folderAt -",
+        "blocks.push(core.bytes.subarray(folderAt -",
+    ),
+    (
+        FOLDER,
+        "status === MISSING ? undefined : checkedCid",
+        "status === MORE ? undefined : checkedCid",
+    ),
+    (UNIXFS, "const [SIZE, MODE, TIME] = [1, 2, 4]", "const [SIZE, MODE, TIME] = [1, 4, 2]"),
+    (UNIXFS, "numbers.getUint32(node + 28, true)", "numbers.getUint32(node + 24, true)"),
+    (UNIXFS, "numbers.getBigInt64(node + 16, true)", "numbers.getBigUint64(node + 16, true)"),
+    (UNIXFS, "kind === SYMLINK ? bytes.slice", "true ? bytes.slice"),
 ]
 
 
@@ -248,9 +294,11 @@ def seen(copy, file, cases):
     env = {
         **os.environ,
         "DIST": str(DIST),
-        "PACKAGE": str(package),
+        "PACKAGE": str(copy / "node_modules" / "kombilad"),
         "CASES": str(cases),
         "HEADER": str(bindings / "c" / "kombilad.h"),
+        "FILES": str(copy / "files"),
+        "FOLDERS": str(copy / "folders"),
     }
     env["HEAP"] = str(bindings / "out" / "wasm" / "heap.wasm")
     steps = []
@@ -258,6 +306,8 @@ def seen(copy, file, cases):
     if file.startswith("js/"):
         shutil.copy(bindings / file, package / "src")
         tests = ["api.test.mjs", "car.test.mjs", "native.test.mjs"]
+        if file in (WALK, FILE, FOLDER, UNIXFS):
+            tests = ["file.test.mjs", "folder.test.mjs"]
     else:
         steps.append(("wasm.sh", ["./wasm.sh"]))
     steps += [(name, ["node", "--test", f"js/test/{name}"]) for name in tests]
@@ -310,9 +360,21 @@ def main():
         shutil.copytree(
             TOP / "bindings", copy / "bindings", ignore=shutil.ignore_patterns("out", "rust")
         )
-        for name in ("VERSION", "LICENSE-APACHE", "LICENSE-MIT", ".ci"):
+        for name in ("VERSION", "LICENSE-APACHE", "LICENSE-MIT", ".ci", "tests"):
             (copy / name).symlink_to(TOP / name)
-        without = seen(copy, "wasm/", cases)
+        for script, made in (
+            ("test/file_cases.py", "files"),
+            ("js/test/folder_cases.py", "folders"),
+        ):
+            subprocess.run(
+                [sys.executable, "-B", str(TOP / "bindings" / script), str(copy / made)],
+                check=True,
+                env={**os.environ, "PYTHONPATH": str(TOP)},
+            )
+        modules = copy / "node_modules"
+        modules.mkdir()
+        (modules / "kombilad").symlink_to(copy / "bindings" / "out" / "js" / "package")
+        without = seen(copy, "wasm/", cases) or seen(copy, WALK, cases)
         if without:
             sys.exit(f"faults.py: without a fault {without} fails")
         print("| file | fault | seen by |\n|---|---|---|", flush=True)

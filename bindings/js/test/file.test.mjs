@@ -28,7 +28,10 @@ async function packed (name) {
 async function read (get, cid, options) {
   const pieces = []
   try {
-    for await (const piece of readFile(get, cid, options)) pieces.push(piece)
+    for await (const piece of readFile(get, cid, options)) {
+      assert.notEqual(piece.length, 0)
+      pieces.push(piece)
+    }
   } catch (error) {
     return { bytes: Buffer.concat(pieces), error }
   }
