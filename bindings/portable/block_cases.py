@@ -282,6 +282,93 @@ def blocks(cases):
     )
 
 
+def copies(cases):
+    """Adds copies of eight bytes as a pointer, although they are none. They need 64 bits on every
+    processor."""
+    pair = "{ ptr, i64 }"
+    cases.helpers.append(
+        "define internal ptr @one_of(ptr %p, i1 %t, ptr %other) noinline {\nstart:\n"
+        "  br i1 %t, label %more, label %end\nmore:\n  %x = load ptr, ptr %other, align 1\n"
+        "  br label %end\nend:\n  %r = phi ptr [ %p, %start ], [ %x, %more ]\n  ret ptr %r\n}\n"
+        "define internal void @put_twice(ptr %value, ptr %to) noinline {\nstart:\n"
+        "  store ptr %value, ptr %to, align 1\n  %next = getelementptr i8, ptr %to, i64 8\n"
+        "  store ptr %value, ptr %next, align 1\n  ret void\n}\n"
+        f"define internal {pair} @with(ptr %value, i64 %n) noinline {{\nstart:\n"
+        f"  %p = insertvalue {pair} poison, ptr %value, 0\n"
+        f"  %q = insertvalue {pair} %p, i64 %n, 1\n  ret {pair} %q\n}}\n"
+    )
+    head = ["%v = load ptr, ptr %in, align 1", "%q = getelementptr i8, ptr %in, i64 8"]
+    head += ["%w = load ptr, ptr %q, align 1", "%a = load i64, ptr %q, align 1"]
+    head += ["%t = icmp ult i64 %a, 77"]
+    end = ["store ptr %r, ptr %out, align 1", "ret void"]
+    for name, lines in (
+        ("read and written", ["%r = freeze ptr %v"]),
+        ("by a choice", ["%r = select i1 %t, ptr %v, ptr %w"]),
+        ("or null", ["%r = select i1 %t, ptr %v, ptr null"]),
+        ("from a call", ["%r = call ptr @one_of(ptr %v, i1 %t, ptr %q)"]),
+        (
+            "in a struct",
+            [f"%s = call {pair} @with(ptr %v, i64 %a)", f"%r = extractvalue {pair} %s, 0"],
+        ),
+        (
+            "by a phi",
+            [
+                "br i1 %t, label %less, label %end",
+                "less:",
+                "br label %end",
+                "end:",
+                "%r = phi ptr [ %v, %start ], [ %w, %less ]",
+            ],
+        ),
+        (
+            "in turn",
+            [
+                "br label %loop",
+                "loop:",
+                "%r = phi ptr [ %v, %start ], [ %other, %loop ]",
+                "%other = phi ptr [ %w, %start ], [ %r, %loop ]",
+                "%n = phi i64 [ 0, %start ], [ %m, %loop ]",
+                "%m = add i64 %n, 1",
+                "%is = icmp ugt i64 %n, 2",
+                "br i1 %is, label %end, label %loop",
+                "end:",
+            ],
+        ),
+    ):
+        cases.add(f"eight bytes {name}", [*head, *lines, *end])
+    cases.add(
+        "eight bytes to a call", [*head, "call void @put_twice(ptr %v, ptr %out)", "ret void"]
+    )
+    cases.add(
+        "a number of what is copied",
+        [
+            *head,
+            "store ptr %v, ptr %out, align 1",
+            "%r = ptrtoint ptr %v to i64",
+            *put(64, "%r", 8),
+            "ret void",
+        ],
+    )
+    cases.add(
+        "a pointer that is copied and used",
+        [
+            "%v.p = alloca [2 x ptr], align 8",
+            "%w.p = getelementptr i8, ptr %v.p, i64 8",
+            "store ptr %in, ptr %v.p, align 8",
+            "%back = load ptr, ptr %v.p, align 8",
+            "store ptr %back, ptr %w.p, align 8",
+            "%again = load ptr, ptr %w.p, align 8",
+            "%is = icmp eq ptr %back, %again",
+            "%at = getelementptr i8, ptr %back, i64 3",
+            "%r = load i8, ptr %at, align 1",
+            *put(8),
+            *put(1, "%is", 16),
+            "call void @llvm.memcpy.p0.p0.i64(ptr %out, ptr %back, i64 5, i1 false)",
+            "ret void",
+        ],
+    )
+
+
 def calls(cases):
     """Adds structs, calls of the module's own functions, and the allocator."""
     cases.helpers.append(

@@ -25,6 +25,21 @@ INPUTS = 256
 
 # The file, the text, its replacement, and the compilers with which the tests run.
 FAULTS = [
+    # Pointers that are copied
+    ("pointers.py", 'in ("load", *PASSING)', "in PASSING", ["i386"]),
+    ("pointers.py", 'PASSING = ("phi", ', 'PASSING = ("ret", ', ["i386"]),
+    ("pointers.py", '"select", "freeze")', '"freeze")', ["i386"]),
+    ("pointers.py", "self.parameters[name].add(at)", "pass", ["i386"]),
+    ("pointers.py", "        self.results |= {", "        {", ["i386"]),
+    ("pointers.py", 'if made.op == "store":', 'if made.op == "load":', ["i386"]),
+    ("pointers.py", 'elif made.op == "insertvalue":', 'elif made.op == "load":', ["i386"]),
+    (
+        "values.py",
+        'return "u64" if isinstance(kind, Pointer)',
+        'return "P" if isinstance(kind, Pointer)',
+        ["i386"],
+    ),
+    ("instructions.py", "loads=True, is_wide=is_wide)", "loads=True)", ["i386"]),
     # Numbers
     ("instructions.py", 'cast(f"int{width}_t"', 'cast(f"uint{width}_t"', [USUAL]),
     ("instructions.py", '"lt": "<", "le"', '"lt": "<=", "le"', [USUAL]),
@@ -130,14 +145,14 @@ FAULTS = [
     ("functions.py", "other.value = Expression(kept, frozenset([kept]))", "pass", [USUAL]),
     (
         "functions.py",
-        "for it in made.operands)\n        self.settle()",
-        "for it in made.operands)",
+        "place = pointer(place)\n        self.settle()",
+        "place = pointer(place)",
         [USUAL],
     ),
     (
         "functions.py",
-        "for it in made.operands]\n        self.settle()",
-        "for it in made.operands]",
+        "enumerate(made.operands)\n        ]\n        self.settle()",
+        "enumerate(made.operands)\n        ]",
         [USUAL],
     ),
     (
@@ -197,7 +212,7 @@ FAULTS = [
     # Other processors
     ("wrappers.py", 'self.after.append(f"*{it.name}', 'self.before.append(f"*{it.name}', ["i386"]),
     ("wrappers.py", "            self.after.append(line)\n", "", ["s390x"]),
-    ("wrappers.py", '        self.freed.append(f"if', '        (lambda _: None)(f"if', ["s390x"]),
+    ("wrappers.py", 'KOMBILAD_FREE({copy});" for', ';" for', ["s390x"]),
     ("wrappers.py", '"uint32_t": 4}', '"uint32_t": 8}', ["s390x"]),
 ]
 

@@ -6,7 +6,7 @@ import re
 from instructions import Pure, constant, in_array, stored_name
 from ir import I8, I32, I64, POINTER, VARIADIC, VOID, Integer, Struct, Unknown, Vector
 from ir import name_of, stored_bytes
-from values import Expression, c_type, has_lanes, lanes_of, literal
+from values import Expression, c_type, has_lanes, lanes_of, literal, pointer, widened
 
 # Calls that are written as statements.
 TRAP = "llvm.trap"
@@ -100,12 +100,14 @@ class Move:
 
 
 class Writer:
-    """Writes the body of one function. `names` has the C names of functions and constants."""
+    """Writes the body of one function. `names` has the C names of functions and constants, and
+    `copies` the pointers that are kept as numbers."""
 
-    def __init__(self, function, names, constants, structs):
+    def __init__(self, function, names, constants, structs, copies):
         self.function, self.names, self.constants = function, names, constants
-        self.structs = structs
-        self.pure = Pure(self.operand)
+        self.structs, self.copies = structs, copies
+        self.wide = copies.locals[function.name]
+        self.pure = Pure(self.operand, self.wide)
         self.lines, self.declared, self.arrays = [], {}, []
         self.known, self.pending, self.kinds = {}, {}, {}
         self.parameters = []
@@ -185,7 +187,7 @@ class Writer:
 
     def take(self, made, value, block):
         """Keeps the value of an instruction for its use: as an expression, or in a variable."""
-        kind = self.type_of(made.kind)
+        kind = self.type_of_value(made.kind, value)
         uses = self.uses.get(made.result, [])
         is_place = not value.reads and not value.loads and value.within
         if is_place or (value.text in self.names_known() and not value.loads):
@@ -204,7 +206,10 @@ class Writer:
     def assign(self, result, kind, value):
         name = self.declare(kind)
         self.lines.append(f"{name} = {value.text};")
-        self.known[result] = Expression(name, frozenset([name]))
+        self.known[result] = Expression(name, frozenset([name]), is_wide=value.is_wide)
+
+    def type_of_value(self, kind, value):
+        return "u64" if value.is_wide else self.type_of(kind)
 
     def settle(self):
         """Assigns each pending load to a variable, before a statement that may change memory."""
@@ -212,12 +217,13 @@ class Writer:
             value = self.pending[name]
             if value.loads:
                 del self.pending[name]
-                self.assign(name, self.type_of(self.made[name].kind), value)
+                self.assign(name, self.type_of_value(self.made[name].kind, value), value)
 
     # ---- Statements
 
     def write_store(self, made):
         value, place = (self.operand(it) for it in made.operands)
+        place = pointer(place)
         self.settle()
         kind = made.operands[0].kind
         if kind == I8:
@@ -226,7 +232,8 @@ class Writer:
         if isinstance(kind, Struct):
             raise Unknown(f"a store of a struct: {made.line}")
         size = stored_bytes(kind)
-        name = f"u{size * 8}" if isinstance(kind, Integer) else stored_name(kind)
+        is_number = isinstance(kind, Integer) or value.is_wide
+        name = f"u{size * 8}" if is_number else stored_name(kind)
         self.lines.append(f"st_{name}({place.text}, {value.text});")
 
     def write_memory(self, made):
@@ -234,7 +241,7 @@ class Writer:
         callee = made.words["callee"].split(".")[1]
         if made.operands[3].value:
             raise Unknown(f"a volatile access: {made.line}")
-        first, second, size = (self.operand(it) for it in made.operands[:3])
+        first, second, size = (pointer(self.operand(it)) for it in made.operands[:3])
         self.settle()
         length = made.operands[2]
         if length.sort == "number":
@@ -249,7 +256,10 @@ class Writer:
             self.settle()
             self.lines.append("abort();")
             return
-        parts = [self.operand(it) for it in made.operands]
+        copied = self.copies.parameters.get(callee, ())
+        parts = [
+            self.passed(it, self.operand(it), at in copied) for at, it in enumerate(made.operands)
+        ]
         self.settle()
         name = self.names.get(callee, callee)
         if callee in HOST and callee not in self.names:
@@ -260,8 +270,17 @@ class Writer:
         kind = self.type_of(made.kind)
         if made.result is None or made.result not in self.uses:
             self.lines.append(text + ";")
+        elif callee in self.copies.results:
+            self.assign(made.result, "u64", Expression(text, is_wide=True))
         else:
             self.assign(made.result, kind, literal(text))
+
+    def passed(self, operand, value, is_copied):
+        """Returns a value as it is assigned, passed or returned: a pointer of C, unless it is kept as
+        a number."""
+        if operand.kind != POINTER:
+            return value
+        return widened(value) if is_copied else pointer(value)
 
     def write_alloca(self, made):
         """Declares an array. Its type has its alignment up to 8, since some compilers don't support
@@ -291,10 +310,10 @@ class Writer:
             ]
             if not values or any(it != values[0] for it in values):
                 raise Unknown(f"the values of a phi: {phi.line}")
-            target = self.known[phi.result].text
-            value = self.operand(values[0])
-            if value.text != target:
-                moves.append(Move(target, value, self.type_of(phi.kind)))
+            target = self.known[phi.result]
+            value = self.passed(phi, self.operand(values[0]), target.is_wide)
+            if value.text != target.text:
+                moves.append(Move(target.text, value, self.type_of_value(phi.kind, target)))
         lines = []
         while moves:
             free = next(
@@ -322,8 +341,9 @@ class Writer:
         if end.op == "unreachable":
             self.lines.append("UNREACHABLE();")
         elif end.op == "ret":
-            value = f" {self.operand(end.operands[0]).text}" if end.operands else ""
-            self.lines.append(f"return{value};")
+            is_copied = self.function.name in self.copies.results
+            values = [self.passed(it, self.operand(it), is_copied) for it in end.operands]
+            self.lines.append("".join(["return", *(f" {it.text}" for it in values), ";"]))
         elif end.op == "switch":
             self.write_switch(block, labels)
         elif len(labels) == 1 or labels[0] == labels[1]:
@@ -363,15 +383,18 @@ class Writer:
         parameters that it doesn't use."""
         function = self.function
         parts, self.parameters, self.unused = [], set(), []
-        for kind, name in function.parameters:
+        copied = self.copies.parameters[function.name]
+        for at, (kind, name) in enumerate(function.parameters):
             text = self.new_name("p")
-            parts.append(f"{self.type_of(kind)} {text}")
-            self.known[name] = Expression(text, frozenset())
+            self.known[name] = Expression(text, frozenset(), is_wide=at in copied)
+            parts.append(f"{self.type_of_value(kind, self.known[name])} {text}")
             self.parameters.add(text)
             if name not in self.uses:
                 self.unused.append(f"(void){text};")
         arguments = ", ".join(parts) or "void"
-        return f"static {self.type_of(function.result)} {self.names[function.name]}({arguments})"
+        is_copied = function.name in self.copies.results
+        result = "u64" if is_copied else self.type_of(function.result)
+        return f"static {result} {self.names[function.name]}({arguments})"
 
     def write(self):
         """Returns the head of the function and its lines."""
@@ -383,8 +406,9 @@ class Writer:
         for block in blocks:
             for phi in block.phis:
                 if phi in self.needed:
-                    name = self.declare(self.type_of(phi.kind))
-                    self.known[phi.result] = Expression(name, frozenset([name]))
+                    is_wide = phi.result in self.wide
+                    name = self.declare("u64" if is_wide else self.type_of(phi.kind))
+                    self.known[phi.result] = Expression(name, frozenset([name]), is_wide=is_wide)
         for block in self.ordered(blocks):
             self.lines.append(f"{self.labels[block.name]}:")
             for made in block.body:

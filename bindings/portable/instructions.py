@@ -21,10 +21,13 @@ from values import (
     lanes_of,
     literal,
     number,
+    part_of,
     parts_of,
+    pointer,
     structure,
     vector_of,
     vector_type,
+    widened,
     zero,
 )
 
@@ -122,16 +125,23 @@ def stored_name(kind):
 
 
 class Pure:
-    """Writes instructions as expressions. `express` returns the expression of an operand."""
+    """Writes instructions as expressions. `express` returns the expression of an operand. `wide` are
+    the names of the pointers that are kept as numbers."""
 
-    def __init__(self, express):
-        self.express = express
+    def __init__(self, express, wide):
+        self.express, self.wide = express, wide
 
     def write(self, made):
         """Returns the expression of an instruction that neither writes nor calls a function."""
         # The indices of a shuffle have no expression.
         operands = made.operands[:2] if made.op == "shufflevector" else made.operands
         parts = [self.express(it) for it in operands]
+        if made.op not in ("insertvalue", "ptrtoint", "ptrtoaddr"):
+            kept = widened if made.op != "load" and made.result in self.wide else pointer
+            parts = [
+                kept(part) if isinstance(it.kind, Pointer) else part
+                for it, part in zip(operands, parts)
+            ]
         if made.op in OPERATORS or made.op in ("sdiv", "srem", "ashr"):
             return self.binary(made, *parts)
         if made.op in FLOATS:
@@ -277,7 +287,8 @@ class Pure:
                 return combine("{} && {}", condition, first)
             if made.operands[1].sort == "number" and made.operands[1].value:
                 return combine("{} || {}", condition, second)
-        return combine("{} ? {} : {}", condition, first, second)
+        chosen = combine("{} ? {} : {}", condition, first, second)
+        return dataclasses.replace(chosen, is_wide=made.result in self.wide)
 
     def write_freeze(self, made, part):
         return part
@@ -331,7 +342,7 @@ class Pure:
         return self.cut(bits, part, width)
 
     def write_ptrtoint(self, made, part):
-        wide = call("address_of", part)
+        wide = dataclasses.replace(widened(part), is_wide=False)
         if made.kind.bits > 64:
             raise Unknown(f"a pointer in {made.kind.bits} bits: {made.line}")
         return wide if made.kind.bits == 64 else self.cut(made.kind.bits, wide, 64)
@@ -369,17 +380,14 @@ class Pure:
     # ---- Structs
 
     def write_extractvalue(self, made, part):
-        index = made.words["index"]
-        if part.fields:
-            return part.fields[index]
-        return Expression(f"{part.operand}.f{index}", part.reads, part.loads)
+        return part_of(part, made.kind, made.words["index"])
 
     def write_insertvalue(self, made, whole, item):
         return self.replaced(made.kind, made.words["index"], whole, item)
 
     def replaced(self, kind, index, whole, item):
         """Returns a struct with one part replaced."""
-        fields = parts_of(whole, len(kind.fields))
+        fields = parts_of(whole, kind.fields)
         return structure(kind, fields[:index] + (item,) + fields[index + 1 :])
 
     # ---- Vectors
@@ -397,7 +405,8 @@ class Pure:
 
     def lanes_binary(self, made, first, second):
         """Writes an operation of vectors that are structs of their numbers."""
-        pairs = zip(parts_of(first, made.kind.count), parts_of(second, made.kind.count))
+        kinds = lanes_of(made.kind).fields
+        pairs = zip(parts_of(first, kinds), parts_of(second, kinds))
         values = []
         for at, pair in enumerate(pairs):
             operands = [self.lane_operand(it, at) for it in made.operands]
@@ -415,7 +424,7 @@ class Pure:
 
     def halves(self, kind, whole):
         """Returns the bytes of a vector as two numbers of 64 bits."""
-        bits, parts = kind.item.bits, parts_of(whole, kind.count)
+        bits, parts = kind.item.bits, parts_of(whole, lanes_of(kind).fields)
         found = []
         for begin in (0, kind.count // 2):
             made = cast("u64", parts[begin])
@@ -454,7 +463,7 @@ class Pure:
     def write_extractelement(self, made, whole, _):
         kind = made.operands[0].kind
         if has_lanes(kind):
-            return parts_of(whole, kind.count)[self.place(made, made.operands[1])]
+            return part_of(whole, kind.item, self.place(made, made.operands[1]))
         vector_type(kind)
         if kind.item != I8:
             raise Unknown(f"an item of truths: {made.line}")
@@ -475,7 +484,8 @@ class Pure:
         bytes, or all bytes are the same one."""
         source, places = made.operands[0].kind, self.places(made)
         if has_lanes(source) and has_lanes(made.kind):
-            items = parts_of(first, source.count) + parts_of(second, source.count)
+            kinds = lanes_of(source).fields
+            items = parts_of(first, kinds) + parts_of(second, kinds)
             return structure(lanes_of(made.kind), tuple(items[it or 0] for it in places))
         name, count = vector_type(made.kind), source.count
         if source.item != I8 or count < 16 or made.kind.count < 16:
@@ -526,13 +536,14 @@ class Pure:
         if isinstance(kind, Struct):
             raise Unknown(f"a load of a struct: {made.line}")
         size = stored_bytes(kind)
+        is_wide = made.result in self.wide
         if kind == I8:
             text = combine("*{}", place)
-        elif isinstance(kind, Integer):
+        elif isinstance(kind, Integer) or is_wide:
             text = call(f"ld_u{size * 8}", place)
         else:
             text = call(f"ld_{stored_name(kind)}", place)
-        return Expression(text.text, text.reads, True, text.is_atom, text.depth)
+        return dataclasses.replace(text, loads=True, is_wide=is_wide)
 
     def write_getelementptr(self, made, base, *indices):
         offset, moved = 0, []

@@ -17,6 +17,7 @@ sys.dont_write_bytecode = True
 from functions import ALLOCATING, EXTERNALS, Writer, check_declared, host_declarations  # noqa: E402
 from functions import is_intrinsic  # noqa: E402
 from ir import I32, Unknown  # noqa: E402
+from pointers import Copies  # noqa: E402
 from prelude import HEAD, TAIL, used_pieces  # noqa: E402
 from reading import read_module  # noqa: E402
 from values import struct_definition  # noqa: E402
@@ -131,8 +132,9 @@ def translate(text, about, header=None):
         names[name] = short_name(name, at)
     for at, (name, it) in enumerate(module.constants.items()):
         names[name] = f"g{at}.b" if it.alignment > 1 else f"g{at}"
+    copies = Copies({name: module.functions[name] for name in order})
     for name in order:
-        writer = Writer(module.functions[name], names, module.constants, structs)
+        writer = Writer(module.functions[name], names, module.constants, structs, copies)
         head, lines = writer.write()
         bodies.append((name, head, "\n".join(indented(lines))))
     code = "\n".join(it for _, *parts in bodies for it in parts)

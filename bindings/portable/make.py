@@ -48,7 +48,7 @@ COPIES = {TOP / "bindings" / "go" / it: DIST / it for it in ("kombilad.c", "komb
 TRANSLATOR = [
     HERE / f"{it}"
     for it in "make.py modules.py ir2c.py tokens.py reading.py ir.py values.py instructions.py"
-    " functions.py prelude.py prelude.c wrappers.py features.ll".split()
+    " pointers.py functions.py prelude.py prelude.c wrappers.py features.ll".split()
 ]
 
 

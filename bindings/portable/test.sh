@@ -1,7 +1,7 @@
 #!/bin/sh
 # Makes the C files of the library and of the programs, and tests them. It tests each instruction
-# that the translator knows, compares each call with the library for x86-64, and runs the programs.
-# It also tests on other processors, with fewer inputs. The file of `ipld` is that in dist/ if that
+# that the translator knows, compares calls with the library for x86-64, and runs the programs. It
+# also tests on other processors, with fewer inputs, and makes each call there. The file of `ipld` is that in dist/ if that
 # was made from the current sources, otherwise one without proofs. With --unproved all modules are
 # without proofs.
 set -eu
@@ -25,6 +25,21 @@ mkdir -p "$out"
 ./test_ir2c.py --inputs 64 "gcc -O0" "gcc -O2" "clang -O2" tcc aarch64 riscv64 s390x i386
 compare/same.py "$out" "$library" --cases 50 "gcc -O2" "clang -O2" "gcc sanitized"
 compare/same.py "$out" "$library" --cases 1 musl-gcc aarch64 riscv64 s390x i386
+
+# The calls of the library on other processors: PROCESSOR COMPILER..
+calls() {
+    processor=$1
+    shift
+    "$@" -std=c11 -O1 -static -Wall -Wextra -Werror -I"$out" ../test/calls.c "$out/kombilad.c" -pthread \
+        -Wl,--wrap=malloc,--wrap=realloc,--wrap=free -o "$out/calls-$processor"
+    "qemu-$processor" "$out/calls-$processor"
+    echo "bindings/portable/test.sh: the calls on $processor: ok"
+}
+
+calls aarch64 aarch64-linux-gnu-gcc
+calls riscv64 riscv64-linux-gnu-gcc
+calls s390x s390x-linux-gnu-gcc
+calls i386 i686-linux-gnu-gcc -msse2 -mfpmath=sse
 
 # Builds a program, and runs it: FOLDER NAME RUNS COMPILER..
 program() {

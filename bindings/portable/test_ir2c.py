@@ -20,7 +20,7 @@ sys.dont_write_bytecode = True
 HERE = pathlib.Path(__file__).resolve().parent
 sys.path.insert(0, str(HERE))
 sys.path.insert(1, str(HERE.parent.parent / ".ci"))
-from block_cases import blocks, calls, places  # noqa: E402
+from block_cases import blocks, calls, copies, places  # noqa: E402
 from compilers import COMPILERS, command  # noqa: E402
 from float_cases import floats  # noqa: E402
 from functions import HOST, host_declarations  # noqa: E402
@@ -65,7 +65,7 @@ def all_cases():
     cases = Cases()
     for add in (arithmetic, division, checks, conversions, truths, intrinsics, copied, order):
         add(cases)
-    for add in (places, blocks, calls, vectors, lanes, floats):
+    for add in (places, blocks, copies, calls, vectors, lanes, floats):
         add(cases)
     return cases
 

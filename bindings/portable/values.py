@@ -19,6 +19,8 @@ from ir import (
     name_of,
 )
 
+# The pointer that is null.
+NULL = "(P)0"
 # The maximum depth of an expression. C99 guarantees 63 levels of parentheses.
 DEEPEST = 12
 LONGEST = 160
@@ -31,6 +33,7 @@ class Expression:
     `reads` are the variables that it reads. `loads` is whether it reads memory, and `is_atom`
     whether it is an operand without parentheses. `within` is the array that it points into, the
     offset and the array's size. `fields` are the parts of a struct that isn't written yet.
+    `is_wide` is whether it is a pointer as a number of 64 bits.
     """
 
     text: str
@@ -40,6 +43,7 @@ class Expression:
     depth: int = 0
     within: Optional[Tuple[str, int, int]] = None
     fields: Optional[tuple] = None
+    is_wide: bool = False
 
     @property
     def operand(self):
@@ -76,6 +80,19 @@ def cast(to, part):
 
 def literal(text):
     return Expression(text)
+
+
+def pointer(part):
+    """Returns a pointer as one of C."""
+    return cast("P", cast("uintptr_t", part)) if part.is_wide else part
+
+
+def widened(part):
+    """Returns a pointer as a number of 64 bits."""
+    if part.is_wide:
+        return part
+    made = literal("0ull") if part.text == NULL else call("address_of", part)
+    return dataclasses.replace(made, is_wide=True)
 
 
 # ---- Types
@@ -131,12 +148,17 @@ def c_type(kind):
     if isinstance(kind, Struct):
         if not kind.fields or any(isinstance(it, (Struct, Vector)) for it in kind.fields):
             raise Unknown(f"a value of {name_of(kind)}")
-        return "S_" + "_".join(map(c_type, kind.fields))
+        return "S_" + "_".join(map(field_type, kind.fields))
     raise Unknown(f"a value of {name_of(kind)}")
 
 
+def field_type(kind):
+    """Returns the C type of a part of a struct. A pointer there is a number."""
+    return "u64" if isinstance(kind, Pointer) else c_type(kind)
+
+
 def struct_definition(kind):
-    fields = " ".join(f"{c_type(it)} f{place};" for place, it in enumerate(kind.fields))
+    fields = " ".join(f"{field_type(it)} f{place};" for place, it in enumerate(kind.fields))
     return f"typedef struct {{ {fields} }} {c_type(kind)};"
 
 
@@ -162,7 +184,7 @@ def zero(kind):
     if isinstance(kind, (Integer, Double)):
         return number(kind.bits, 0)
     if isinstance(kind, Pointer):
-        return literal("(P)0")
+        return literal(NULL)
     if has_lanes(kind):
         return zero(lanes_of(kind))
     if isinstance(kind, Vector):
@@ -172,15 +194,24 @@ def zero(kind):
     raise Unknown(f"a zero of {name_of(kind)}")
 
 
-def parts_of(whole, count):
-    """Returns the parts of a struct."""
-    return whole.fields or tuple(
-        Expression(f"{whole.operand}.f{at}", whole.reads, whole.loads) for at in range(count)
-    )
+def part_of(whole, kind, at):
+    """Returns a part of this type of a struct."""
+    if whole.fields:
+        return whole.fields[at]
+    is_wide = isinstance(kind, Pointer)
+    return Expression(f"{whole.operand}.f{at}", whole.reads, whole.loads, is_wide=is_wide)
+
+
+def parts_of(whole, kinds):
+    """Returns the parts of a struct with these types."""
+    return tuple(part_of(whole, kind, at) for at, kind in enumerate(kinds))
 
 
 def structure(kind, fields):
     """Returns a struct with these fields."""
+    fields = tuple(
+        widened(it) if isinstance(of, Pointer) else it for of, it in zip(kind.fields, fields)
+    )
     text = f"({c_type(kind)}){{ {', '.join(it.text for it in fields)} }}"
     return dataclasses.replace(joined(text, fields, True), fields=fields)
 

@@ -161,7 +161,7 @@ class Wrapper:
 
     def __init__(self, call, callee, records):
         self.call, self.callee, self.records = call, callee, records
-        self.declared, self.before, self.after, self.freed = [], [], [], []
+        self.declared, self.before, self.after, self.copies = [], [], [], []
 
     def argument(self, it):
         """Returns the argument for a parameter, and adds the lines before and after the call."""
@@ -188,18 +188,27 @@ class Wrapper:
         """Returns the argument for constant records. They are copied if the byte order differs."""
         copy = f"{it.name}_copy"
         self.declared.append(f"{it.type} *{copy} = NULL;")
-        self.before.insert(
-            0,
-            f"""if (!IS_LITTLE && {it.count}) {{
-        if ({it.count} > PTRDIFF_MAX / sizeof *{copy}) return KOMBILAD_NO_MEMORY;
-        {copy} = ({it.type} *)KOMBILAD_MALLOC({it.count} * sizeof *{copy});
-        if (!{copy}) return KOMBILAD_NO_MEMORY;
+        free_earlier = "".join(f"{line}\n            " for line in self.freed)
+        self.copies.append(
+            (
+                copy,
+                f"""if (!IS_LITTLE && {it.count}) {{
+        if ({it.count} <= PTRDIFF_MAX / sizeof *{copy})
+            {copy} = ({it.type} *)KOMBILAD_MALLOC({it.count} * sizeof *{copy});
+        if (!{copy}) {{
+            {free_earlier}return KOMBILAD_NO_MEMORY;
+        }}
         memcpy({copy}, {it.name}, {it.count} * sizeof *{copy});
         {order}({copy}, {it.count});
     }}""",
+            )
         )
-        self.freed.append(f"if ({copy}) KOMBILAD_FREE({copy});")
         return f"{copy} ? (P){copy} : (P){it.name}"
+
+    @property
+    def freed(self):
+        """Returns the lines that free the copies."""
+        return [f"if ({copy}) KOMBILAD_FREE({copy});" for copy, _ in self.copies]
 
     def write(self):
         call = self.call
@@ -208,7 +217,7 @@ class Wrapper:
         head = f"{call.result} {call.name}({', '.join(it.written for it in call.parameters) or 'void'}) {{"
         value = "return " if call.result != "void" else ""
         straight = f"    {value}{self.callee}({', '.join(plain)});"
-        if not self.declared and not self.before:
+        if not self.declared and not self.before and not self.copies:
             return "\n".join([head, straight, "}"])
         result = [f"    {call.result} result;"] if value else []
         return "\n".join(
@@ -219,6 +228,7 @@ class Wrapper:
                 "#else",
                 *(f"    {it}" for it in self.declared),
                 *result,
+                *(f"    {text}" for _, text in self.copies),
                 *(f"    {it}" for it in self.before),
                 f"    {'result = ' if value else ''}{self.callee}({', '.join(parts)});",
                 *(f"    {it}" for it in self.after + self.freed),
