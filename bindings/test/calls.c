@@ -1117,6 +1117,9 @@ static uint32_t call_file(bytes root, void *out, size_t len, size_t *needed) {
 #define PLAIN_ROOT "1220c9e9e20233f046586e7d96b6d446c14971564ca34e3d1376e03141bf61fb2ddf"
 #define PLAIN \
     "122b0a24" HI "120161180212290a22" TO_A "12016218070a12080138ed03420b0880e2cfaa061505000000"
+#define PLAIN_TOTAL 9 + (sizeof PLAIN - 1) / 2
+#define SHARD_TOTAL 2 + (sizeof SHARD_TOP - 1) / 2 + SHARD_REST_TOTAL
+#define SHARD_REST_TOTAL 4 + (sizeof SHARD_REST - 1) / 2
 #define SHARD_ROOT "0170122046ed5af0849f77d3eff2f726c85213d771b0c899b7c0f6a2c2371098f051e442"
 #define SHARD_BELOW "01701220f622ff4b593d35ad731c47a3c5f70c3daae91f0b1ccd384adbe5ca31847eb07a"
 #define NAME_016 "6c6f6e672d6e616d65642d66696c652d303136"
@@ -1280,8 +1283,9 @@ static uint32_t look_for(const char *folder, const char *name, size_t name_len,
                          const char *const *blocks, size_t count, const char *expected, size_t at) {
     bytes root = from_hex(folder), wanted = from_hex(expected ? expected : "");
     uint8_t *room = malloc(4096);
-    kombilad_span spans[4];
+    kombilad_span spans[4] = {{0, 0}};
     size_t used = 0, place = 7;
+    memset(room, '#', 4096);
     for (size_t i = count; i-- > 0;) {
         bytes block = from_hex(blocks[i]);
         memcpy(room + used, block.at, block.len);
@@ -1471,6 +1475,330 @@ static uint32_t call_node(bytes root, void *out, size_t len, size_t *needed) {
                                 target, sizeof target, &count, &place);
 }
 
+/* ---- Packing */
+
+#define HEADER "11a265726f6f7473806776657273696f6e01"
+#define HEADER_OF_V0 "38a265726f6f747381d82a582300" V0 "6776657273696f6e01"
+
+static uint32_t begin_pack(uint32_t version, uint32_t raw, size_t links,
+                           kombilad_packing *packing) {
+    return kombilad_pack_file(version, raw, links, packing);
+}
+
+static uint32_t pack_chunk(kombilad_packing *packing, const char *text) {
+    return kombilad_pack_chunk(packing, (const uint8_t *)text, strlen(text));
+}
+
+static uint32_t pack_last(kombilad_packing *packing, const char *text, kombilad_node attributes) {
+    return kombilad_pack_last_chunk(packing, (const uint8_t *)text, strlen(text), &attributes);
+}
+
+static uint32_t pack_link(const char *target, size_t len, uint32_t version,
+                          kombilad_node attributes, kombilad_packing *packing) {
+    return kombilad_pack_symlink(version, &attributes, (const uint8_t *)target, len, packing);
+}
+
+/* Whether the next block has this CID, these bytes and these sizes. A buffer that is too short is
+ * tried first. */
+static bool takes(kombilad_packing *packing, const char *cid, const char *digits, uint64_t size,
+                  uint64_t total) {
+    bytes link = from_hex(cid), block = from_hex(digits);
+    kombilad_packed_block row;
+    uint8_t out[600];
+    size_t needed = 7;
+    memset(&row, '#', sizeof row), memset(out, '#', sizeof out);
+    CHECK_OF(cid,
+             kombilad_pack_take(packing, &row, out, block.len - 1, &needed) == KOMBILAD_TOO_SHORT);
+    CHECK_OF(cid, needed == block.len && is_all((uint8_t *)&row, sizeof row, '#'));
+    CHECK_OF(cid, is_all(out, sizeof out, '#'));
+    needed = 7;
+    bool same = kombilad_pack_take(packing, &row, out, sizeof out, &needed) == KOMBILAD_OK &&
+                needed == block.len && memcmp(out, block.at, block.len) == 0 &&
+                is_all(out + needed, sizeof out - needed, '#') && row.cid.len == link.len &&
+                memcmp(row.cid.bytes, link.at, link.len) == 0 &&
+                is_all(row.cid.bytes + link.len, 87 - link.len, 0) && row.size == size &&
+                row.total == total;
+    free(link.at), free(block.at);
+    return same;
+}
+
+/* Returns what taking a block returns if none waits or nothing is packed. Nothing is written. */
+static uint32_t takes_none(kombilad_packing *packing) {
+    kombilad_packed_block row;
+    uint8_t out[8];
+    size_t needed = 7;
+    memset(&row, '#', sizeof row), memset(out, '#', sizeof out);
+    uint32_t status = kombilad_pack_take(packing, &row, out, sizeof out, &needed);
+    CHECK(needed == 7 && is_all((uint8_t *)&row, sizeof row, '#'));
+    CHECK(is_all(out, sizeof out, '#'));
+    return status;
+}
+
+/* The file "hi" with the mode 0644, by the format, and the empty file of `ipfs add`. */
+#define HI_644 "0170122063d399490cfb80f243e74c5407e2ed2a1ba7f25ff9baead9bb186cbc0e1323eb"
+#define EMPTY_FILE "1220bfccda787baba32b59c78450ac3d20b633360b43992c77289f9ed46d843561e6"
+
+static const kombilad_node bare = {0};
+
+static void check_packed_files(void) {
+    static const char *const chunks[] = {"fo", "ob", "ar"};
+    kombilad_packing packing = {0};
+    kombilad_node timed = {.fields = KOMBILAD_NODE_TIME, .nanoseconds = 1000000000};
+    kombilad_node ignored = {.kind = 5, .size = 9, .seconds = 7, .nanoseconds = 7, .mode = 7};
+    long before = held;
+    /* Nothing is packed. */
+    CHECK(pack_chunk(&packing, "x") == KOMBILAD_WALK_CLOSED);
+    CHECK(pack_last(&packing, "x", bare) == KOMBILAD_WALK_CLOSED);
+    CHECK(takes_none(&packing) == KOMBILAD_WALK_CLOSED);
+    kombilad_pack_free(&packing);
+    CHECK(begin_pack(0, 0, 1, &packing) == KOMBILAD_PACK_WIDTH);
+    CHECK(begin_pack(2, 0, 2, &packing) == KOMBILAD_CID_UNKNOWN_VERSION);
+    CHECK(begin_pack(UINT32_MAX, 0, 0, &packing) == KOMBILAD_CID_UNKNOWN_VERSION);
+    CHECK(packing.is_open == 0 && held == before);
+    /* The empty file. Attributes are read by their fields alone. */
+    CHECK(begin_pack(0, 0, KOMBILAD_PACK_LINKS, &packing) == KOMBILAD_OK);
+    CHECK(takes_none(&packing) == KOMBILAD_WALK_DONE);
+    CHECK(pack_last(&packing, "", ignored) == KOMBILAD_OK);
+    CHECK(takes(&packing, EMPTY_FILE, "0a0408021800", 0, 6));
+    CHECK(takes_none(&packing) == KOMBILAD_WALK_DONE);
+    CHECK(pack_chunk(&packing, "x") == KOMBILAD_WALK_CLOSED);
+    CHECK(pack_last(&packing, "x", bare) == KOMBILAD_WALK_CLOSED);
+    /* A file of four chunks, whose node is the last block. */
+    CHECK(begin_pack(0, 0, 4, &packing) == KOMBILAD_OK);
+    for (size_t at = 0; at < COUNT(chunks); at++) {
+        CHECK(pack_chunk(&packing, chunks[at]) == KOMBILAD_OK);
+        CHECK(pack_chunk(&packing, "x") == KOMBILAD_PACK_WAITING);
+        CHECK(pack_last(&packing, "x", bare) == KOMBILAD_PACK_WAITING);
+        CHECK(takes(&packing, file_parts[at + 1].cid, file_parts[at + 1].block, 2, 10));
+        CHECK(takes_none(&packing) == KOMBILAD_WALK_DONE);
+    }
+    CHECK(pack_last(&packing, "\n", bare) == KOMBILAD_OK);
+    CHECK(takes(&packing, file_parts[4].cid, file_parts[4].block, 1, 9));
+    CHECK(pack_last(&packing, "", bare) == KOMBILAD_PACK_WAITING);
+    CHECK(takes(&packing, FILE_ROOT, file_parts[0].block, 7, 221));
+    CHECK(takes_none(&packing) == KOMBILAD_WALK_DONE);
+    /* A raw leaf of version 1. With a mode it is a node. */
+    CHECK(begin_pack(0, 7, 2, &packing) == KOMBILAD_OK);
+    CHECK(pack_last(&packing, "hi", bare) == KOMBILAD_OK);
+    CHECK(takes(&packing, HI, "6869", 2, 2));
+    CHECK(begin_pack(1, 1, 2, &packing) == KOMBILAD_OK);
+    kombilad_node mode = {.fields = KOMBILAD_NODE_MODE, .mode = 0644};
+    CHECK(pack_last(&packing, "hi", mode) == KOMBILAD_OK);
+    CHECK(takes(&packing, HI_644,
+                "0a0b08021202686918"
+                "0238a403",
+                2, 13));
+    /* An error of the last chunk ends the file. */
+    CHECK(begin_pack(0, 0, 2, &packing) == KOMBILAD_OK);
+    CHECK(pack_last(&packing, "", timed) == KOMBILAD_PACK_NANOSECONDS);
+    CHECK(takes_none(&packing) == KOMBILAD_WALK_DONE);
+    CHECK(pack_last(&packing, "", bare) == KOMBILAD_WALK_CLOSED);
+    kombilad_pack_free(&packing);
+    CHECK(packing.is_open == 0 && takes_none(&packing) == KOMBILAD_WALK_CLOSED);
+    CHECK(held == before);
+}
+
+/* Packs a folder of two entries. */
+static uint32_t pack_two(const char *first, const char *other, const char *name, size_t name_len,
+                         uint32_t version, kombilad_node attributes, kombilad_packing *packing,
+                         size_t *place) {
+    kombilad_folder_entry entries[2] = {{.name = {1, 1}, .tsize = 2}, {.tsize = 7}};
+    bytes a = from_hex(first), b = from_hex(other);
+    uint8_t names[32] = "#a";
+    memcpy(entries[0].cid.bytes, a.at, a.len), entries[0].cid.len = (uint8_t)a.len;
+    memcpy(entries[1].cid.bytes, b.at, b.len), entries[1].cid.len = (uint8_t)b.len;
+    memcpy(names + 2, name, name_len);
+    entries[1].name = (kombilad_span){2, name_len};
+    uint32_t status = kombilad_pack_folder(version, &attributes, KOMBILAD_PACK_SHARDED_ABOVE,
+                                           entries, 2, names, 2 + name_len, packing, place);
+    free(a.at), free(b.at);
+    return status;
+}
+
+static void check_packed_folders(void) {
+    static const struct {
+        const char *first, *other, *name;
+        size_t len;
+        uint32_t status;
+        size_t place;
+    } wrong[] = {
+        {"0170", TO_A, "b", 1, KOMBILAD_CID_END, 0},
+        {HI, "0170", "b", 1, KOMBILAD_CID_END, 1},
+        {HI, TO_A, "\xff", 1, KOMBILAD_TEXT_UTF8, 1},
+        {HI, TO_A, "", 0, KOMBILAD_PACK_INVALID_NAME, 1},
+        {HI, TO_A, "..", 2, KOMBILAD_PACK_INVALID_NAME, 1},
+        {HI, TO_A, "b/c", 3, KOMBILAD_PACK_INVALID_NAME, 1},
+        {HI, TO_A, "b\0c", 3, KOMBILAD_PACK_INVALID_NAME, 1},
+        {HI, TO_A, "a", 1, KOMBILAD_PACK_NAME_ORDER, 1},
+        {HI, TO_A, "Z", 1, KOMBILAD_PACK_NAME_ORDER, 1},
+    };
+    kombilad_packing packing = {0};
+    kombilad_node timed = {.fields = KOMBILAD_NODE_TIME, .nanoseconds = 1000000000};
+    kombilad_node dated = {.fields = KOMBILAD_NODE_MODE | KOMBILAD_NODE_TIME,
+                           .seconds = 1700000000,
+                           .nanoseconds = 5,
+                           .mode = 0755};
+    size_t place = 7;
+    long before = held;
+    /* A symbolic link, and the folder with it. */
+    CHECK(pack_link("a", 1, 0, bare, &packing) == KOMBILAD_OK);
+    CHECK(pack_chunk(&packing, "x") == KOMBILAD_PACK_WAITING);
+    CHECK(takes(&packing, TO_A, "0a050804120161", 0, 7));
+    CHECK(pack_chunk(&packing, "x") == KOMBILAD_WALK_CLOSED);
+    CHECK(pack_last(&packing, "x", bare) == KOMBILAD_WALK_CLOSED);
+    CHECK(pack_link("\xff", 1, 0, bare, &packing) == KOMBILAD_TEXT_UTF8);
+    CHECK(pack_link("\xff", 1, 2, bare, &packing) == KOMBILAD_CID_UNKNOWN_VERSION);
+    CHECK(pack_link("a", 1, 0, timed, &packing) == KOMBILAD_PACK_NANOSECONDS);
+    CHECK(takes_none(&packing) == KOMBILAD_WALK_DONE);
+    CHECK(pack_two(HI, TO_A, "b", 1, 0, dated, &packing, &place) == KOMBILAD_OK);
+    CHECK(place == 7);
+    /* With an error what is packed stays. */
+    CHECK(pack_two(HI, TO_A, "b", 1, 2, bare, &packing, &place) == KOMBILAD_CID_UNKNOWN_VERSION);
+    CHECK(place == 7);
+    for (size_t at = 0; at < COUNT(wrong); at++) {
+        place = 7;
+        CHECK_OF(wrong[at].name,
+                 pack_two(wrong[at].first, wrong[at].other, wrong[at].name, wrong[at].len, 0, bare,
+                          &packing, &place) == wrong[at].status);
+        CHECK_OF(wrong[at].name, place == wrong[at].place);
+    }
+    CHECK(pack_two(HI, TO_A, "b", 1, 0, timed, &packing, &place) == KOMBILAD_PACK_NANOSECONDS);
+    CHECK(place == 0);
+    CHECK(takes(&packing, PLAIN_ROOT, PLAIN, 0, PLAIN_TOTAL));
+    CHECK(takes_none(&packing) == KOMBILAD_WALK_DONE);
+    /* A sharded folder. Names outside of the bytes are empty. */
+    kombilad_folder_entry entries[3];
+    static const char names[] = "long-named-file-016long-named-file-037long-named-file-048";
+    bytes hi = from_hex(HI);
+    memset(entries, 0, sizeof entries);
+    for (size_t at = 0; at < 3; at++) {
+        entries[at].cid.len = (uint8_t)hi.len, entries[at].tsize = 2;
+        memcpy(entries[at].cid.bytes, hi.at, hi.len);
+        entries[at].name = (kombilad_span){19 * at, 19};
+    }
+    CHECK(kombilad_pack_folder(1, &bare, 3 * (36 + 19) - 1, entries, 3, (const uint8_t *)names, 57,
+                               &packing, &place) == KOMBILAD_OK);
+    CHECK(takes(&packing, SHARD_ROOT, SHARD_TOP, 0, SHARD_TOTAL));
+    CHECK(takes(&packing, SHARD_BELOW, SHARD_REST, 0, SHARD_REST_TOTAL));
+    CHECK(takes_none(&packing) == KOMBILAD_WALK_DONE);
+    entries[0].name = (kombilad_span){SIZE_MAX, SIZE_MAX};
+    CHECK(kombilad_pack_folder(1, &bare, 0, entries, 3, (const uint8_t *)names, 57, &packing,
+                               &place) == KOMBILAD_PACK_INVALID_NAME);
+    CHECK(place == 0);
+    entries[0].name = (kombilad_span){0, 19}, entries[2].tsize = UINT64_MAX;
+    CHECK(kombilad_pack_folder(1, &bare, UINT64_MAX, entries, 3, (const uint8_t *)names, 57,
+                               &packing, &place) == KOMBILAD_PACK_TOO_LARGE);
+    entries[2].cid.len = 255;
+    CHECK(kombilad_pack_folder(1, &bare, 0, entries, 3, (const uint8_t *)names, 57, &packing,
+                               &place) == KOMBILAD_CID_TRAILING_BYTES);
+    CHECK(place == 2);
+    /* A folder without entries frees what was packed. */
+    CHECK(kombilad_pack_folder(0, &bare, 0, NULL, 0, NULL, 0, &packing, &place) == KOMBILAD_OK);
+    CHECK(takes(&packing, FOLDER, "0a020801", 0, 4));
+    kombilad_pack_free(&packing);
+    free(hi.at);
+    CHECK(held == before);
+}
+
+/* Packs a file of three chunks, or the last one alone if its length is 0. */
+static uint32_t call_pack(bytes chunk, void *out, size_t len, size_t *needed) {
+    kombilad_packing packing = {0};
+    kombilad_packed_block row;
+    uint8_t block[400];
+    size_t count;
+    (void)out, (void)len, (void)needed;
+    uint32_t status = kombilad_pack_file(0, 0, 2, &packing);
+    for (size_t at = 0; at < 3 && status == KOMBILAD_OK; at++) {
+        status = at < 2 ? kombilad_pack_chunk(&packing, chunk.at, chunk.len)
+                        : kombilad_pack_last_chunk(&packing, chunk.at, chunk.len, &bare);
+        if (status != KOMBILAD_OK) break;
+        while ((status = kombilad_pack_take(&packing, &row, block, sizeof block, &count)) ==
+               KOMBILAD_OK)
+            continue;
+        if (status == KOMBILAD_WALK_DONE) status = KOMBILAD_OK;
+    }
+    kombilad_pack_free(&packing);
+    return status;
+}
+
+static uint32_t call_pack_link(bytes target, void *out, size_t len, size_t *needed) {
+    kombilad_packing packing = {0};
+    (void)out, (void)len, (void)needed;
+    uint32_t status = kombilad_pack_symlink(0, &bare, target.at, target.len, &packing);
+    kombilad_pack_free(&packing);
+    return status;
+}
+
+/* Packs a sharded folder of two entries. */
+static uint32_t call_pack_folder(bytes cid, void *out, size_t len, size_t *needed) {
+    kombilad_packing packing = {0};
+    kombilad_folder_entry entries[2] = {{.name = {0, 1}}, {.name = {1, 1}}};
+    size_t place;
+    (void)out, (void)len, (void)needed;
+    for (size_t at = 0; at < 2; at++) {
+        entries[at].cid.len = (uint8_t)cid.len;
+        memcpy(entries[at].cid.bytes, cid.at, cid.len);
+    }
+    uint32_t status = kombilad_pack_folder(0, &bare, 0, entries, 2, (const uint8_t *)"ab", 2,
+                                           &packing, &place);
+    kombilad_pack_free(&packing);
+    return status;
+}
+
+/* ---- The parts of a CAR, written */
+
+static void check_written_car(void) {
+    bytes v0 = from_hex(V0), header = from_hex(HEADER_OF_V0), none = from_hex(HEADER);
+    kombilad_cid roots[2] = {{.len = (uint8_t)v0.len}, {.len = 1, .bytes = {1}}};
+    uint8_t out[KOMBILAD_CAR_SECTION + 8];
+    size_t needed = 7, place = 7;
+    memcpy(roots[0].bytes, v0.at, v0.len);
+    memset(out, '#', sizeof out);
+    CHECK(kombilad_car_header(roots, 1, out, header.len - 1, &needed, &place) ==
+          KOMBILAD_TOO_SHORT);
+    CHECK(needed == header.len && is_all(out, sizeof out, '#') && place == 7);
+    CHECK(kombilad_car_header(roots, 1, out, sizeof out, &needed, &place) == KOMBILAD_OK);
+    CHECK(needed == header.len && memcmp(out, header.at, header.len) == 0 && place == 7);
+    CHECK(kombilad_car_header(NULL, 0, out, sizeof out, &needed, &place) == KOMBILAD_OK);
+    CHECK(needed == none.len && memcmp(out, none.at, none.len) == 0);
+    needed = 7;
+    memset(out, '#', sizeof out);
+    CHECK(kombilad_car_header(roots, 2, out, sizeof out, &needed, &place) == KOMBILAD_CID_END);
+    CHECK(needed == 7 && place == 1 && is_all(out, sizeof out, '#'));
+    /* A section has the length of the CID and the block as a varint. */
+    CHECK(kombilad_car_section(v0.at, v0.len, 94, out, v0.len + 1, &needed) == KOMBILAD_TOO_SHORT);
+    CHECK(needed == v0.len + 2 && is_all(out, sizeof out, '#'));
+    CHECK(kombilad_car_section(v0.at, v0.len, 94, out, v0.len + 2, &needed) == KOMBILAD_OK);
+    CHECK(needed == v0.len + 2 && out[0] == 0x80 && out[1] == 1);
+    CHECK(memcmp(out + 2, v0.at, v0.len) == 0);
+    CHECK(kombilad_car_section(v0.at, v0.len, 93, out, sizeof out, &needed) == KOMBILAD_OK);
+    CHECK(needed == v0.len + 1 && out[0] == 0x7f);
+    CHECK(kombilad_car_section(v0.at, v0.len, UINT64_MAX - 34, out, sizeof out, &needed) ==
+          KOMBILAD_OK);
+    CHECK(needed == v0.len + 10 && is_all(out, 9, 0xff) && out[9] == 1);
+    needed = 7;
+    memset(out, '#', sizeof out);
+    CHECK(kombilad_car_section(v0.at, v0.len, UINT64_MAX - 33, out, sizeof out, &needed) ==
+          KOMBILAD_CAR_LENGTH_TOO_LARGE);
+    CHECK(kombilad_car_section(v0.at, v0.len - 1, 0, out, sizeof out, &needed) == KOMBILAD_CID_END);
+    CHECK(needed == 7 && is_all(out, sizeof out, '#'));
+    bytes longest = from_hex("01" LONG_NUMBER LONG_NUMBER "40" SIXTY_FOUR);
+    CHECK(kombilad_car_section(longest.at, longest.len, UINT64_MAX - longest.len, out,
+                               KOMBILAD_CAR_SECTION, &needed) == KOMBILAD_OK);
+    CHECK(needed == longest.len + 10);
+    free(v0.at), free(header.at), free(none.at), free(longest.at);
+}
+
+static uint32_t call_car_header(bytes cid, void *out, size_t len, size_t *needed) {
+    kombilad_cid roots[3];
+    size_t place;
+    for (size_t at = 0; at < COUNT(roots); at++) {
+        roots[at].len = (uint8_t)cid.len;
+        memcpy(roots[at].bytes, cid.at, cid.len);
+    }
+    return kombilad_car_header(roots, COUNT(roots), out, len, needed, &place);
+}
+
 /* Makes the first allocation of the call fail, then the second, and so on, until none fails.
  * Returns the number of allocations. */
 static long refuse_each(call *made, bytes input, size_t len) {
@@ -1527,6 +1855,12 @@ static void check_refused(void) {
     CHECK(refuse_each(call_folder, folder, 1) > 2);
     CHECK(refuse_each(call_lookup, folder, 1) > 1);
     CHECK(refuse_each(call_node, folder, 1) > 0);
+    CHECK(refuse_each(call_pack, folder, 1) > 10);
+    CHECK(refuse_each(call_pack_folder, folder, 1) > 5);
+    CHECK(refuse_each(call_car_header, folder, 200) > 2);
+    bytes target = from_text("a/b");
+    CHECK(refuse_each(call_pack_link, target, 1) > 2);
+    free(target.at);
     free(shard_blocks[0].at), free(shard_blocks[1].at), free(folder.at);
 
     /* These calls don't allocate. */
@@ -1547,7 +1881,6 @@ static void check_refused(void) {
 /* ---- CARs, and digests */
 
 #define LEAF "01550000" /* the CID of an empty block, with the identity hash */
-#define HEADER "11a265726f6f7473806776657273696f6e01"
 #define FRONT2               \
     "0aa16776657273696f6e02" \
     "00000000000000000000000000000000"
@@ -1853,7 +2186,7 @@ static void check_sentences(void) {
         CHECK(kombilad_status_text(status, text, len, &needed) == KOMBILAD_OK && needed == len);
         for (size_t at = 0; at < len; at++) CHECK(' ' <= text[at] && text[at] <= '~');
         CHECK(text[len - 1] != '.' && text[len] == 0xaa);
-        if (status > KOMBILAD_FOLDER_MORE)
+        if (status > KOMBILAD_PACK_WAITING)
             CHECK(reports(status, "the status is not one of this version"));
     }
     CHECK(reports(KOMBILAD_OK, "the call succeeded"));
@@ -1875,6 +2208,7 @@ static void check_sentences(void) {
     CHECK(reports(KOMBILAD_CAR_MORE, "more bytes of the CAR are needed"));
     CHECK(reports(KOMBILAD_FILE_TOO_MANY_PARTS,
                   "more blocks of the file wait to be read than the limit"));
+    CHECK(reports(KOMBILAD_PACK_WAITING, "take the blocks that are packed before you pack more"));
     CHECK(reports(KOMBILAD_UNIXFS_NANOSECONDS,
                   "the nanoseconds of the node's time are not from 1 to 999999999"));
 }
@@ -1907,6 +2241,9 @@ int main(int count, char **words) {
     check_lookups();
     check_unixfs_nodes();
     check_targets();
+    check_packed_files();
+    check_packed_folders();
+    check_written_car();
     check_threads();
     puts("calls: ok");
     return 0;

@@ -6,6 +6,7 @@ pub mod LinkRecords
 pub mod PbTapes
 pub mod CarLengths
 pub mod CarParts
+pub mod CarWritten
 pub mod CarFronts
 pub mod Places
 pub mod Files
@@ -13,3 +14,5 @@ pub mod FolderRows
 pub mod Lookups
 pub mod FolderRoom
 pub mod FolderErrors
+pub mod RowLists
+pub mod SamePacking

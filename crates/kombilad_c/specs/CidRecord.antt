@@ -1,5 +1,5 @@
 -- The C structs of CIDs.
-use Rattle.std.specs.Prelude.{ℕ, ◌++◌, ◌-◌, List, length, replicate}
+use Rattle.std.specs.Prelude.{ℕ, ◌++◌, ◌-◌, List, length, take, replicate}
 use Rattle.ipld_cid.specs.declared.cid.Version.{Version}
 use Rattle.ipld_cid.specs.declared.cid.Version.TheVariants.{V0, V1}
 use Rattle.ipld_cid.specs.Cid.{Link}
@@ -14,6 +14,10 @@ record_with bytes = record { len = length bytes; bytes = bytes ++ replicate (87 
 -- The length of a CID's bytes, and the bytes with zeros up to 87 bytes.
 abbrev pub record_of : Link → CidBytes
 record_of link = record_with (bytes_of link)
+
+-- the bytes of a CID in a record
+abbrev pub bytes_in : CidBytes → List ℕ
+bytes_in row = take row.len row.bytes
 
 abbrev pub number_of : Version → ℕ
 number_of V0 = 0

@@ -9,7 +9,7 @@ use Rattle.unixfs_files.specs.declared.state.FileRange.{FileRange}
 use Rattle.unixfs_files.specs.declared.state.FileWalk.{FileWalk}
 use Rattle.unixfs_files.specs.Walking.{range_of, parts_left, remain_of, HaveLevel, Takes, Counts, Stays, WalkFault}
 use Rattle.kombilad_c.specs.declared.held.Held.{Held}
-use Rattle.kombilad_c.specs.declared.held.Held.TheVariants.{File, Folder}
+use Rattle.kombilad_c.specs.declared.held.Held.TheVariants.{File, Folder, Packing}
 use Rattle.kombilad_c.specs.Fill.{Variable, IsFilled, IsTooShort, IsUntouched}
 use Rattle.kombilad_c.specs.Status.{file_status, file_place}
 
@@ -27,6 +27,7 @@ abbrev pub HoldsFile : Option Held → (FileWalk → Type 0) → Type 0
 HoldsFile None Q = ⊥
 HoldsFile (Some (File walk)) Q = Q walk
 HoldsFile (Some (Folder walk)) Q = ⊥
+HoldsFile (Some (Packing packing)) Q = ⊥
 
 -- True if the handle holds a walk that begins at the root, and the status is 0. Or an allocation
 -- failed, and the handle is as before.
@@ -74,6 +75,7 @@ abbrev pub TakesFrom :
 TakesFrom None new block status bytes needed offset = IsClosed None new status bytes needed offset
 TakesFrom (Some (File walk)) new block status bytes needed offset = HoldsFile new (λ next. TakesBlock walk next block status bytes needed offset)
 TakesFrom (Some (Folder walk)) new block status bytes needed offset = IsClosed (Some (Folder walk)) new status bytes needed offset
+TakesFrom (Some (Packing packing)) new block status bytes needed offset = IsClosed (Some (Packing packing)) new status bytes needed offset
 
 -- True if these bytes are at the beginning of the buffer, and the status is 0. Or an allocation
 -- failed.

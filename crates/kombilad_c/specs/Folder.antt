@@ -11,7 +11,7 @@ use Rattle.unixfs_folders.specs.Views.{IsMemory}
 use Rattle.unixfs_folders.specs.Walks.{remain_of}
 use Rattle.kombilad_c.specs.declared.folder.EntryRow.{EntryRow}
 use Rattle.kombilad_c.specs.declared.held.Held.{Held}
-use Rattle.kombilad_c.specs.declared.held.Held.TheVariants.{File, Folder}
+use Rattle.kombilad_c.specs.declared.held.Held.TheVariants.{File, Folder, Packing}
 use Rattle.kombilad_c.specs.CidRecord.{record_of}
 use Rattle.kombilad_c.specs.Fill.{Variable, IsFilled}
 use Rattle.kombilad_c.specs.Status.{folder_status, folder_place}
@@ -39,6 +39,7 @@ names_of (e ∷ es) = e.name ++ names_of es
 abbrev pub HoldsFolder : Option Held → (FolderWalk → Type 0) → Type 0
 HoldsFolder None Q = ⊥
 HoldsFolder (Some (File walk)) Q = ⊥
+HoldsFolder (Some (Packing packing)) Q = ⊥
 HoldsFolder (Some (Folder walk)) Q = Q walk
 
 -- True if the handle holds a walk that begins at the root, and the status is 0. Or an allocation
@@ -101,4 +102,5 @@ abbrev pub ListsFrom :
     (old new : Option Held) → (block : List ℕ) → (status : ℕ) → Variable (List EntryRow) → Variable (List ℕ) → (needed place : Variable ℕ) → Type 0
 ListsFrom None new block status rows names needed place = IsClosed None new status rows names needed place
 ListsFrom (Some (File walk)) new block status rows names needed place = IsClosed (Some (File walk)) new status rows names needed place
+ListsFrom (Some (Packing packing)) new block status rows names needed place = IsClosed (Some (Packing packing)) new status rows names needed place
 ListsFrom (Some (Folder walk)) new block status rows names needed place = HoldsFolder new (λ next. ListsBlock walk next block status rows names needed place)

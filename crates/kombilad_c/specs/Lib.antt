@@ -20,3 +20,6 @@ pub mod CarLength
 pub mod CarPart
 pub mod Digest
 pub mod StatusText
+pub mod Rows
+pub mod Pack
+pub mod CarWriting

@@ -22,6 +22,8 @@ use Rattle.unixfs.specs.declared.error.UnixFsErrorKind.{UnixFsErrorKind}
 use Rattle.unixfs.specs.declared.error.UnixFsErrorKind.TheVariants as message
 use Rattle.unixfs.specs.declared.node.NodeError.{NodeError}
 use Rattle.unixfs.specs.declared.node.NodeError.TheVariants as node
+use Rattle.unixfs_build.specs.declared.error.BuildError.{BuildError}
+use Rattle.unixfs_build.specs.declared.error.BuildError.TheVariants as pack
 use Rattle.unixfs_files.specs.declared.error.PartError.{PartError}
 use Rattle.unixfs_files.specs.declared.error.PartError.TheVariants as file
 use Rattle.unixfs_folders.specs.declared.error.FolderErrorKind.{FolderErrorKind}
@@ -227,3 +229,21 @@ folder_place (folder.InvalidSlot index) = index
 folder_place (folder.SlotOrder index) = index
 folder_place (folder.WrongSlot index) = index
 folder_place error = 0
+
+-- The status of an error of a file, a folder or a symbolic link that is not packed, named in
+-- `bindings/c/kombilad.h`.
+abbrev pub pack_status : BuildError → ℕ
+pack_status pack.Memory = 1
+pack_status pack.Width = 240
+pack_status pack.TooLarge = 241
+pack_status (pack.Nanoseconds count) = 242
+pack_status (pack.InvalidName index) = 243
+pack_status (pack.NameOrder index) = 244
+pack_status pack.SameHash = 245
+
+-- The number of the entry at fault of a folder that is not packed, counted from 0. Other errors have
+-- the place 0.
+abbrev pub pack_place : BuildError → ℕ
+pack_place (pack.InvalidName index) = index
+pack_place (pack.NameOrder index) = index
+pack_place error = 0

@@ -179,6 +179,18 @@ folder_sentence n =
     else if n == 13 then Some (codes "the search needs one more block of the folder")
     else None
 
+-- Why something is not packed, by the status minus 240
+abbrev pub pack_sentence : ℕ → Option (List ℕ)
+pack_sentence n =
+    if n == 0 then Some (codes "a block above others needs room for at least two links")
+    else if n == 1 then Some (codes "the file or the folder has 2^64 bytes or more, with all its blocks")
+    else if n == 2 then Some (codes "the nanoseconds of the time are more than 999999999")
+    else if n == 3 then Some (codes "the name of an entry is empty, . or .., or has a / or a zero byte")
+    else if n == 4 then Some (codes "two entries have the same name, or the names do not ascend by their bytes")
+    else if n == 5 then Some (codes "two names of a sharded folder have the same hash: rename one of them")
+    else if n == 6 then Some (codes "take the blocks that are packed before you pack more")
+    else None
+
 -- The sentence of the number `n` in a family, if it has one
 abbrev pub sentence_in : ℕ → ℕ → Option (List ℕ)
 sentence_in family n =
@@ -196,6 +208,7 @@ sentence_in family n =
     else if family == 12 then file_sentence n
     else if family == 13 then message_sentence n
     else if family == 14 then folder_sentence n
+    else if family == 15 then pack_sentence n
     else None
 
 -- The sentence of a status, in ASCII and without a full stop.

@@ -30,7 +30,7 @@ pub struct CidParts {
 }
 
 impl CidBytes {
-    ghost use Rattle.kombilad_c.specs.CidRecord.{record_of, record_with};
+    ghost use Rattle.kombilad_c.specs.CidRecord.{bytes_in, record_of, record_with};
 
     // Creates a record of these bytes, with their length.
     #[inline(always)]
@@ -59,6 +59,13 @@ impl CidBytes {
             },
             None => unreachable!(),
         }
+    }
+
+    // Returns the bytes of the CID.
+    pub(crate) fn as_slice(&self) -> &[u8]
+        ensures { result.now ≡ bytes_in self.now }
+    {
+        &self.bytes[..usize::from(self.len).min(self.bytes.len())]
     }
 }
 

@@ -115,7 +115,7 @@ fn take_held(
 {
     match held {
         Held::File(walk) => take_block(alloc, walk, block, bytes, needed, offset),
-        Held::Folder(_) => WALK_CLOSED,
+        Held::Folder(_) | Held::Packing(_) => WALK_CLOSED,
     }
 }
 

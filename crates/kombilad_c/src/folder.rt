@@ -146,7 +146,7 @@ fn take_held(
 {
     match held {
         Held::Folder(walk) => take_block(alloc, walk, block, rows, names, needed, place),
-        Held::File(_) => WALK_CLOSED,
+        Held::File(_) | Held::Packing(_) => WALK_CLOSED,
     }
 }
 

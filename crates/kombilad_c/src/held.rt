@@ -1,5 +1,6 @@
 //! What a handle of C holds.
 
+use crate::packing::Packing;
 use unixfs_files::FileWalk;
 use unixfs_folders::FolderWalk;
 
@@ -10,4 +11,6 @@ pub enum Held {
     File(FileWalk),
     /// A walk over a folder.
     Folder(FolderWalk),
+    /// What is packed.
+    Packing(Packing),
 }

@@ -1,16 +1,19 @@
-//! The library `libkombilad`: CIDs, blocks of DAG-CBOR and DAG-PB, their DAG-JSON, and CARs for C and
-//! for languages that call C.
+//! The library `libkombilad`: CIDs, blocks of DAG-CBOR and DAG-PB, their DAG-JSON, files and folders of
+//! UnixFS, and CARs for C and for languages that call C.
 //!
 //! Each export calls the libraries below, and its clauses state its result and its output. The
 //! numbers that the exports return are those of `status`. `bindings/c/kombilad.h` declares the
 //! exports for C, with the rules for callers.
 #![tactic(auto)]
 
+mod attributes;
 mod base32;
 mod box_parts;
+mod car_header;
 mod car_next_part;
 mod car_open_part;
 mod car_place;
+mod car_section;
 mod cid;
 mod cid_record;
 mod digest;
@@ -25,6 +28,9 @@ mod lookup;
 mod naming;
 mod node;
 mod of_json;
+mod pack;
+mod pack_folder;
+mod packing;
 mod pb_tape;
 mod positions;
 mod rewrite;

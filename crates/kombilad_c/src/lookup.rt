@@ -15,7 +15,7 @@ use std::str;
 use unixfs_folders::{Lookup, LookupStep};
 
 // Returns the bytes at a place, as far as there are bytes.
-fn bytes_at<'a>(bytes: &'a [u8], place: &Span) -> &'a [u8]
+pub(crate) fn bytes_at<'a>(bytes: &'a [u8], place: &Span) -> &'a [u8]
     ensures { result.now ≡ content_at bytes.now place.now }
 {
     let rest = &bytes[place.offset.min(bytes.len())..];

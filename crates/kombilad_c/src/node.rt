@@ -24,9 +24,9 @@ use unixfs_folders::stays_inside;
 // The fields that a node has.
 const HAS_SIZE: u32 = 1;
 
-const HAS_MODE: u32 = 2;
+pub(crate) const HAS_MODE: u32 = 2;
 
-const HAS_TIME: u32 = 4;
+pub(crate) const HAS_TIME: u32 = 4;
 
 /// What a block says of a file, a folder or a symbolic link, for C. A field that it doesn't have is
 /// 0.

@@ -13,6 +13,7 @@ use ipld_car::CarErrorKind;
 use ipld_cid::CidError;
 use ipld_cid_text::TextError;
 use unixfs::{NodeError, UnixFsErrorKind};
+use unixfs_build::BuildError;
 use unixfs_files::PartError;
 use unixfs_folders::FolderErrorKind;
 
@@ -32,10 +33,14 @@ pub(crate) const V0_BASE: u32 = 5;
 pub(crate) const TOO_LONG: u32 = 8;
 // The error of an operation that no export performs.
 const OTHER: u32 = 15;
+/// The version of a CID is not known.
+pub(crate) const CID_VERSION: u32 = 20;
 /// A text is not UTF-8.
 pub(crate) const TEXT_UTF8: u32 = 37;
 /// No section of a CAR is left.
 pub(crate) const CAR_DONE: u32 = 96;
+/// The length of a section is 2^64 or more.
+pub(crate) const CAR_LENGTH: u32 = 99;
 /// A map would be read as a link or as bytes in DAG-JSON.
 pub(crate) const JSON_RESERVED_MAP: u32 = 169;
 
@@ -51,6 +56,8 @@ pub(crate) const FILE_CODEC: u32 = 194;
 pub(crate) const FOLDER_MISSING: u32 = 236;
 /// A search needs one more block of its folder.
 pub(crate) const FOLDER_MORE: u32 = 237;
+/// Blocks that were packed before wait to be taken.
+pub(crate) const PACK_WAITING: u32 = 246;
 
 /// Returns the number of the reason why bytes are not a CID.
 pub(crate) fn cid_status(error: CidError) -> u32
@@ -62,7 +69,7 @@ pub(crate) fn cid_status(error: CidError) -> u32
         CidError::NotShortest => 17,
         CidError::VarintTooLarge => 18,
         CidError::ExplicitVersion0 => 19,
-        CidError::UnknownVersion(_) => 20,
+        CidError::UnknownVersion(_) => CID_VERSION,
         CidError::DigestTooLong => 21,
         CidError::TrailingBytes => 22,
         CidError::InvalidV0Multihash | CidError::InvalidText => OTHER,
@@ -151,7 +158,7 @@ pub(crate) fn car_status(kind: CarErrorKind) -> u32
         CarErrorKind::Memory | CarErrorKind::Read(_) => MEMORY,
         CarErrorKind::UnexpectedEnd => 97,
         CarErrorKind::LengthNotShortest => 98,
-        CarErrorKind::LengthTooLarge => 99,
+        CarErrorKind::LengthTooLarge => CAR_LENGTH,
         CarErrorKind::Empty => 100,
         CarErrorKind::TooLong(_) => 101,
         CarErrorKind::NotAHeader => 102,
@@ -350,4 +357,32 @@ pub(crate) fn stop_folder(error: FolderErrorKind, place: &mut usize) -> u32
 {
     *place = folder_place(error);
     folder_status(error)
+}
+
+/// Returns the number of the reason why something is not packed.
+pub(crate) fn pack_status(error: BuildError) -> u32
+    ensures { result ≡ numbers.pack_status error }
+{
+    match error {
+        BuildError::Memory => MEMORY,
+        BuildError::Width => 240,
+        BuildError::TooLarge => 241,
+        BuildError::Nanoseconds(_) => 242,
+        BuildError::InvalidName(_) => 243,
+        BuildError::NameOrder(_) => 244,
+        BuildError::SameHash => 245,
+    }
+}
+
+/// Returns the number of the reason why a folder is not packed, and writes the number of the entry
+/// at fault, or 0.
+pub(crate) fn stop_pack(error: BuildError, place: &mut usize) -> u32
+    ensures status { result ≡ numbers.pack_status error }
+    ensures place { place.new ≡ numbers.pack_place error }
+{
+    *place = match error {
+        BuildError::InvalidName(index) | BuildError::NameOrder(index) => index,
+        _ => 0,
+    };
+    pack_status(error)
 }

@@ -3,7 +3,7 @@
 ghost use Rattle.std.specs.Prelude.{◌≡◌, option_map};
 ghost use Rattle.kombilad_c.specs.Fill.{Fills};
 ghost use Rattle.kombilad_c.specs.StatusText as sentences;
-ghost use Rattle.kombilad_c.specs.StatusText.{any_sentence, cid_sentence, text_sentence, block_sentence, link_sentence, car_sentence, digest_sentence, tape_sentence, pb_sentence, json_sentence, part_sentence, file_sentence, message_sentence, folder_sentence, status_sentence};
+ghost use Rattle.kombilad_c.specs.StatusText.{any_sentence, cid_sentence, text_sentence, block_sentence, link_sentence, car_sentence, digest_sentence, tape_sentence, pb_sentence, json_sentence, part_sentence, file_sentence, message_sentence, folder_sentence, pack_sentence, status_sentence};
 
 use crate::fill::fill;
 
@@ -259,6 +259,23 @@ fn folder_text(number: u32) -> Option<&'static str>
     Some(text)
 }
 
+// Returns why something isn't packed, by the status minus 240.
+fn pack_text(number: u32) -> Option<&'static str>
+    ensures { option_map (λ text. text.now) result ≡ pack_sentence number }
+{
+    let text = match number {
+        0 => "a block above others needs room for at least two links",
+        1 => "the file or the folder has 2^64 bytes or more, with all its blocks",
+        2 => "the nanoseconds of the time are more than 999999999",
+        3 => "the name of an entry is empty, . or .., or has a / or a zero byte",
+        4 => "two entries have the same name, or the names do not ascend by their bytes",
+        5 => "two names of a sharded folder have the same hash: rename one of them",
+        6 => "take the blocks that are packed before you pack more",
+        _ => return None,
+    };
+    Some(text)
+}
+
 // Returns the sentence of a number in a family, if it has one.
 fn sentence_in(family: u32, number: u32) -> Option<&'static str>
     ensures { option_map (λ text. text.now) result ≡ sentences.sentence_in family number }
@@ -278,6 +295,7 @@ fn sentence_in(family: u32, number: u32) -> Option<&'static str>
         12 => file_text(number),
         13 => message_text(number),
         14 => folder_text(number),
+        15 => pack_text(number),
         _ => None,
     }
 }

@@ -16,6 +16,7 @@ fn write_wanted(held: &Held, cid: &mut CidBytes) -> u32
     let wanted = match held {
         Held::File(walk) => walk.wanted(),
         Held::Folder(walk) => walk.wanted(),
+        Held::Packing(_) => return WALK_CLOSED,
     };
     match wanted {
         Some(link) => {
@@ -42,7 +43,7 @@ pub extern "C" fn kombilad_walk_wanted(alloc: Global, walk: &mut Handle, cid: &m
     }
 }
 
-/// Frees the walk that the handle holds, if it holds one.
+/// Frees what the handle holds.
 #[unsafe(no_mangle)]
 pub extern "C" fn kombilad_walk_free(alloc: Global, walk: &mut Handle)
     ensures { walk.new.place.held ≡ None }

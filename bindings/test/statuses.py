@@ -34,6 +34,7 @@ def defined():
         "node": "FILE_",
         "file": "FILE_",
         "folder": "FOLDER_",
+        "pack": "PACK_",
     }
     others = {
         "FILE_FILE_SIZE": "FILE_SIZE",
@@ -74,19 +75,19 @@ def main():
     for name, numbers in (("kombilad-sys", rust), ("the Python package", python)):
         if numbers != header:
             sys.exit(
-                f"numbers: {name} and kombilad.h differ in {sorted(set(numbers.items()) ^ set(header.items()))}"
+                f"statuses: {name} and kombilad.h differ in {sorted(set(numbers.items()) ^ set(header.items()))}"
             )
     for name, numbers in defined().items():
         if numbers != {header.get(name)}:
             sys.exit(
-                f"numbers: the definitions have {numbers} for {name}, and kombilad.h {header.get(name)}"
+                f"statuses: the definitions have {numbers} for {name}, and kombilad.h {header.get(name)}"
             )
     kinds = found(BINDINGS / "c" / "kombilad.h", r"^    KOMBILAD_KIND_(\w+) = (\d+)")
     if kinds != found(
         CRATES / "dag_cbor_blocks" / "src" / "tape.rt", r"^pub const (\w+): u32 = (\d+);"
     ):
-        sys.exit(f"numbers: kombilad.h and dag_cbor differ in the kinds of entries: {kinds}")
-    print(f"numbers: {len(header)} statuses, the same everywhere: ok")
+        sys.exit(f"statuses: kombilad.h and dag_cbor differ in the kinds of entries: {kinds}")
+    print(f"statuses: {len(header)} numbers, the same everywhere: ok")
 
 
 if __name__ == "__main__":
