@@ -11,7 +11,7 @@
 //! - During the call no thread may write to memory that the call reads.
 //!
 //! No call keeps a pointer after it returns. A `kombilad_walk` is used by one call at a time, and
-//! its walk is freed by `kombilad_walk_free`.
+//! its walk is freed by `kombilad_walk_free`. So is a `kombilad_packing`, by `kombilad_pack_free`.
 #![no_std]
 #![warn(missing_docs)]
 #![allow(non_camel_case_types)]
@@ -118,6 +118,31 @@ pub struct kombilad_node {
     pub nanoseconds: u32,
     /// The permissions, as chmod has them in its low twelve bits.
     pub mode: u32,
+}
+
+/// A file, a folder or a symbolic link that is packed, or nothing if both numbers are 0. Only the
+/// calls may read or write it after the first one. It may be moved, but only one copy of it may be
+/// used.
+#[repr(C)]
+#[derive(Debug, Default)]
+pub struct kombilad_packing {
+    /// 1 if something is packed.
+    pub is_open: u64,
+    /// The address of what is packed.
+    pub packing: u64,
+}
+
+/// A block that was packed.
+#[repr(C)]
+#[derive(Clone, Copy, Debug, PartialEq, Eq)]
+pub struct kombilad_packed_block {
+    /// The CID of the block.
+    pub cid: kombilad_cid,
+    /// The number of bytes of the file in the block and in all blocks below it, or 0 for folders
+    /// and symbolic links.
+    pub size: u64,
+    /// The number of bytes of the block and of all blocks below it.
+    pub total: u64,
 }
 
 /// The call succeeded.
@@ -347,6 +372,20 @@ pub const KOMBILAD_FOLDER_TOO_DEEP: u32 = 235;
 pub const KOMBILAD_FOLDER_MISSING: u32 = 236;
 /// The search needs one more block, which isn't an error.
 pub const KOMBILAD_FOLDER_MORE: u32 = 237;
+/// A block above others needs room for at least two links.
+pub const KOMBILAD_PACK_WIDTH: u32 = 240;
+/// The file or the folder has 2^64 bytes or more, with all its blocks.
+pub const KOMBILAD_PACK_TOO_LARGE: u32 = 241;
+/// The nanoseconds of the time are more than 999,999,999.
+pub const KOMBILAD_PACK_NANOSECONDS: u32 = 242;
+/// The name of an entry is empty, `.` or `..`, or has a `/` or a zero byte.
+pub const KOMBILAD_PACK_INVALID_NAME: u32 = 243;
+/// The names of the entries do not ascend by their bytes, each once.
+pub const KOMBILAD_PACK_NAME_ORDER: u32 = 244;
+/// Two names of a sharded folder have the same hash.
+pub const KOMBILAD_PACK_SAME_HASH: u32 = 245;
+/// Blocks that were packed before have not been taken.
+pub const KOMBILAD_PACK_WAITING: u32 = 246;
 
 /// Base32 in lower case for a CID of version 1, and base58btc for one of version 0.
 pub const KOMBILAD_BASE_USUAL: u32 = 0;
@@ -391,6 +430,18 @@ pub const KOMBILAD_NODE_SIZE: u32 = 1;
 pub const KOMBILAD_NODE_MODE: u32 = 2;
 /// The node has a time.
 pub const KOMBILAD_NODE_TIME: u32 = 4;
+
+/// The maximum number of bytes that a section of a CAR has before its block.
+pub const KOMBILAD_CAR_SECTION: usize = 96;
+
+/// The number of bytes of a chunk in the layout of `ipfs add`.
+pub const KOMBILAD_PACK_CHUNK: usize = 1 << 18;
+/// The maximum number of links of a block in that layout.
+pub const KOMBILAD_PACK_LINKS: usize = 174;
+/// The number of bytes of names and CIDs above which that layout shards a folder.
+pub const KOMBILAD_PACK_SHARDED_ABOVE: u64 = 1 << 18;
+/// A block of a file in that layout has fewer bytes than this.
+pub const KOMBILAD_PACK_BLOCK: usize = (1 << 18) + 64;
 
 /// Returns the number of entries that a block of so many bytes has at most.
 #[allow(non_snake_case)]
@@ -573,6 +624,24 @@ extern "C" {
         more: *mut u64,
         offset: *mut u64,
     ) -> u32;
+    /// Writes the header of a CAR of version 1 with these roots.
+    pub fn kombilad_car_header(
+        roots: *const kombilad_cid,
+        roots_len: usize,
+        bytes: *mut u8,
+        bytes_len: usize,
+        needed: *mut usize,
+        place: *mut usize,
+    ) -> u32;
+    /// Writes what a section of a CAR has before a block of `block_len` bytes.
+    pub fn kombilad_car_section(
+        cid: *const u8,
+        cid_len: usize,
+        block_len: u64,
+        bytes: *mut u8,
+        bytes_len: usize,
+        needed: *mut usize,
+    ) -> u32;
     /// Compares the digest of a block with that of a CID.
     pub fn kombilad_verify(cid: *const u8, cid_len: usize, block: *const u8, len: usize) -> u32;
 
@@ -648,6 +717,55 @@ extern "C" {
     /// Returns 1 if a symbolic link with this target leads to nothing outside of a folder, if it is
     /// in a folder `depth` levels below that one. Otherwise it returns 0.
     pub fn kombilad_symlink_stays_inside(target: *const u8, len: usize, depth: usize) -> u32;
+
+    /// Begins a file, and frees what `packing` had.
+    pub fn kombilad_pack_file(
+        version: u32,
+        raw_leaves: u32,
+        links: usize,
+        packing: *mut kombilad_packing,
+    ) -> u32;
+    /// Adds a chunk that isn't the last to the file.
+    pub fn kombilad_pack_chunk(packing: *mut kombilad_packing, chunk: *const u8, len: usize)
+        -> u32;
+    /// Adds the last chunk of the file. The root has the mode and the time of the attributes.
+    pub fn kombilad_pack_last_chunk(
+        packing: *mut kombilad_packing,
+        chunk: *const u8,
+        len: usize,
+        attributes: *const kombilad_node,
+    ) -> u32;
+    /// Packs a symbolic link with this target, and frees what `packing` had.
+    pub fn kombilad_pack_symlink(
+        version: u32,
+        attributes: *const kombilad_node,
+        target: *const u8,
+        len: usize,
+        packing: *mut kombilad_packing,
+    ) -> u32;
+    /// Packs a folder of these entries, and frees what `packing` had. The names are at their places
+    /// in `names`, and ascend by their bytes.
+    pub fn kombilad_pack_folder(
+        version: u32,
+        attributes: *const kombilad_node,
+        sharded_above: u64,
+        entries: *const kombilad_folder_entry,
+        entries_len: usize,
+        names: *const u8,
+        names_len: usize,
+        packing: *mut kombilad_packing,
+        place: *mut usize,
+    ) -> u32;
+    /// Takes the next block that waits, and writes its row and its bytes.
+    pub fn kombilad_pack_take(
+        packing: *mut kombilad_packing,
+        row: *mut kombilad_packed_block,
+        bytes: *mut u8,
+        bytes_len: usize,
+        needed: *mut usize,
+    ) -> u32;
+    /// Frees what `packing` has.
+    pub fn kombilad_pack_free(packing: *mut kombilad_packing);
 
     /// Returns the version: 65,536 times the major number, plus 256 times the minor, plus the
     /// patch.

@@ -2,12 +2,11 @@
 
 use std::io::{self, ErrorKind, Read};
 use std::iter::FusedIterator;
-use std::ops::Range;
 use std::{error, fmt};
 
 use crate::cid::Cid;
 use crate::error::{CarError, Error};
-use crate::ffi::{self, CarPart, Place};
+use crate::ffi::{self, CarPart, Place, SectionSpans};
 
 /// The minimum number of bytes in a request to the reader.
 const CHUNK: usize = 1 << 16;
@@ -185,7 +184,7 @@ impl<R: Read> CarReader<R> {
     }
 
     /// Returns the ranges of the next section's CID and data. They count from `begin` on.
-    fn read_section(&mut self) -> Result<Option<(Range<usize>, Range<usize>)>, CarReadError> {
+    fn read_section(&mut self) -> Result<Option<SectionSpans>, CarReadError> {
         loop {
             let window = &self.window[self.begin..];
             let found = ffi::car_next_part(window, self.ended, self.section_limit, &mut self.place);

@@ -1,10 +1,12 @@
 //! Writes CAR files, one section after another.
 
-use std::io::{self, Write};
+use std::io::{self, ErrorKind, Write};
+
+use kombilad_sys as sys;
 
 use crate::cid::Cid;
-use crate::error::EncodeError;
-use crate::write::Writer;
+use crate::error::Error;
+use crate::ffi::{self, Stopped};
 
 /// Writes a CAR of version 1.
 ///
@@ -32,13 +34,7 @@ impl<W: Write> CarWriter<W> {
     /// Those of the writer, and `OutOfMemory` if an allocation fails. A part of the header may have
     /// been written then.
     pub fn new(mut writer: W, roots: &[Cid]) -> io::Result<Self> {
-        let header = header(roots).map_err(|error| match error {
-            EncodeError::OutOfMemory => io::Error::from(io::ErrorKind::OutOfMemory),
-            error => io::Error::new(io::ErrorKind::InvalidInput, error),
-        })?;
-        let (length, len) = varint(header.len() as u64);
-        writer.write_all(&length[..len])?;
-        writer.write_all(&header)?;
+        writer.write_all(&ffi::car_header(roots).map_err(refused)?)?;
         Ok(CarWriter { writer })
     }
 
@@ -49,10 +45,8 @@ impl<W: Write> CarWriter<W> {
     ///
     /// Those of the writer. A part of the section may have been written then.
     pub fn write(&mut self, cid: &Cid, block: &[u8]) -> io::Result<()> {
-        let cid = cid.as_bytes();
-        let (length, len) = varint(cid.len() as u64 + block.len() as u64);
-        self.writer.write_all(&length[..len])?;
-        self.writer.write_all(cid)?;
+        let mut head = [0; sys::KOMBILAD_CAR_SECTION];
+        self.writer.write_all(ffi::car_section(cid, block, &mut head).map_err(refused)?)?;
         self.writer.write_all(block)
     }
 
@@ -62,27 +56,10 @@ impl<W: Write> CarWriter<W> {
     }
 }
 
-fn header(roots: &[Cid]) -> Result<Vec<u8>, EncodeError> {
-    let mut writer = Writer::new();
-    let map = writer.map()?;
-    writer.key("roots")?;
-    let list = writer.list()?;
-    roots.iter().try_for_each(|root| writer.link(root.as_bytes()))?;
-    writer.end(list, roots.len())?;
-    writer.key("version")?;
-    writer.integer(1)?;
-    writer.end(map, 2)?;
-    writer.finish()
-}
-
-/// Returns a varint in its shortest form, and its number of bytes.
-fn varint(number: u64) -> ([u8; 10], usize) {
-    let (mut bytes, mut left, mut len) = ([0; 10], number, 0);
-    while left > 127 {
-        bytes[len] = left as u8 | 128;
-        left >>= 7;
-        len += 1;
+/// Returns the error of a call.
+fn refused(stopped: Stopped) -> io::Error {
+    match Error::of_car(stopped) {
+        Error::OutOfMemory => ErrorKind::OutOfMemory.into(),
+        error => io::Error::new(ErrorKind::InvalidInput, error),
     }
-    bytes[len] = left as u8;
-    (bytes, len + 1)
 }

@@ -94,6 +94,11 @@ impl Cid {
         Cid(record)
     }
 
+    /// Returns the record of the CID.
+    pub(crate) fn record(&self) -> ffi::CidBytes {
+        self.0
+    }
+
     /// Returns the CID's bytes, at most 86.
     pub fn as_bytes(&self) -> &[u8] {
         &self.0.bytes[..usize::from(self.0.len)]

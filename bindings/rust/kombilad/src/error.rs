@@ -554,7 +554,7 @@ impl EncodeError {
 }
 
 /// Writes the library's sentence of a status.
-fn write_status(f: &mut fmt::Formatter<'_>, status: u32) -> fmt::Result {
+pub(crate) fn write_status(f: &mut fmt::Formatter<'_>, status: u32) -> fmt::Result {
     f.write_str(ffi::status_text(status, &mut [0; 80]))
 }
 

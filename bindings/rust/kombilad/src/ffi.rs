@@ -7,16 +7,19 @@
 //! - Memory that a call writes to is borrowed mutably, so it doesn't overlap anything else.
 //! - A call writes records or bytes to the spare capacity of a vector. The vector's length is set
 //!   to no more than the number that the call reports.
-//! - A [`Walk`] has the only copy of its handle, and frees it. The handle is the address of memory
-//!   that no thread owns, and each call with it borrows the walk mutably.
+//! - A [`Walk`] has the only copy of its handle, and frees it, and so has a [`Packing`]. The handle
+//!   is the address of memory that no thread owns, and each call with it borrows the walk or the
+//!   packing mutably.
 
 use std::cell::Cell;
+use std::mem;
 use std::ops::Range;
 use std::str;
 
 use kombilad_sys::{self as sys, kombilad_span as Span};
 
 use crate::cid::Cid;
+use crate::packer::{PackOptions, Packed};
 use crate::room::Entries;
 use crate::unixfs::FileLimits;
 
@@ -318,6 +321,9 @@ pub(crate) fn car_open_part(
     }
 }
 
+/// The ranges of a section's CID and of its data.
+pub(crate) type SectionSpans = (Range<usize>, Range<usize>);
+
 /// Reads the section at this place of a CAR, with which the bytes begin. Returns the ranges of its
 /// CID and its data in the bytes, and moves the place to the next section. If there is no other
 /// section, returns `None`. The CAR ends with the bytes if `is_all`.
@@ -326,7 +332,7 @@ pub(crate) fn car_next_part(
     is_all: bool,
     limit: usize,
     place: &mut Place,
-) -> Result<Option<CarPart<(Range<usize>, Range<usize>)>>, Stopped> {
+) -> Result<Option<CarPart<SectionSpans>>, Stopped> {
     let (mut cid, mut data) = (Span { offset: 0, len: 0 }, Span { offset: 0, len: 0 });
     let (mut more, mut offset) = (0, 0);
     let status = unsafe {
@@ -348,6 +354,36 @@ pub(crate) fn car_next_part(
         sys::KOMBILAD_CAR_MORE => Ok(Some(CarPart::More(more))),
         status => Err((status, offset as usize)),
     }
+}
+
+/// Returns the header of a CAR of version 1. A `Cid` has the layout of a record.
+pub(crate) fn car_header(roots: &[Cid]) -> Result<Vec<u8>, Stopped> {
+    // A root takes five bytes more than its CID, so this is enough unless its digest is long.
+    let capacity = mem::size_of_val(roots).saturating_add(SPARE_TEXT);
+    filled(capacity, |bytes, capacity, needed, place| unsafe {
+        sys::kombilad_car_header(roots.as_ptr().cast(), roots.len(), bytes, capacity, needed, place)
+    })
+}
+
+/// Returns what a section of a CAR has before its block. It is written to the beginning of `bytes`.
+pub(crate) fn car_section<'a>(
+    cid: &Cid,
+    block: &[u8],
+    bytes: &'a mut [u8; sys::KOMBILAD_CAR_SECTION],
+) -> Result<&'a [u8], Stopped> {
+    let (cid, mut needed) = (cid.as_bytes(), 0);
+    let status = unsafe {
+        sys::kombilad_car_section(
+            cid.as_ptr(),
+            cid.len(),
+            block.len() as u64,
+            bytes.as_mut_ptr(),
+            bytes.len(),
+            &mut needed,
+        )
+    };
+    done(status).map_err(|status| (status, 0))?;
+    Ok(&bytes[..needed])
 }
 
 pub(crate) fn verify(cid: &[u8], block: &[u8]) -> Result<(), u32> {
@@ -458,8 +494,8 @@ impl Walk {
     }
 }
 
-/// The entries of a folder in one block. Only a walk fills it, and nothing else changes it, so the
-/// places of the names are valid.
+/// Entries of a folder: those in one block, or those that are packed. Only a walk and the functions
+/// below fill it, so the places of the names are valid.
 #[derive(Debug, Default)]
 pub(crate) struct FolderEntries {
     entries: Vec<sys::kombilad_folder_entry>,
@@ -467,10 +503,33 @@ pub(crate) struct FolderEntries {
 }
 
 impl FolderEntries {
+    /// Adds an entry.
+    pub(crate) fn push(&mut self, name: &str, packed: &Packed) -> Result<(), Stopped> {
+        let no_memory = |_| (sys::KOMBILAD_NO_MEMORY, 0);
+        self.entries.try_reserve(1).map_err(no_memory)?;
+        self.names.try_reserve(name.len()).map_err(no_memory)?;
+        self.entries.push(sys::kombilad_folder_entry {
+            cid: packed.cid.record(),
+            name: Span { offset: self.names.len() as u64, len: name.len() as u64 },
+            tsize: packed.total,
+            has_tsize: 1,
+        });
+        self.names.extend_from_slice(name.as_bytes());
+        Ok(())
+    }
+
+    /// Sorts the entries by the bytes of their names.
+    pub(crate) fn sort(&mut self) {
+        let names = &self.names;
+        let name = |entry: &sys::kombilad_folder_entry| &names[range(entry.name)];
+        self.entries.sort_unstable_by(|a, b| name(a).cmp(name(b)));
+    }
+
     /// Returns the name, the CID and the size of the entry at an index.
     pub(crate) fn get(&self, at: usize) -> Option<(&str, Cid, Option<u64>)> {
         let entry = self.entries.get(at)?;
         // SAFETY: the call that wrote the names checked that each is UTF-8, and wrote its place.
+        // `push` adds only UTF-8.
         let name = unsafe { str::from_utf8_unchecked(&self.names[range(entry.name)]) };
         let tsize = if entry.has_tsize == 0 { None } else { Some(entry.tsize) };
         Some((name, Cid::of_record(entry.cid), tsize))
@@ -554,6 +613,113 @@ pub(crate) fn unixfs_node(cid: &Cid, block: &[u8]) -> Result<(NodeRecord, Vec<u8
 
 pub(crate) fn symlink_stays_inside(target: &[u8], depth: usize) -> bool {
     unsafe { sys::kombilad_symlink_stays_inside(target.as_ptr(), target.len(), depth) != 0 }
+}
+
+/// A file, a folder or a symbolic link that is packed.
+#[derive(Debug)]
+pub(crate) struct Packing(sys::kombilad_packing);
+
+impl Drop for Packing {
+    fn drop(&mut self) {
+        unsafe { sys::kombilad_pack_free(&mut self.0) }
+    }
+}
+
+impl Packing {
+    /// Returns what a call begins.
+    fn begun(
+        call: impl FnOnce(&mut sys::kombilad_packing, &mut usize) -> u32,
+    ) -> Result<Self, Stopped> {
+        let (mut packing, mut place) = (Packing(sys::kombilad_packing::default()), 0);
+        done(call(&mut packing.0, &mut place)).map_err(|status| (status, place))?;
+        Ok(packing)
+    }
+
+    /// Begins a file.
+    pub(crate) fn of_file(options: &PackOptions) -> Result<Self, Stopped> {
+        Packing::begun(|packing, _| unsafe {
+            sys::kombilad_pack_file(
+                options.version as u32,
+                u32::from(options.raw_leaves),
+                options.links,
+                packing,
+            )
+        })
+    }
+
+    /// Packs a symbolic link.
+    pub(crate) fn of_symlink(
+        options: &PackOptions,
+        attributes: &NodeRecord,
+        target: &str,
+    ) -> Result<Self, Stopped> {
+        Packing::begun(|packing, _| unsafe {
+            sys::kombilad_pack_symlink(
+                options.version as u32,
+                attributes,
+                target.as_ptr(),
+                target.len(),
+                packing,
+            )
+        })
+    }
+
+    /// Packs a folder of entries that are sorted. The error has the index of the entry at fault.
+    pub(crate) fn of_folder(
+        options: &PackOptions,
+        attributes: &NodeRecord,
+        FolderEntries { entries, names }: &FolderEntries,
+    ) -> Result<Self, Stopped> {
+        Packing::begun(|packing, place| unsafe {
+            sys::kombilad_pack_folder(
+                options.version as u32,
+                attributes,
+                options.sharded_above,
+                entries.as_ptr(),
+                entries.len(),
+                names.as_ptr(),
+                names.len(),
+                packing,
+                place,
+            )
+        })
+    }
+
+    /// Adds a chunk of the file that isn't the last.
+    pub(crate) fn push(&mut self, chunk: &[u8]) -> Result<(), Stopped> {
+        done(unsafe { sys::kombilad_pack_chunk(&mut self.0, chunk.as_ptr(), chunk.len()) })
+            .map_err(|status| (status, 0))
+    }
+
+    /// Adds the last chunk of the file.
+    pub(crate) fn push_last(
+        &mut self,
+        chunk: &[u8],
+        attributes: &NodeRecord,
+    ) -> Result<(), Stopped> {
+        done(unsafe {
+            sys::kombilad_pack_last_chunk(&mut self.0, chunk.as_ptr(), chunk.len(), attributes)
+        })
+        .map_err(|status| (status, 0))
+    }
+
+    /// Returns what is packed in the next block that waits, or `None` if none does. The vector gets
+    /// the bytes of the block.
+    pub(crate) fn take(&mut self, block: &mut Vec<u8>) -> Result<Option<Packed>, Stopped> {
+        let row = Cell::new(sys::kombilad_packed_block { cid: NO_CID, size: 0, total: 0 });
+        let packing: *mut sys::kombilad_packing = &mut self.0;
+        block.clear();
+        match fill(block, 0, |bytes, capacity, needed, _| unsafe {
+            sys::kombilad_pack_take(packing, row.as_ptr(), bytes, capacity, needed)
+        }) {
+            Ok(()) => {
+                let sys::kombilad_packed_block { cid, size, total } = row.get();
+                Ok(Some(Packed { cid: Cid::of_record(cid), size, total }))
+            }
+            Err((sys::KOMBILAD_WALK_DONE, _)) => Ok(None),
+            Err(stopped) => Err(stopped),
+        }
+    }
 }
 
 /// The DAG-JSON of most blocks has at most twice as many bytes as the block, and this many more.

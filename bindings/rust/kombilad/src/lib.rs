@@ -1,5 +1,5 @@
 //! Content identifiers (CIDs), blocks of DAG-CBOR and DAG-PB, and files and folders of UnixFS, read
-//! by the proved library `libkombilad`.
+//! and written by the proved library `libkombilad`.
 //!
 //! ```
 //! use kombilad::Cid;
@@ -18,10 +18,11 @@
 //! - `from_slice` and `to_vec` decode and encode the types of serde. They need the feature `serde`,
 //!   which is on by default.
 //! - A [`PbNode`] has the links and the data of a block of DAG-PB.
-//! - A [`CarReader`] reads the blocks of a CAR file, one at a time. [`Cid::verify`] checks that a
-//!   block has the digest of its CID.
+//! - A [`CarReader`] reads the blocks of a CAR file, one at a time, and a [`CarWriter`] writes them.
+//!   [`Cid::verify`] checks that a block has the digest of its CID.
 //! - [`unixfs`] reads files and folders from blocks that it verifies: a [`unixfs::FileReader`] has
-//!   the bytes of a file, and a [`unixfs::Folder`] the entries of a folder.
+//!   the bytes of a file, and a [`unixfs::Folder`] the entries of a folder. A [`unixfs::Packer`]
+//!   makes the blocks.
 //!
 //! All of them accept untrusted bytes. Each thread keeps up to 64 KiB of buffers from one block for
 //! the next.
@@ -41,6 +42,7 @@ mod error;
 #[allow(unsafe_code)]
 mod ffi;
 mod ipld;
+mod packer;
 mod pb;
 mod room;
 #[cfg(feature = "serde")]

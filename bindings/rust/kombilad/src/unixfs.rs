@@ -1,4 +1,5 @@
-//! Files and folders of UnixFS (IPFS), from a source of blocks that nobody has to trust.
+//! Files and folders of UnixFS (IPFS), from a source of blocks that nobody has to trust. A [`Packer`]
+//! makes the blocks of files and folders.
 //!
 //! The source is a function that returns the block of a CID, or `None` if it doesn't have it. Each
 //! block is verified before it is read. The source isn't asked for a block that is in the CID itself,
@@ -46,6 +47,8 @@ use kombilad_sys as sys;
 use crate::cid::Cid;
 use crate::error::{Error, FileError, UnixfsError};
 use crate::ffi::{self, FolderBlocks, FolderEntries, Found, NodeRecord, Walk};
+
+pub use crate::packer::{PackError, PackOptions, Packed, Packer};
 
 /// An error of reading a file or a folder.
 ///

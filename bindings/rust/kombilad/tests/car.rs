@@ -1,7 +1,7 @@
 //! Tests of CAR files: written and read back, cut short, of version 2, from readers that return few
 //! bytes at a time, and verified.
 
-use std::io::{self, Read};
+use std::io::{self, ErrorKind, Read};
 
 use kombilad::{CarError, CarReadError, CarReader, CarWriter, Cid, CidError, Error, DAG_CBOR, RAW};
 
@@ -69,6 +69,32 @@ fn sections_round_trip() {
     }
     let many = vec![blocks[0].0; 300];
     assert_eq!(read(&written(&many, &[])[..]).unwrap(), (1, many, Vec::new()));
+    // The longest CID.
+    let number = [&[0xff; 9][..], b"\x01"].concat();
+    let cid = [b"\x01", &number[..], &number, b"\x40", &[7; 64]].concat();
+    let cid = Cid::try_from(cid).unwrap();
+    let (many, block) = (vec![cid; 300], (cid, b"hi".to_vec()));
+    let car = written(&many, std::slice::from_ref(&block));
+    assert_eq!(read(&car[..]).unwrap(), (1, many, vec![block]));
+}
+
+#[test]
+fn bytes_are_those_of_the_specification() {
+    let cid = Cid::of_block(DAG_CBOR, b"\xa0");
+    let header =
+        [b"\x3a\xa2\x65roots\x81\xd8\x2a\x58\x25\0", cid.as_bytes(), b"\x67version\x01"].concat();
+    assert_eq!(written(&[cid], &[]), header);
+    let block = vec![7; 100_000];
+    let section = [b"\xc4\x8d\x06", cid.as_bytes(), &block].concat();
+    assert_eq!(written(&[cid], &[(cid, block)]), [header, section].concat());
+}
+
+#[test]
+fn errors_of_the_writer_come_through() {
+    let (cid, mut room) = (Cid::of_block(DAG_CBOR, b"\xa0"), [0; 60]);
+    assert_eq!(CarWriter::new(&mut room[..58], &[cid]).unwrap_err().kind(), ErrorKind::WriteZero);
+    let mut car = CarWriter::new(&mut room[..], &[cid]).unwrap();
+    assert_eq!(car.write(&cid, b"\xa0").unwrap_err().kind(), ErrorKind::WriteZero);
 }
 
 #[test]

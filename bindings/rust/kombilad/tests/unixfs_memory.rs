@@ -1,12 +1,13 @@
-//! Tests the memory of readers of files and folders: nothing leaks, and it doesn't grow with the
-//! file. It is that of the process, so all is one test. It is known only on Linux.
+//! Tests the memory of readers and packers of files and folders: nothing leaks, and it doesn't grow
+//! with the file. It is that of the process, so all is one test. It is known only on Linux.
 
 mod made;
 
+use std::cell::Cell;
 use std::fs;
 use std::io::{self, Read, Seek, SeekFrom};
 
-use kombilad::unixfs::{resolve, FileLimits, FileReader, Folder};
+use kombilad::unixfs::{resolve, FileLimits, FileReader, Folder, PackOptions, Packed, Packer};
 use kombilad::{Cid, RAW};
 
 use made::{file_of, kept, node, Blocks};
@@ -49,6 +50,28 @@ fn memory_is_freed_and_does_not_grow_with_the_file() {
     assert_eq!(copied, 40_960_000);
     assert!(most > 0 && most < before_all + 8192, "{before_all} KiB, then {most} KiB");
 
+    let most = Cell::new(0);
+    let mut packer = Packer::new(|_, _| {
+        most.set(memory().unwrap().max(most.get()));
+        Ok(())
+    });
+    let file = packer.file(io::repeat(7).take(copied as u64), None, None).unwrap();
+    assert_eq!(file.size, 40_960_000);
+    let most = most.get();
+    assert!(most > 0 && most < before_all + 8192, "{before_all} KiB, then {most} KiB");
+    let left = Cell::new(0);
+    let put = |_: &Cid, _: &[u8]| match left.get() {
+        0 => Err(io::ErrorKind::Other.into()),
+        count => {
+            left.set(count - 1);
+            Ok(())
+        }
+    };
+    let options =
+        PackOptions { chunk_size: 16_384, links: 2, sharded_above: 0, ..PackOptions::default() };
+    let mut packer = Packer::new(put).with_options(options);
+    let content = vec![7; 40_000];
+
     let wrong = |cid: &Cid| Ok(blocks.get(cid).map(|block| &block[1..]));
     let fails = |_: &Cid| Err::<Option<Vec<u8>>, _>(io::ErrorKind::Other.into());
     let mut before = 0;
@@ -72,6 +95,16 @@ fn memory_is_freed_and_does_not_grow_with_the_file() {
         assert_eq!(resolve(get, &folder, "123").unwrap(), leaf);
         resolve(get, &folder, "99").unwrap_err();
         resolve(wrong, &folder, "99").unwrap_err();
+        // Files and folders of which some blocks wait, all were put, or none is made.
+        let packed = Packed { cid: leaf, size: 4096, total: 4096 };
+        let entries = || names.iter().map(|name| (name, packed));
+        for count in [0, 3, usize::MAX] {
+            left.set(count);
+            assert_eq!(packer.file(&content[..], None, None).is_ok(), count > 3);
+            assert_eq!(packer.folder(entries(), None, None).is_ok(), count > 3);
+        }
+        assert!(packer.symlink("a", None, None).is_ok());
+        packer.folder(entries().chain(entries()), None, None).unwrap_err();
     }
     // A walk that waits for a hundred blocks takes about 10 KiB.
     let after = memory().unwrap();
