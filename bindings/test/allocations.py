@@ -8,6 +8,7 @@ The package is one whose extension module contains failing.c.
 
 import ctypes
 import gc
+import io
 import sys
 
 import kombilad
@@ -35,6 +36,25 @@ UNIXFS = {
 ROOT, FILE = UNIXFS
 
 
+def pack():
+    """Packs a file of two levels, a link, and a sharded folder of both. Returns all blocks."""
+    put = []
+    packer = kombilad.Packer(
+        lambda *block: put.append(block), chunk_size=2, links=2, sharded_above=0
+    )
+    # Python crashes if an allocation fails while it begins to iterate over a dictionary's items.
+    entries = [("a", packer.file(b"foobar\n")), ("b", packer.symlink("a"))]
+    return packer.folder(entries, mode=0o755, mtime_ns=1), put
+
+
+def car():
+    """Returns a CAR."""
+    file = io.BytesIO()
+    writer = kombilad.CarWriter(file, [LINK] * 3)
+    writer.write(LINK, b"")
+    return file.getvalue()
+
+
 def works():
     yield lambda: [Cid(str(LINK)), Cid(bytes(LINK)), Cid.of_block(CAR)]
     yield lambda: [LINK.to_text("base36"), LINK.version, LINK.codec, LINK.hash_code, LINK.digest]
@@ -57,6 +77,8 @@ def works():
     yield lambda: [kombilad.read_node(*it) for it in UNIXFS.items()]
     yield lambda: list(kombilad.read_file(UNIXFS.get, FILE, start=1))
     yield lambda: kombilad.open_file(UNIXFS.get, FILE).read()
+    yield pack
+    yield car
 
 
 def refused(what, begin, end, most=2000):

@@ -82,3 +82,15 @@ WATCHED(kombilad_unixfs_node,
         (const uint8_t *cid, size_t cid_len, const uint8_t *block, size_t len, kombilad_node *node,
          uint8_t *target, size_t target_len, size_t *needed, size_t *place),
         (cid, cid_len, block, len, node, target, target_len, needed, place))
+WATCHED(kombilad_pack_chunk, (kombilad_packing * packing, const uint8_t *chunk, size_t len),
+        (packing, chunk, len))
+WATCHED(kombilad_pack_last_chunk,
+        (kombilad_packing * packing, const uint8_t *chunk, size_t len,
+         const kombilad_node *attributes),
+        (packing, chunk, len, attributes))
+WATCHED(kombilad_pack_folder,
+        (uint32_t version, const kombilad_node *attributes, uint64_t sharded_above,
+         const kombilad_folder_entry *entries, size_t entries_len, const uint8_t *names,
+         size_t names_len, kombilad_packing *packing, size_t *place),
+        (version, attributes, sharded_above, entries, entries_len, names, names_len, packing,
+         place))

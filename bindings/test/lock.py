@@ -115,6 +115,15 @@ class Lock(unittest.TestCase):
             found = calls(lambda: kombilad.resolve(get, root, name))
             self.assertEqual(found, (released, 2 - released))
 
+    def test_packing(self):
+        packer = kombilad.Packer(lambda cid, block: None, chunk_size=65_536)
+        empty = packer.file(b"")
+        for size, without, with_lock in ((65_535, 0, 1), (65_536, 1, 0), (65_537, 1, 1)):
+            self.assertEqual(calls(lambda: packer.file(bytes(size))), (without, with_lock))
+        for size, without, with_lock in ((65_535, 0, 1), (65_536, 1, 0)):
+            entries = {"n" * size: empty}
+            self.assertEqual(calls(lambda: packer.folder(entries)), (without, with_lock))
+
     def test_two_threads_are_in_the_library_at_once(self):
         for work in (
             lambda: self.assertEqual(kombilad.decode_dag_cbor(LARGE), VALUES[1]),

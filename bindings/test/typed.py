@@ -12,6 +12,7 @@ from typing import Any, BinaryIO, Dict, List, Optional, Tuple
 import kombilad
 from kombilad import (
     CarReader,
+    CarWriter,
     Cid,
     EncodeError,
     FileReader,
@@ -19,6 +20,8 @@ from kombilad import (
     KombiladError,
     Node,
     NodeKind,
+    Packed,
+    Packer,
     libipld,
 )
 
@@ -57,6 +60,17 @@ def folder_of(blocks: Dict[Cid, bytes], cid: Cid, path: pathlib.Path) -> Optiona
     kombilad.unpack(blocks.get, cid, "name", symlinks="none")  # type: ignore[arg-type]
     kombilad.resolve(blocks.get, cid, b"a")  # type: ignore[arg-type]
     return node.target if node.kind is NodeKind.SYMLINK else None
+
+
+def packed(file: BinaryIO, path: pathlib.Path) -> Tuple[Packed, Cid]:
+    writer = CarWriter(file, [Cid("bafkqaaa")])
+    packer = Packer(writer.write, version=1, raw_leaves=True, sharded_above=None)
+    entries: Dict[str, Packed] = {"a": packer.file(b"a"), "b": packer.symlink("a", mode=0o777)}
+    packer.file([b"a", bytearray(b"b")], mtime_ns=-1)
+    packer.file("text")  # type: ignore[arg-type]
+    packer.folder({b"a": entries["a"]})  # type: ignore[arg-type]
+    root: Cid = kombilad.pack(path, "out.car", hidden=True)
+    return packer.folder(entries.items()), root
 
 
 def texts_of(cid: Cid) -> List[str]:

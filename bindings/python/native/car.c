@@ -1,4 +1,4 @@
-/* CAR files: the header, one section, and a whole file in memory. */
+/* CAR files: the header and one section, read and written, and a whole file in memory. */
 #include "native.h"
 
 #define DAG_CBOR 0x71
@@ -225,5 +225,60 @@ PyObject *decode_car(PyObject *module, PyObject *arguments) {
     if (blocks != NULL)
         return Py_BuildValue("KNN", (unsigned long long)place.version, roots, blocks);
     Py_XDECREF(roots);
+    return NULL;
+}
+
+/* ---- Writing */
+
+/* Returns the header with these roots. */
+static PyObject *header_of(const struct state *state, const kombilad_cid *roots, size_t count) {
+    size_t len = 0, place = 0;
+    PyObject *header = NULL;
+    uint32_t status = kombilad_car_header(roots, count, NULL, 0, &len, &place);
+    if (status == KOMBILAD_TOO_SHORT) {
+        header = PyBytes_FromStringAndSize(NULL, (Py_ssize_t)len);
+        if (header == NULL) return NULL;
+        status = kombilad_car_header(roots, count, (uint8_t *)PyBytes_AsString(header), len, &len,
+                                     &place);
+    }
+    if (status == KOMBILAD_OK) return header;
+    Py_XDECREF(header);
+    set_failed(state, status, 0);
+    return NULL;
+}
+
+/* car_header(roots): returns the header of a CAR with these roots, a list of their bytes. */
+PyObject *car_header(PyObject *module, PyObject *given) {
+    Py_ssize_t count = PyList_Size(given);
+    if (count < 0) return NULL;
+    kombilad_cid *roots = PyMem_New(kombilad_cid, (size_t)count);
+    if (roots == NULL) return PyErr_NoMemory();
+    PyObject *header = NULL;
+    Py_ssize_t at = 0;
+    for (; at < count; at++) {
+        char *bytes;
+        Py_ssize_t len;
+        if (PyBytes_AsStringAndSize(PyList_GetItem(given, at), &bytes, &len) < 0 ||
+            cid_record(bytes, len, roots + at) < 0)
+            break;
+    }
+    if (at == count) header = header_of(state_of(module), roots, (size_t)count);
+    PyMem_Free(roots);
+    return header;
+}
+
+/* car_section(cid, block_len): returns what a section has before a block of so many bytes. */
+PyObject *car_section(PyObject *module, PyObject *arguments) {
+    const char *cid;
+    Py_ssize_t cid_len;
+    unsigned long long len;
+    if (!PyArg_ParseTuple(arguments, "y#K", &cid, &cid_len, &len)) return NULL;
+    uint8_t front[KOMBILAD_CAR_SECTION];
+    size_t needed = 0;
+    uint32_t status = kombilad_car_section((const uint8_t *)cid, (size_t)cid_len, len, front,
+                                           sizeof front, &needed);
+    if (status == KOMBILAD_OK)
+        return PyBytes_FromStringAndSize((const char *)front, (Py_ssize_t)needed);
+    set_failed(state_of(module), status, 0);
     return NULL;
 }

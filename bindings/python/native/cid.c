@@ -163,6 +163,16 @@ int cid_kind_of(const struct state *state, PyObject *given, enum cid_kind *kind)
     return 0;
 }
 
+int cid_record(const char *bytes, Py_ssize_t len, kombilad_cid *record) {
+    if ((size_t)len > sizeof record->bytes) {
+        PyErr_SetString(PyExc_ValueError, "no CID has so many bytes");
+        return -1;
+    }
+    record->len = (uint8_t)len;
+    memcpy(record->bytes, bytes, (size_t)len);
+    return 0;
+}
+
 /* The maximum number of characters of a CID's text. */
 #define LONGEST_TEXT 173
 

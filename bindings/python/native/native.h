@@ -85,6 +85,9 @@ enum cid_kind { CID_OBJECT, CID_TEXT, CID_BYTES };
 /* Writes which of the three classes an object is, or fails. */
 int cid_kind_of(const struct state *state, PyObject *given, enum cid_kind *kind);
 
+/* Writes the record of a CID with these bytes, if it has room for as many. */
+int cid_record(const char *bytes, Py_ssize_t len, kombilad_cid *record);
+
 /* Returns the CID with these bytes, as an instance of a class. */
 PyObject *cid_object(const struct state *state, enum cid_kind kind, const uint8_t *bytes,
                      size_t len);
@@ -122,7 +125,8 @@ PyObject *number_if(bool is_there, uint64_t number);
  * a link. */
 void set_failed(const struct state *state, uint32_t status, size_t offset);
 
-/* Sets the exception of a status of a text, with the index of a character in it. */
+/* Sets the exception of a status of a text, with the index of a character in it, or of the entries of
+ * a folder, with the number of one. */
 void set_text_failed(const struct state *state, uint32_t status, Py_ssize_t place);
 
 /* ---- Calls of the module */
@@ -158,6 +162,8 @@ PyObject *open_part(PyObject *module, PyObject *arguments);
 PyObject *next_part(PyObject *module, PyObject *arguments);
 PyObject *verify(PyObject *module, PyObject *arguments);
 PyObject *decode_car(PyObject *module, PyObject *arguments);
+PyObject *car_header(PyObject *module, PyObject *roots);
+PyObject *car_section(PyObject *module, PyObject *arguments);
 
 /* Calls on files, folders and nodes of UnixFS. */
 PyObject *file_new(PyObject *module, PyObject *arguments);
@@ -168,6 +174,15 @@ PyObject *folder_take(PyObject *module, PyObject *arguments);
 PyObject *stays_inside(PyObject *module, PyObject *arguments);
 PyObject *unixfs_node(PyObject *module, PyObject *arguments);
 PyObject *walk_wanted(PyObject *module, PyObject *capsule);
+
+/* Calls that pack files, folders and symbolic links of UnixFS. */
+PyObject *pack_chunk(PyObject *module, PyObject *arguments);
+PyObject *pack_file(PyObject *module, PyObject *arguments);
+PyObject *pack_folder(PyObject *module, PyObject *arguments);
+PyObject *pack_free(PyObject *module, PyObject *capsule);
+PyObject *pack_last_chunk(PyObject *module, PyObject *arguments);
+PyObject *pack_symlink(PyObject *module, PyObject *arguments);
+PyObject *pack_take(PyObject *module, PyObject *capsule);
 
 /* Returns the canonical block of a value. */
 PyObject *encode(PyObject *module, PyObject *arguments);

@@ -1,5 +1,5 @@
 """Content identifiers (CIDs), blocks of DAG-CBOR and DAG-PB, their DAG-JSON, CAR files, and files of
-UnixFS, read by proved code: the library `libkombilad`.
+UnixFS, read and written by proved code: the library `libkombilad`.
 
 >>> import kombilad
 >>> block = bytes.fromhex("a1646c696e6bd82a450001550000")
@@ -15,12 +15,14 @@ UnixFS, read by proved code: the library `libkombilad`.
 - `to_json` returns the DAG-JSON of a block, and `from_json` the block of a text in DAG-JSON.
 - `decode_dag_pb` returns the node of a block of DAG-PB.
 - `CarReader` reads the blocks of a CAR file one at a time, and `AsyncCarReader` does so with
-  `async for`. `decode_car` returns the values of all blocks of a CAR in memory. `verify` compares a
-  block with its CID.
+  `async for`. `decode_car` returns the values of all blocks of a CAR in memory. `CarWriter` writes a
+  CAR. `verify` compares a block with its CID.
 - `read_file` returns the bytes of a file of UnixFS, or of a range of it, from blocks that it
   verifies, and `open_file` a binary file. `list_folder` returns the entries of a folder, `resolve`
   the CID at a path, and `read_node` what a block says of a file, a folder or a symbolic link.
   `unpack` writes files and folders to the disk.
+- `Packer` makes the blocks of files, folders and symbolic links. `pack` packs those of the disk into a
+  CAR.
 
 A block is any object with contiguous bytes, such as `bytes`, `bytearray`, `memoryview` or `mmap`.
 It isn't copied, and must not change while a call reads it. If it is `bytes` of 64 KiB or more, the
@@ -45,7 +47,7 @@ from ._block import (
     links,
     to_json,
 )
-from ._car import AsyncCarReader, CarReader, decode_car, verify
+from ._car import AsyncCarReader, CarReader, CarWriter, decode_car, verify
 from ._cid import DAG_CBOR, DAG_PB, RAW, SHA2_256, Cid
 from ._errors import (
     BaseError,
@@ -59,6 +61,7 @@ from ._errors import (
     LimitError,
     MissingBlockError,
     MissingEntryError,
+    PackError,
     SymlinkError,
     TextError,
     VerifyError,
@@ -67,6 +70,7 @@ from ._file import FileReader, open_file, read_file
 from ._folder import FolderEntry, list_folder, resolve
 from . import _native
 from ._node import Node, NodeKind, read_node
+from ._pack import Packed, Packer, pack
 from ._status import Status
 from ._unpack import unpack
 from ._values import (
@@ -86,6 +90,7 @@ __all__ = [
     "BlockError",
     "CarError",
     "CarReader",
+    "CarWriter",
     "Cid",
     "CidError",
     "EncodeError",
@@ -99,6 +104,9 @@ __all__ = [
     "MissingEntryError",
     "Node",
     "NodeKind",
+    "PackError",
+    "Packed",
+    "Packer",
     "Status",
     "SymlinkError",
     "TextError",
@@ -117,6 +125,7 @@ __all__ = [
     "links",
     "list_folder",
     "open_file",
+    "pack",
     "read_file",
     "read_node",
     "resolve",

@@ -1,4 +1,4 @@
-"""Reads CAR files: a whole file in memory, or one section after another."""
+"""Reads CAR files: a whole file in memory, or one section after another. Writes them."""
 
 import io
 from typing import (
@@ -8,6 +8,7 @@ from typing import (
     BinaryIO,
     Callable,
     Dict,
+    Iterable,
     Iterator,
     List,
     Optional,
@@ -316,3 +317,37 @@ def _reading(source: Any) -> Callable[[int], Awaitable[bytes]]:
         return b""
 
     return read_chunk
+
+
+class CarWriter:
+    """Writes a CAR of version 1 to a binary file that is open for writing: the header with the roots at
+    once, and a section for each block. It keeps nothing in memory, and doesn't close the file.
+
+    >>> import io
+    >>> file = io.BytesIO()
+    >>> writer = CarWriter(file, [Cid("bafkqaaa")])
+    >>> writer.write(Cid("bafkqaaa"), b"")
+    >>> CarReader(file.getvalue()).roots
+    [Cid('bafkqaaa')]
+
+    It is for files that wait until they can write. An error of the file is passed on, and may leave a
+    part of a section.
+    """
+
+    def __init__(self, file: BinaryIO, roots: Iterable[Cid] = ()):
+        self._file: Any = file
+        self._write(_native.car_header([bytes(root) for root in roots]))
+
+    def _write(self, data: BytesLike) -> None:
+        # A file without a buffer may take only some of the bytes.
+        count = self._file.write(data)
+        with memoryview(data).cast("B") as part:
+            while count is not None and count < len(part):
+                count += self._file.write(part[count:])
+
+    def write(self, cid: Cid, block: BytesLike) -> None:
+        """Writes a block with its CID. They are not compared."""
+        with memoryview(block) as view:
+            size = view.nbytes
+        self._write(_native.car_section(bytes(cid), size))
+        self._write(block)

@@ -101,6 +101,22 @@ class FileError(KombiladError):
     _at = "at link"
 
 
+class PackError(KombiladError):
+    """A file, a folder or a symbolic link isn't packed. If an entry of a folder is at fault, `entry` is
+    its name, and `place` its number in the order of the names, counted from 0. Otherwise they are
+    None."""
+
+    def __init__(self, status: Status, place: Optional[int] = None, entry: Optional[str] = None):
+        super().__init__(status)
+        if entry is not None:
+            self.args = (f"{self}: {_cut(entry)!r}",)
+        self.place = place
+        self.entry = entry
+
+    def __reduce__(self) -> Tuple[Any, ...]:
+        return (type(self), (self.status, self.place, self.entry))
+
+
 class MissingBlockError(LookupError):
     """A block is missing. `cid` is its CID."""
 
@@ -227,6 +243,10 @@ def failed(status: int, place: Optional[int] = None, offset: Optional[int] = Non
         return TextError(known, place)
     if known in _OF_LINKS:
         return FileError(known, offset)
+    if known in (Status.PACK_INVALID_NAME, Status.PACK_NAME_ORDER):
+        return PackError(known, place)
+    if known >= Status.PACK_WIDTH:
+        return PackError(known)
     if Status.WALK_DONE <= known <= Status.FILE_TOO_MANY_PARTS or known >= Status.FOLDER_CODEC:
         return FileError(known)
     if Status.UNIXFS_END <= known <= Status.UNIXFS_NANOSECONDS:

@@ -234,27 +234,48 @@ def _remove(top: bytes) -> None:
             os.rmdir(pending.pop())
 
 
-def _place(unpacking: _Unpacking, path: bytes, default_mode: int) -> None:
-    """Gives what was unpacked its name, at which nothing must be."""
-    attributes, top = unpacking.attributes, unpacking.top
+def rename_new(source: bytes, path: bytes, *, is_folder: bool) -> None:
+    """Gives a file or a folder another name, at which nothing must be."""
     # It takes the place of an empty one that is created here, so that nothing else is replaced.
-    if attributes is not None:
-        mode = default_mode if attributes.mode is None else attributes.mode
-        attributes._replace(mode=mode).set(top)
+    if is_folder:
         os.mkdir(path)
-        source, remove = top, os.rmdir
     else:
         os.close(os.open(path, os.O_WRONLY | os.O_CREAT | os.O_EXCL))
-        source, remove = os.path.join(top, _NAME), os.unlink
     try:
         os.rename(source, path)
     except BaseException:
         with contextlib.suppress(OSError):
-            remove(path)
+            (os.rmdir if is_folder else os.unlink)(path)
         raise
-    if source != top:
+
+
+def _place(unpacking: _Unpacking, path: bytes, default_mode: int) -> None:
+    """Gives what was unpacked its name, at which nothing must be."""
+    attributes, top = unpacking.attributes, unpacking.top
+    if attributes is not None:
+        mode = default_mode if attributes.mode is None else attributes.mode
+        attributes._replace(mode=mode).set(top)
+        rename_new(top, path, is_folder=True)
+    else:
+        rename_new(os.path.join(top, _NAME), path, is_folder=False)
         with contextlib.suppress(OSError):
             os.rmdir(top)
+
+
+def new_path(given: Union[str, "os.PathLike[str]"]) -> Tuple[bytes, bytes]:
+    """Returns the folder of a path, and the name in it. Raises `FileExistsError` if something is
+    there."""
+    path = os.fsencode(given)
+    path = path.rstrip(b"/") or path
+    try:
+        os.lstat(path)
+    except FileNotFoundError:
+        above, name = os.path.split(path)
+        if name in (b"", b".."):
+            raise
+    else:
+        raise FileExistsError(errno.EEXIST, os.strerror(errno.EEXIST), given)
+    return os.path.realpath(above or b"."), name
 
 
 def unpack(
@@ -308,17 +329,7 @@ def unpack(
     """
     if symlinks not in ("inside", "skip", "any"):
         raise ValueError('symlinks is one of "inside", "skip" and "any"')
-    path = os.fsencode(folder)
-    path = path.rstrip(b"/") or path
-    try:
-        os.lstat(path)
-    except FileNotFoundError:
-        above, name = os.path.split(path)
-        if name in (b"", b".."):
-            raise
-    else:
-        raise FileExistsError(errno.EEXIST, os.strerror(errno.EEXIST), folder)
-    above = os.path.realpath(above or b".")
+    above, name = new_path(folder)
     top = tempfile.mkdtemp(prefix=b".kombilad-", dir=above)
     try:
         default_mode = _default_mode(top)
