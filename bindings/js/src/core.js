@@ -152,10 +152,13 @@ export function failed (core, status) {
   return ofStatus(status, has ? core.offset() : undefined)
 }
 
+/** Returns whether the memory limit is still the one with which an instance started. */
+export function isCurrent (core) { return core.bound === bound }
+
 /**
  * Keeps an instance for the next call, unless the memory limit was changed while a call used it.
  */
-function keep (core) { if (core.bound === bound) instance = core }
+function keep (core) { if (isCurrent(core)) instance = core }
 
 /** Returns the error TRAP for a trap or a RangeError, and any other error unchanged. */
 export function trapOf (error) {
@@ -266,6 +269,12 @@ export function bytesOf (input) {
   return bytes
 }
 
+/** Returns an iterable. Throws INPUT, with `more` in the message, for any other value. */
+export function iterableOf (value, more) {
+  if (typeof value === 'object' && value !== null && (value[Symbol.asyncIterator] ?? value[Symbol.iterator]) !== undefined) return value
+  throw ofName('INPUT', undefined, more)
+}
+
 /**
  * Returns a Uint8Array of any class unchanged, since that is faster than a view. Returns the result
  * of `bytesOf` for any other input. The result is for `sizeOf` and `place`.
@@ -295,10 +304,10 @@ export function place (core, bytes, size, behind) {
 
 /**
  * Returns a number of at most 64 bits as a BigInt. Throws INPUT, with `what` in the message, unless
- * it is a safe integer of at least 0, or a BigInt from 0 to 2^64 - 1.
+ * it is a safe integer or a BigInt, from `least` to `most`.
  */
-export function longOf (number, what) {
-  if (typeof number === 'bigint' ? number >= 0n && number < 1n << 64n : Number.isSafeInteger(number) && number >= 0) return BigInt(number)
+export function longOf (number, what, least = 0n, most = (1n << 64n) - 1n) {
+  if ((typeof number === 'bigint' || Number.isSafeInteger(number)) && number >= least && number <= most) return BigInt(number)
   throw ofName('INPUT', undefined, `: ${what}`)
 }
 

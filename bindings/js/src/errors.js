@@ -100,7 +100,14 @@ const NAMES = {
   234: 'FOLDER_WRONG_SLOT',
   235: 'FOLDER_TOO_DEEP',
   236: 'FOLDER_MISSING',
-  237: 'FOLDER_MORE'
+  237: 'FOLDER_MORE',
+  240: 'PACK_WIDTH',
+  241: 'PACK_TOO_LARGE',
+  242: 'PACK_NANOSECONDS',
+  243: 'PACK_INVALID_NAME',
+  244: 'PACK_NAME_ORDER',
+  245: 'PACK_SAME_HASH',
+  246: 'PACK_WAITING'
 }
 
 /**
@@ -144,6 +151,7 @@ const OTHERS = {
   CAR_READ_ONCE: 'the blocks of an iterator were asked for a second time',
   MISSING_BLOCK: 'a block is missing',
   MISSING_ENTRY: 'a folder has no entry with this name',
+  PACK_NAME_ORDER: 'two entries have the same name, so rename one of them',
   NO_TAPE: 'this build of the core has no tapes',
   INPUT: 'the input is not of the type that the call takes',
   NOT_STARTED: 'the core can\'t be started here; in a browser call `await init()` first',
@@ -153,8 +161,8 @@ const OTHERS = {
 /**
  * Represents an error of this package. `code` is its name. `offset` is the byte of the input at
  * which it occurred, or undefined. The calls for UnixFS also set `cid`, which is the CID of the
- * block, `link`, which is the index of the invalid link of a folder, and `path`, which is the path
- * up to a missing name.
+ * block, `link`, which is the index of the invalid link of a folder, `path`, which is the path up to
+ * a missing name, and `entry`, which is the name of the entry that a folder can't have.
  */
 export class KombiladError extends Error {
   constructor (code, message, offset) {
@@ -165,6 +173,7 @@ export class KombiladError extends Error {
     this.cid = undefined
     this.link = undefined
     this.path = undefined
+    this.entry = undefined
   }
 }
 

@@ -1,7 +1,7 @@
 import { longOf, place } from './core.js'
 import { Walk, itemsOf, stopped } from './walk.js'
 
-const NO_LIMIT = 2n ** 64n - 1n
+export const NO_LIMIT = 2n ** 64n - 1n
 
 /** Returns a limit as a number of 64 bits. A limit that is not a number is 0. */
 function long (given, usual) {
@@ -19,13 +19,13 @@ class FileWalk extends Walk {
     const first = longOf(start ?? 0, 'the start')
     const count = (length ?? Infinity) === Infinity ? NO_LIMIT : longOf(length, 'the length')
     const limits = [long(bytes, Infinity), long(blocks, 2 ** 24), short(waiting, 2 ** 18), short(levels, 64)]
-    return this.call(() => this.calls.kombilad_file_new(this.room, size, first, count, ...limits, this.walk))
+    return this.call(() => this.calls.kombilad_file_new(this.room, size, first, count, ...limits, this.held))
   }
 
   take (block) {
     const size = block.length
     this.out = place(this, block, size, size)
-    const status = this.call(() => this.calls.kombilad_file_take(this.walk, this.room, size, this.out, size, this.neededAt, this.offsetAt))
+    const status = this.call(() => this.calls.kombilad_file_take(this.held, this.room, size, this.out, size, this.neededAt, this.offsetAt))
     if (status !== 0) throw stopped(this, status)
     return Math.min(this.needed(), 1)
   }

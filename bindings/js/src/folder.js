@@ -6,7 +6,7 @@ import { Walk, blockOf, inBlock, itemsOf, narrow, ofBlock, stopped } from './wal
 import { utf8 } from './writer.js'
 
 /** The sizes in bytes of the core's records of an entry and of a place. */
-const ENTRY = 120
+export const ENTRY = 120
 const SPAN = 16
 /** The minimum number of bytes of an entry in a block. */
 const SHORTEST_ENTRY = 6
@@ -17,7 +17,7 @@ const MORE = 237
 
 /** A walk over a folder. The items of a block are its entries. */
 class FolderWalk extends Walk {
-  begin (size) { return this.call(() => this.calls.kombilad_folder_new(this.room, size, this.walk)) }
+  begin (size) { return this.call(() => this.calls.kombilad_folder_new(this.room, size, this.held)) }
 
   take (block) {
     const size = block.length
@@ -30,7 +30,7 @@ class FolderWalk extends Walk {
     }
     this.entries = place(this, block, size, behind)
     this.names = this.entries + most * ENTRY
-    const status = this.call(() => this.calls.kombilad_folder_take(this.walk, this.room, size, this.entries, most, this.names, size, this.neededAt, this.offsetAt))
+    const status = this.call(() => this.calls.kombilad_folder_take(this.held, this.room, size, this.entries, most, this.names, size, this.neededAt, this.offsetAt))
     if (status !== 0) throw stopped(this, status)
     return this.needed()
   }

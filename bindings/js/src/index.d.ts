@@ -31,6 +31,7 @@ export type ErrorCode =
   | 'MISSING_BLOCK' | 'MISSING_ENTRY' | 'FILE_CODEC' | 'FILE_NO_DATA' | 'FILE_NOT_FILE' | 'FILE_SIZE_COUNT' | 'FILE_SIZE' | 'FILE_PART_SIZE' | 'FILE_TOO_LARGE' | 'FILE_TOO_MANY_BLOCKS' | 'FILE_TOO_DEEP' | 'FILE_TOO_MANY_PARTS'
   | 'UNIXFS_END' | 'UNIXFS_VARINT_TOO_LARGE' | 'UNIXFS_UNKNOWN_FIELD' | 'UNIXFS_FIELD_ORDER' | 'UNIXFS_NO_TYPE' | 'UNIXFS_UNKNOWN_TYPE' | 'UNIXFS_MODE_TOO_LARGE' | 'UNIXFS_NO_SECONDS' | 'UNIXFS_NANOSECONDS'
   | 'FOLDER_CODEC' | 'FOLDER_NOT_FOLDER' | 'FOLDER_HASH_FUNCTION' | 'FOLDER_FANOUT' | 'FOLDER_INVALID_NAME' | 'FOLDER_NAME_ORDER' | 'FOLDER_INVALID_SLOT' | 'FOLDER_SLOT_ORDER' | 'FOLDER_BIT_FIELD' | 'FOLDER_NOT_SHARD' | 'FOLDER_WRONG_SLOT' | 'FOLDER_TOO_DEEP'
+  | 'PACK_WIDTH' | 'PACK_TOO_LARGE' | 'PACK_INVALID_NAME' | 'PACK_NAME_ORDER' | 'PACK_SAME_HASH'
   | 'ENCODE_UNSUPPORTED' | 'ENCODE_NUMBER' | 'ENCODE_STRING' | 'ENCODE_TOO_DEEP' | 'WRONG_VERSION' | 'INPUT' | 'NO_TAPE' | 'NOT_STARTED' | 'TRAP'
 
 /** Reports why a call failed. */
@@ -50,6 +51,8 @@ export class KombiladError extends Error {
   readonly link?: number
   /** The path up to the missing name, for `MISSING_ENTRY`. */
   readonly path?: string
+  /** The name of the entry at fault, if `Packer.folder` rejects one. */
+  readonly entry?: string
 }
 
 /** A multihash. */
@@ -372,6 +375,92 @@ export interface UnixFSNode {
  */
 export function readNode(cid: CID, block: Bytes): UnixFSNode
 
+/** Stores a block that was packed. A promise that it returns is awaited before the next block. */
+export type PutBlock = (cid: CID, block: Uint8Array) => unknown
+
+/** Where a `Packer` puts its blocks, and how it packs. The default is the layout of `ipfs add`. */
+export interface PackOptions {
+  put: PutBlock
+  /** The version of the CIDs: 0 by default. */
+  version?: 0 | 1
+  /** Whether a chunk of a file is a raw block, whose CID has version 1: false by default. */
+  rawLeaves?: boolean
+  /** The bytes of each chunk of a file except the last: 262,144 by default, 67,108,864 at most. */
+  chunkSize?: number | bigint
+  /** The maximum number of links in a block of a file: 174 by default, 2 at least. */
+  links?: number | bigint
+  /**
+   * The bytes of names and CIDs above which a folder is sharded: 262,144 by default. For Infinity
+   * no folder is.
+   */
+  shardedAbove?: number | bigint
+}
+
+/** The permissions and the time of what is packed, as `readNode` returns them. */
+export interface PackAttributes {
+  /** The permissions: 32 bits, as `chmod` has them in the low twelve. */
+  mode?: number | bigint
+  /** The time of the last change, in seconds since the beginning of 1970 in UTC. */
+  mtime?: { seconds: number | bigint, nanoseconds?: number | bigint }
+}
+
+/** A file, a folder or a symbolic link that was packed. */
+export interface Packed {
+  /** The CID of its root. */
+  cid: CID
+  /** The bytes of the file, and 0 for a folder or a link. A `bigint` if it isn't a safe integer. */
+  size: number | bigint
+  /** The bytes of its blocks. A folder states them as the `tsize` of the entry. */
+  total: number | bigint
+}
+
+/** What a file is read from: bytes, an iterable of bytes, a ReadableStream or a Blob. */
+export type PackSource = Bytes | Iterable<Bytes> | AsyncIterable<Bytes> | { getReader(): unknown } | { stream(): unknown }
+
+/**
+ * Packs files, folders and symbolic links of UnixFS (IPFS) into blocks, as `ipfs add` does. Each
+ * block is passed to `put` when it is made. In a file it comes after the blocks to which it links.
+ * In a folder the root comes first, and each shard before those below it.
+ *
+ * An error of `put` or of a source is passed on. After it, and after any other error, what was
+ * packed so far is freed, and the packer can be used again. Calls may run at the same time. Each
+ * then has an instance of the core with its own memory, of which the packer keeps one.
+ *
+ *     const packer = new Packer({ put: (cid, block) => blocks.set(String(cid), block) })
+ *     const readme = await packer.file(new TextEncoder().encode('hello'), { mode: 0o644 })
+ *     const root = await packer.folder([['README', readme], ['link', await packer.symlink('README')]])
+ */
+export class Packer {
+  /**
+   * Throws `CID_UNKNOWN_VERSION`, `PACK_WIDTH` if `links` is 0 or 1, and `INPUT` for another invalid
+   * option.
+   */
+  constructor(options: PackOptions)
+  /**
+   * Packs a file. The pieces of the source may have any lengths, and only a chunk of them is in
+   * memory. Throws `INPUT` if an attribute is out of range, or if a piece isn't bytes.
+   *
+   *     const { cid, size } = await packer.file(blob, { mtime: { seconds: 1700000000 } })
+   */
+  file(source: PackSource, attributes?: PackAttributes): Promise<Packed>
+  /**
+   * Packs a folder. Its entries come in any order, for example as a Map from each name to what
+   * `file`, `folder` or `symlink` returned. The error of an entry has its name as `entry`:
+   * `PACK_INVALID_NAME`, `PACK_NAME_ORDER` if two have the same name, or `ENCODE_STRING` if the name
+   * has a surrogate without a partner. Throws `PACK_SAME_HASH` if two names of a sharded folder have
+   * the same hash, and `PACK_TOO_LARGE` if the total is 2^64 bytes or more.
+   *
+   *     const { cid } = await packer.folder(new Map([['a', a], ['b', b]]), { mode: 0o755 })
+   */
+  folder(entries: Iterable<readonly [string, Pick<Packed, 'cid' | 'total'>]> | AsyncIterable<readonly [string, Pick<Packed, 'cid' | 'total'>]>, attributes?: PackAttributes): Promise<Packed>
+  /**
+   * Packs a symbolic link. Throws `TEXT_UTF8` or `ENCODE_STRING` if the target isn't Unicode.
+   *
+   *     const { cid } = await packer.symlink('../target')
+   */
+  symlink(target: string | Bytes, attributes?: PackAttributes): Promise<Packed>
+}
+
 /** Iterates over the positions of the blocks of a CAR, in their order. */
 export class CarIndexer implements AsyncIterable<BlockIndex> {
   readonly version: 1 | 2
@@ -393,3 +482,13 @@ export class CarReader {
   blocks(): AsyncGenerator<Block>
   cids(): AsyncGenerator<CID>
 }
+
+/**
+ * Writes a CAR of version 1: yields its header, and then a section for each block, which it gets
+ * after the sections before it were taken. The blocks have the form in which `CarBlockIterator` and
+ * `CarReader.blocks` yield them, and are not compared with their CIDs. If the iteration ends early,
+ * or an error is thrown, the iterator of the blocks is closed.
+ *
+ *     await writeFile('new.car', encodeCar([root], reader.blocks()))
+ */
+export function encodeCar(roots: Iterable<CID> | AsyncIterable<CID>, blocks: Iterable<Block> | AsyncIterable<Block>): AsyncGenerator<Uint8Array, void, void>

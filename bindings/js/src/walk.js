@@ -3,27 +3,24 @@ import { Core, bytesOf, place, trapOf } from './core.js'
 import { ofName, ofStatus } from './errors.js'
 
 const DONE = 192
-/** The size in bytes of the core's record of a walk. */
-const WALK = 16
+/** The size in bytes of the core's record of what it keeps. */
+const HELD = 16
 
 /**
- * A walk over the blocks of a file or a folder. It is a core of its own, since it keeps memory of
- * the core from call to call. The engine frees it. A class that extends this one has the calls
- * `begin`, `take` and `item`.
+ * A core of its own for calls that keep memory of the core from one to the next. The engine frees
+ * it.
  */
-export class Walk extends Core {
-  constructor (root, options) {
+export class Holder extends Core {
+  constructor () {
     super()
-    this.walk = this.calls.kombilad_wasm_take(WALK)
-    if (this.walk === 0) throw ofStatus(1)
+    this.isStopped = false
+    this.held = this.calls.kombilad_wasm_take(HELD)
+    if (this.held === 0) throw ofStatus(1)
     this.refresh()
-    this.bytes.fill(0, this.walk, this.walk + WALK)
-    place(this, root, root.length, 0)
-    const status = this.begin(root.length, options)
-    if (status !== 0) throw ofStatus(status)
+    this.bytes.fill(0, this.held, this.held + HELD)
   }
 
-  /** Takes the record and the room from the heap, which also has what the walk keeps. */
+  /** Takes the record and the room from the heap, which also has what the calls keep. */
   grown (size) {
     if (this.size >= 0) this.calls.kombilad_wasm_free(this.neededAt)
     this.size = -1
@@ -39,15 +36,29 @@ export class Walk extends Core {
     try {
       return work()
     } catch (error) {
+      this.isStopped = true
       throw trapOf(error)
     } finally {
       this.refresh()
     }
   }
+}
+
+/**
+ * A walk over the blocks of a file or a folder. A class that extends this one has the calls `begin`,
+ * `take` and `item`.
+ */
+export class Walk extends Holder {
+  constructor (root, options) {
+    super()
+    place(this, root, root.length, 0)
+    const status = this.begin(root.length, options)
+    if (status !== 0) throw ofStatus(status)
+  }
 
   /** Returns the CID of the block that the walk wants, or undefined at its end. */
   wanted () {
-    const status = this.call(() => this.calls.kombilad_walk_wanted(this.walk, this.cidAt))
+    const status = this.call(() => this.calls.kombilad_walk_wanted(this.held, this.cidAt))
     if (status === DONE) return undefined
     if (status !== 0) throw ofStatus(status)
     return checkedCid(madeCid(this))

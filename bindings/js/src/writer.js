@@ -239,7 +239,7 @@ class Writer {
 function noMemory (cause) { return Object.assign(ofStatus(1), { cause }) }
 
 /** Returns `size` zero bytes. Throws NO_MEMORY if the engine can't allocate them. */
-function zeros (size) {
+export function zeros (size) {
   try {
     return new Uint8Array(size)
   } catch (cause) {
@@ -276,16 +276,18 @@ function byUnits (keys) {
   return isSorted ? keys : keys.sort(byLength)
 }
 
+/** Compares bytes from the first on. */
+export function byBytes (a, b) {
+  for (let at = 0; at < a.length && at < b.length; at++) if (a[at] !== b[at]) return a[at] - b[at]
+  return a.length - b.length
+}
+
 /**
  * Returns the keys in the order of DAG-CBOR: by the length of their UTF-8, and then by its bytes.
  */
 function byUtf8 (keys) {
   const pairs = keys.map((key) => [key, utf8(key)])
-  pairs.sort(([, a], [, b]) => {
-    if (a.length !== b.length) return a.length - b.length
-    for (let at = 0; at < a.length; at++) if (a[at] !== b[at]) return a[at] - b[at]
-    return 0
-  })
+  pairs.sort(([, a], [, b]) => a.length - b.length || byBytes(a, b))
   return pairs.map(([key]) => key)
 }
 

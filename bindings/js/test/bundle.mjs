@@ -8,10 +8,14 @@ import { resolve } from 'node:path'
 import { browse, serve } from './chromium.mjs'
 
 const FOUND = { name: 'a record', size: '9007199254740992', links: ['bafyreiftoih67acderu7ozytqwpf5ftf7fr3r6r5dmquwy46nqp77cwohi'], code: 'BLOCK_UTF8' }
+// The root that `ipfs add` prints.
+const ROOT = 'Qmf412jQZiuVUtdgnB36FXFX7xg5V6KEbSJ4dpQuhkLyfD'
 const folder = resolve(process.argv[2])
 
 createRequire(import.meta.url)(`${folder}/node.cjs`)
 assert.deepEqual(globalThis.found, FOUND)
+await globalThis.packed
+assert.equal(globalThis.root, ROOT)
 
 const server = await serve(folder)
 try {
@@ -19,8 +23,9 @@ try {
     writeFileSync(`${folder}/${script}.html`, `<!doctype html><link rel="icon" href="data:,"><script type="${type}" src="${script}"></script>`)
     const page = await browse(`${server.url}${script}.html`)
     try {
-      await page.until('window.found !== undefined')
+      await page.until('window.found !== undefined && window.root !== undefined')
       assert.deepEqual(await page.value('window.found'), FOUND, script)
+      assert.equal(await page.value('window.root'), ROOT, script)
       assert.deepEqual(page.problems, [], script)
     } finally {
       await page.close()

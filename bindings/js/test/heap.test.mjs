@@ -74,6 +74,8 @@ describe('the heap', { skip: process.env.HEAP === undefined && 'HEAP names no mo
     const first = heap.malloc(100)
     const second = heap.malloc(100)
     heap.free(second)
+    // The first is the last one again.
+    for (const size of [5000, 100]) assert.equal(heap.realloc(first, size), first)
     assert.equal(heap.malloc(50), second)
     assert.equal(heap.realloc(second, 5000), second)
     heap.free(first)
@@ -105,6 +107,46 @@ describe('the heap', { skip: process.env.HEAP === undefined && 'HEAP names no mo
     assert.ok(heap.size() <= before + 4 * MEBIBYTE)
     assert.ok(heap.bytes().subarray(kept, kept + 1000).every((byte) => byte === 7))
     assert.equal(heap.kombilad_wasm_live(), 1)
+  })
+
+  test('reuses what is freed before a block that stays', () => {
+    const heap = start()
+    let [old, small] = [heap.malloc(MEBIBYTE), heap.malloc(1)]
+    const before = heap.size()
+    // Each block is made before the one of the last round is freed.
+    for (let round = 0; round < 1000; round++) {
+      const made = heap.malloc(MEBIBYTE - round)
+      heap.free(old)
+      heap.free(small)
+      small = heap.malloc(100 + round % 3)
+      old = made
+    }
+    assert.ok(heap.size() <= before + 4 * MEBIBYTE)
+    for (const block of [old, small]) heap.free(block)
+    assert.notEqual(heap.kombilad_wasm_room(8 * MEBIBYTE), 0)
+  })
+
+  test('makes one block of free blocks that lie side by side, and several of one', () => {
+    for (const order of [[0, 1, 2], [0, 2, 1], [1, 0, 2], [1, 2, 0], [2, 0, 1], [2, 1, 0]]) {
+      const heap = start()
+      const made = [0, 1, 2].map(() => heap.malloc(112))
+      const kept = heap.malloc(16)
+      for (const each of order) heap.free(made[each])
+      // A block that is too long for them.
+      const long = heap.malloc(3 * 112 + 2 * 16 + 1)
+      assert.ok(long > kept)
+      assert.equal(heap.malloc(3 * 112 + 2 * 16), made[0])
+      // It is shortened where it is, and what follows it is free.
+      assert.equal(heap.realloc(made[0], 112), made[0])
+      assert.deepEqual([heap.malloc(112), heap.malloc(112)], [made[1], made[2]])
+      assert.ok(heap.malloc(1) > long)
+      assert.equal(heap.kombilad_wasm_live(), 6)
+    }
+    // Blocks that are too short are passed over.
+    const heap = start()
+    const made = Array.from({ length: 5 }, (_, each) => [heap.malloc(200 - each * 16), heap.malloc(16)][0])
+    for (const block of made) heap.free(block)
+    assert.equal(heap.malloc(200), made[0])
   })
 
   test('does not exceed its bound, and returns 0 instead', () => {

@@ -1,4 +1,4 @@
-import { CID, CarBlockIterator, CarIndexedReader, CarIndexer, CarReader, KombiladError, check, code, countLinks, decode, encode, fromJSON, isCanonical, linkPositions, links, listFolder, name, readFile, readNode, resolvePath, setMemoryLimit, sha256, tape, toJSON, verify, dagCbor, dagPb } from 'kombilad'
+import { CID, CarBlockIterator, CarIndexedReader, CarIndexer, CarReader, KombiladError, Packer, check, code, countLinks, decode, encode, encodeCar, fromJSON, isCanonical, linkPositions, links, listFolder, name, readFile, readNode, resolvePath, setMemoryLimit, sha256, tape, toJSON, verify, dagCbor, dagPb } from 'kombilad'
 
 const cid: CID = CID.parse('bafkqaaa')
 const version: 0 | 1 = cid.version
@@ -63,6 +63,19 @@ export async function tree (get: (cid: CID) => Uint8Array | undefined, root: CID
   return found
 }
 
+export async function packed (car: { write(bytes: Uint8Array): unknown }, file: Blob): Promise<number | bigint> {
+  const blocks: Array<{ cid: CID, bytes: Uint8Array }> = []
+  const packer = new Packer({ put: async (cid, bytes) => { blocks.push({ cid, bytes }) }, version: 1, rawLeaves: true, chunkSize: 1000, links: 3n, shardedAbove: Infinity })
+  const a = await packer.file(file, { mode: 0o644, mtime: { seconds: -1n, nanoseconds: 5 } })
+  const b = await packer.file(file.stream())
+  const c = await packer.file([bytes, bytes.buffer])
+  const link = await packer.symlink('a', { mtime: { seconds: 1 } })
+  const { mode, mtime } = readNode(a.cid, blocks[0].bytes)
+  const root = await packer.folder(new Map([['a', a], ['b', b], ['c', c], ['link', link]]), { mode, mtime })
+  for await (const piece of encodeCar([root.cid], blocks)) car.write(piece)
+  return root.total
+}
+
 export function missing (error: KombiladError): string | undefined { return error.code === 'MISSING_ENTRY' ? error.path : String(error.link) }
 
 export function rejected (): void {
@@ -72,6 +85,8 @@ export function rejected (): void {
   cid.toString('base1')
   // @ts-expect-error: a string is not a block
   links('bafkqaaa')
+  // @ts-expect-error: a packer needs somewhere to put its blocks
+  void new Packer({ version: 1 })
   // @ts-expect-error: this is not the code of an error
   void (new KombiladError().code === 'UTF8')
 }
