@@ -237,7 +237,7 @@ func TestEachStatusHasAConstantAndASentence(t *testing.T) {
 		named[string(it[1])] = true
 	}
 	// No call of this package returns these.
-	for _, name := range strings.Fields("OK OTHER TOO_SHORT CAR_DONE CAR_MORE WALK_DONE WALK_CLOSED FOLDER_MISSING FOLDER_MORE TAPE_MISSING TAPE_LEFT_OVER TAPE_KIND TAPE_SPAN TAPE_FIELDS TAPE_CONTENT") {
+	for _, name := range strings.Fields("OK OTHER TOO_SHORT CAR_DONE CAR_MORE WALK_DONE WALK_CLOSED FOLDER_MISSING FOLDER_MORE TAPE_MISSING TAPE_LEFT_OVER TAPE_KIND TAPE_SPAN TAPE_FIELDS TAPE_CONTENT PACK_NANOSECONDS PACK_WAITING") {
 		named[name] = true
 	}
 	unknown := Status(999).Error()

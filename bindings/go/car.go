@@ -235,3 +235,63 @@ func (r *CarReader) Err() error {
 	}
 	return r.err
 }
+
+// CarWriter writes a CAR of version 1. It keeps nothing in memory: each block is written at once, by
+// at most two calls of the writer. Its method Write can be the [BlockPutter] of a [Packer].
+//
+// A CarWriter is for one goroutine at a time. It needs no Close.
+type CarWriter struct {
+	to   io.Writer
+	head []byte // what a section has before its block
+	err  error
+}
+
+// NewCarWriter writes the header of a CAR with these roots, and returns a writer of its blocks.
+//
+// If a root is undefined it fails with ErrCidEnd, and writes nothing. The path of the error is such
+// as roots[1]. An error of the writer is wrapped. It also fails with ErrNoMemory.
+func NewCarWriter(to io.Writer, roots []Cid) (*CarWriter, error) {
+	header, made := callCarHeader(roots)
+	if made.status != 0 {
+		failure := failedWith(made.status)
+		if made.status != ErrNoMemory {
+			failure.Path = "roots" + indexPart(int(made.offset))
+		}
+		return nil, failure
+	}
+	w := &CarWriter{to: to, head: make([]byte, carSection)}
+	if err := w.write(header); err != nil {
+		return nil, err
+	}
+	return w, nil
+}
+
+// Write writes a block. The blocks may come in any order. Write doesn't compare them with their
+// CIDs.
+//
+// If the CID is undefined it fails with ErrCidEnd, and writes nothing. An error of the writer is
+// wrapped. After it a section may be incomplete, and Write returns the same error again.
+func (w *CarWriter) Write(cid Cid, block []byte) error {
+	made := callCarSection(cid.bytes, len(block), w.head)
+	if made.status != 0 {
+		return failedWith(made.status)
+	}
+	return w.write(w.head[:made.needed], block)
+}
+
+// write writes parts of the CAR, unless there was an error before.
+func (w *CarWriter) write(parts ...[]byte) error {
+	for _, part := range parts {
+		if w.err != nil || len(part) == 0 {
+			continue
+		}
+		count, err := w.to.Write(part)
+		if err == nil && count < len(part) {
+			err = io.ErrShortWrite
+		}
+		if err != nil {
+			w.err = fmt.Errorf("kombilad: cannot write the CAR: %w", err)
+		}
+	}
+	return w.err
+}

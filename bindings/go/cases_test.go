@@ -66,6 +66,11 @@ type randomCase struct {
 	Tree   []treeRow
 	Kind   string
 	Errors []string
+
+	RawLeaves    bool
+	Chunk, Width int
+	Above        int64
+	Pack         packRow
 }
 
 // TestRandomCases compares the results with those of a reader that shares no code with the library.
@@ -85,6 +90,7 @@ func TestRandomCases(t *testing.T) {
 		checks := map[string]func(*testing.T, randomCase, []byte, Status){
 			"block": checkBlockCase, "cid": checkCidCase, "pb": checkPbCase, "car": checkCarCase,
 			"digest": checkDigestCase, "tree": checkTreeCase, "fault": checkFaultCase,
+			"pack": checkPackCase,
 		}
 		checks[it.Case](t, it, input, byName[it.Error])
 		if t.Failed() {
@@ -92,7 +98,7 @@ func TestRandomCases(t *testing.T) {
 		}
 		return true
 	})
-	if len(count) != 7 {
+	if len(count) != 8 {
 		t.Fatal(count)
 	}
 	t.Logf("cases: %v, of which are valid: %v", count, valid)

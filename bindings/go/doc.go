@@ -1,14 +1,14 @@
-// Package kombilad reads content identifiers (CIDs), blocks of DAG-CBOR and DAG-PB, CARs, and files
-// and folders of UnixFS, and writes CIDs and blocks of DAG-CBOR. A proved C library decodes and
-// encodes them.
+// Package kombilad reads and writes content identifiers (CIDs), blocks of DAG-CBOR, CARs, and files
+// and folders of UnixFS, and reads blocks of DAG-PB. A proved C library decodes and encodes them.
 //
 // [Decode] and [Encode] are for values of any shape, [Unmarshal] and [Marshal] for Go types.
-// [Links] finds the links of a block without decoding it, and [OpenCar] reads a CAR one block at a
-// time. [ToJSON] converts a block to DAG-JSON, and [FromJSON] converts DAG-JSON to a block.
+// [Links] finds the links of a block without decoding it. [OpenCar] reads a CAR one block at a time,
+// and [NewCarWriter] writes one. [ToJSON] converts a block to DAG-JSON, and [FromJSON] converts
+// DAG-JSON to a block.
 //
 // [NewFS] returns a folder of UnixFS as an [fs.FS], [NewFileReader] reads a file, and
 // [NewFolderReader] lists a folder. A [BlockGetter] gets the blocks from anywhere, and each block
-// is verified.
+// is verified. [NewPacker] packs files and folders into blocks.
 //
 // All calls accept untrusted bytes. An error is an [*Error]: it has a [Status], the byte of the
 // input at fault, for a Go type the path of the value that doesn't fit, and for UnixFS the CID of

@@ -3,10 +3,11 @@ package kombilad
 import (
 	"reflect"
 	"strconv"
+	"strings"
 )
 
-// Error is the error of every call of this package, except those that an [io.Reader] returned. An
-// [FS] returns it in an [fs.PathError].
+// Error is the error of every call of this package, except those that an [io.Reader], an [io.Writer]
+// or a [BlockPutter] returned. An [FS] returns it in an [fs.PathError].
 //
 //	var failure *kombilad.Error
 //	if errors.As(err, &failure) {
@@ -21,7 +22,8 @@ type Error struct {
 	Offset int64
 	// Path leads from the whole value to the part that can't be decoded or encoded, for example
 	// posts[3].author. It is empty for the whole value, and for a block that isn't valid. A path of
-	// many parts has [...] in its middle. For a link of a folder's block it is such as Links[3].
+	// many parts has [...] in its middle. For a link of a folder's block it is such as Links[3]. For
+	// an entry that can't be packed it is the name, quoted if it isn't a simple one.
 	Path string
 	// Type is the Go type that doesn't fit the value, or nil.
 	Type reflect.Type
@@ -77,6 +79,15 @@ func (e *Error) Unwrap() error {
 func (e *Error) within(part string) *Error {
 	e.parts = append(e.parts, part)
 	return e
+}
+
+// below returns the error with the path of an fs.FS at which it occurred.
+func (e *Error) below(name string) error {
+	parts := strings.Split(name, "/")
+	for at := len(parts) - 1; at >= 0 && name != "."; at-- {
+		e = e.within(keyPart(parts[at]))
+	}
+	return e.asError()
 }
 
 // asError returns the error with its path. For a nil pointer it returns a nil interface.
@@ -145,6 +156,11 @@ func failed(made outcome) *Error {
 		offset = -1
 	}
 	return &Error{Status: made.status, Offset: offset}
+}
+
+// failedWith returns the error of a status without an offset.
+func failedWith(status Status) *Error {
+	return failed(outcome{status: status, offset: -1})
 }
 
 // failedIn returns the error of a status that the block of a CID has.

@@ -8,6 +8,8 @@ import (
 	"io"
 	"io/fs"
 	"log"
+	"strings"
+	"testing/fstest"
 
 	"example.org/kombilad"
 )
@@ -268,6 +270,99 @@ func ExampleReadNode() {
 	}
 	fmt.Printf("%t %d %o %v\n", node.Kind == kombilad.NodeFile, node.Size, node.Mode, node.ModTime)
 	// Output: true 6 644 1970-01-01 00:00:01.000000002 +0000 UTC
+}
+
+func ExamplePacker() {
+	blocks := map[kombilad.Cid][]byte{}
+	packer := kombilad.NewPacker(func(cid kombilad.Cid, block []byte) error {
+		blocks[cid] = block
+		return nil
+	})
+	file, err := packer.File(strings.NewReader("car\n"), nil)
+	if err != nil {
+		log.Fatal(err)
+	}
+	folder, err := packer.Folder([]kombilad.PackedEntry{{Name: "car", Packed: file}}, nil)
+	if err != nil {
+		log.Fatal(err)
+	}
+	link, err := packer.Symlink("b", nil)
+	if err != nil {
+		log.Fatal(err)
+	}
+	entries := []kombilad.PackedEntry{{Name: "b", Packed: folder}, {Name: "a", Packed: link}}
+	root, err := packer.Folder(entries, nil)
+	fmt.Println(root.Cid, root.Total, len(blocks), err)
+	_, err = packer.Folder([]kombilad.PackedEntry{{Name: "..", Packed: file}}, nil)
+	fmt.Println(err)
+	// Output:
+	// QmZDVQHwjHwA4SyzEDtJLNxmZeJVK1W8BWFAHV61x2Rs19 158 4 <nil>
+	// kombilad: [".."]: the name of an entry is empty, . or .., or has a / or a zero byte
+}
+
+func ExamplePackOptions() {
+	options := kombilad.PackOptions{Version: 1, RawLeaves: true}
+	packer, err := options.NewPacker(func(cid kombilad.Cid, block []byte) error {
+		fmt.Printf("%q\n", block)
+		return nil
+	})
+	if err != nil {
+		log.Fatal(err)
+	}
+	file, err := packer.File(strings.NewReader("hello world"), nil)
+	fmt.Println(file.Cid, file.Size, err)
+	// Output:
+	// "hello world"
+	// bafkreifzjut3te2nhyekklss27nh3k72ysco7y32koao5eei66wof36n5e 11 <nil>
+}
+
+func ExamplePacker_AddFS() {
+	files := fstest.MapFS{"docs/hello.txt": {Data: []byte("hello\n")}} // or os.DirFS(".")
+	blocks := map[kombilad.Cid][]byte{}
+	root, err := kombilad.NewPacker(func(cid kombilad.Cid, block []byte) error {
+		blocks[cid] = block
+		return nil
+	}).AddFS(files)
+	if err != nil {
+		log.Fatal(err)
+	}
+	get := func(cid kombilad.Cid) ([]byte, error) { return blocks[cid], nil }
+	fsys, err := kombilad.NewFS(get, root.Cid)
+	if err != nil {
+		log.Fatal(err)
+	}
+	text, err := fs.ReadFile(fsys, "docs/hello.txt")
+	fmt.Printf("%q %v\n", text, err)
+	// Output: "hello\n" <nil>
+}
+
+func ExampleNewCarWriter() {
+	files := fstest.MapFS{"hello.txt": {Data: []byte("hello\n")}, "two.txt": {Data: []byte("two\n")}}
+	// A CAR begins with its roots, so the files are packed once to find the root.
+	root, err := kombilad.NewPacker(func(kombilad.Cid, []byte) error { return nil }).AddFS(files)
+	if err != nil {
+		log.Fatal(err)
+	}
+	var file bytes.Buffer
+	car, err := kombilad.NewCarWriter(&file, []kombilad.Cid{root.Cid})
+	if err != nil {
+		log.Fatal(err)
+	}
+	if _, err := kombilad.NewPacker(car.Write).AddFS(files); err != nil {
+		log.Fatal(err)
+	}
+
+	again, err := kombilad.OpenCar(&file)
+	if err != nil {
+		log.Fatal(err)
+	}
+	count := 0
+	again.Blocks()(func(kombilad.Cid, []byte) bool {
+		count++
+		return true
+	})
+	fmt.Println(again.Roots()[0] == root.Cid, count, again.Err())
+	// Output: true 3 <nil>
 }
 
 // Time is a time. In a block it is a number of seconds.

@@ -9,7 +9,10 @@ import (
 	"io"
 	"io/fs"
 	"runtime"
+	"strings"
 	"testing"
+	"testing/fstest"
+	"testing/iotest"
 	"time"
 )
 
@@ -42,6 +45,10 @@ func TestEachAllocationMayFail(t *testing.T) {
 	if err != nil {
 		t.Fatal(err)
 	}
+	discard := func(Cid, []byte) error { return nil }
+	packs := func(_ Packed, err error) error { return err }
+	chunks := packer(t, PackOptions{1, true, 1, 2, -1, false}, discard)
+	entries := namesLike(20, "", Packed{Cid: cid})
 	for name, call := range map[string]func() error{
 		"Check":          func() error { return Check(block) },
 		"CheckCanonical": func() error { return ignore(CheckCanonical(block), ErrNotCanonical) },
@@ -87,6 +94,18 @@ func TestEachAllocationMayFail(t *testing.T) {
 			}
 			_, err = fs.ReadFile(fsys, "a")
 			return err
+		},
+		"File":    func() error { return packs(NewPacker(discard).File(strings.NewReader("x"), nil)) },
+		"Symlink": func() error { return packs(NewPacker(discard).Symlink("x", nil)) },
+		"Folder":  func() error { return packs(chunks.Folder(entries, nil)) },
+		"chunks":  func() error { return packs(chunks.File(strings.NewReader(lorem), nil)) },
+		"AddFS":   func() error { return packs(chunks.AddFS(fstest.MapFS{"a/b": {Data: []byte("x")}})) },
+		"CarWriter": func() error {
+			w, err := NewCarWriter(io.Discard, []Cid{cid, cid})
+			if err != nil {
+				return err
+			}
+			return w.Write(cid, nil)
 		},
 		"StringOfBase": func() error { _, err := cid.StringOfBase(Base58BTC); return err },
 	} {
@@ -148,6 +167,41 @@ func TestReadersThatAreNotClosed(t *testing.T) {
 	same(t, "ReadAt holds", allocationsHeld(), before)
 	same(t, "Close", r.Close(), nil)
 	same(t, "Close holds", allocationsHeld(), 0)
+}
+
+// TestPackingThatStops has a put and a reader stop in the middle of a file and of a folder.
+func TestPackingThatStops(t *testing.T) {
+	stops := 0
+	p := packer(t, PackOptions{ChunkSize: 1, MaxLinks: 2, ShardedAbove: -1}, func(Cid, []byte) error {
+		switch stops--; stops {
+		case -1:
+			return io.ErrClosedPipe
+		case -2:
+			panic("a panic of a BlockPutter")
+		}
+		return nil
+	})
+	entries := namesLike(50, "", Packed{Cid: NewCid(Raw, nil)})
+	for _, pack := range []func() (Packed, error){
+		func() (Packed, error) { return p.File(strings.NewReader(lorem), nil) },
+		func() (Packed, error) { return p.Folder(entries, nil) },
+		func() (Packed, error) { return p.Symlink("x", nil) },
+	} {
+		for at := -1; at < 50; at++ {
+			func() {
+				defer func() { same(t, "a panic", recover() != nil, at == -1) }()
+				stops = at
+				_, err := pack()
+				same(t, "put", err == nil || err == io.ErrClosedPipe, true)
+			}()
+			same(t, "allocations held", allocationsHeld(), 0)
+		}
+	}
+	stops = 1000
+	for at := range lorem[:20] {
+		_, err := p.File(io.MultiReader(strings.NewReader(lorem[:at]), iotest.ErrReader(io.ErrClosedPipe)), nil)
+		same(t, "a reader", []any{err, allocationsHeld()}, []any{io.ErrClosedPipe, 0})
+	}
 }
 
 func ignore(err, ignored error) error {

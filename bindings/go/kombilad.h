@@ -301,7 +301,23 @@ enum kombilad_status {
     /* the folder has no entry with the name, which isn't an error */
     KOMBILAD_FOLDER_MISSING = 236,
     /* the search needs one more block, which isn't an error */
-    KOMBILAD_FOLDER_MORE = 237
+    KOMBILAD_FOLDER_MORE = 237,
+
+    /* A file, a folder or a symbolic link isn't packed. */
+    /* a block above others needs room for at least two links */
+    KOMBILAD_PACK_WIDTH = 240,
+    /* the file or the folder has 2^64 bytes or more, with all its blocks */
+    KOMBILAD_PACK_TOO_LARGE = 241,
+    /* the nanoseconds of the time are more than 999,999,999 */
+    KOMBILAD_PACK_NANOSECONDS = 242,
+    /* the name of an entry is "", "." or "..", or has a "/" or a zero byte */
+    KOMBILAD_PACK_INVALID_NAME = 243,
+    /* two entries have the same name, or the names do not ascend by their bytes */
+    KOMBILAD_PACK_NAME_ORDER = 244,
+    /* two names of a sharded folder have the same hash */
+    KOMBILAD_PACK_SAME_HASH = 245,
+    /* blocks that were packed before have not been taken */
+    KOMBILAD_PACK_WAITING = 246
 };
 
 /* Writes the sentence of a status: at most 80 bytes of ASCII, without a full stop and without a
@@ -640,6 +656,25 @@ uint32_t kombilad_car_next_part(const uint8_t *bytes, size_t len, uint32_t is_al
  * Statuses: OK, KOMBILAD_UNKNOWN_HASH, KOMBILAD_WRONG_DIGEST, KOMBILAD_CID_*. */
 uint32_t kombilad_verify(const uint8_t *cid, size_t cid_len, const uint8_t *block, size_t len);
 
+/* Writes the header of a CAR of version 1 with these roots. The sections come after it, in any order.
+ * If a root isn't a CID, it writes the number of that root to `place`, counted from 0. It allocates
+ * up to about a thousand bytes for each root.
+ *
+ * Statuses: OK, TOO_SHORT, NO_MEMORY, KOMBILAD_CID_*. */
+uint32_t kombilad_car_header(const kombilad_cid *roots, size_t roots_len, uint8_t *bytes,
+                             size_t bytes_len, size_t *needed, size_t *place);
+
+/* The length of what a section has before its block, at most. */
+#define KOMBILAD_CAR_SECTION ((size_t)96)
+
+/* Writes what a section of a CAR has before a block of `block_len` bytes: the length of the section
+ * and the CID. The block follows. It isn't compared with the CID. Does not allocate.
+ *
+ * Statuses: OK, TOO_SHORT, KOMBILAD_CID_*, KOMBILAD_CAR_LENGTH_TOO_LARGE if the section has 2^64
+ * bytes or more. */
+uint32_t kombilad_car_section(const uint8_t *cid, size_t cid_len, uint64_t block_len,
+                              uint8_t *bytes, size_t bytes_len, size_t *needed);
+
 /* ---- Walks over files and folders of UnixFS
  *
  * Nobody has to trust the source of the blocks: each block is verified before it is read.
@@ -822,6 +857,119 @@ uint32_t kombilad_unixfs_node(const uint8_t *cid, size_t cid_len, const uint8_t 
  * returns 0. That is so if the target is UTF-8 and relative, and has ".." only before all names, at
  * most `depth` times. Does not allocate. */
 uint32_t kombilad_symlink_stays_inside(const uint8_t *target, size_t len, size_t depth);
+
+/* ---- Files, folders and symbolic links of UnixFS, packed
+ *
+ * The blocks are those of `ipfs add`: the balanced layout, and SHA2-256 digests.
+ *
+ *     kombilad_packing packing = {0};
+ *     kombilad_node plain = {0};
+ *     status = kombilad_pack_file(0, 0, KOMBILAD_PACK_LINKS, &packing);
+ *     while (status == KOMBILAD_OK) {
+ *         len = read(0, chunk, KOMBILAD_PACK_CHUNK); // all but the last have KOMBILAD_PACK_CHUNK
+ *         is_last = ...;
+ *         status = is_last ? kombilad_pack_last_chunk(&packing, chunk, len, &plain)
+ *                          : kombilad_pack_chunk(&packing, chunk, len);
+ *         if (status != KOMBILAD_OK) break;
+ *         while ((status = kombilad_pack_take(&packing, &row, block, sizeof block, &len))
+ *                == KOMBILAD_OK)
+ *             put_block(&row.cid, block, len); // the last block of a file is its root
+ *         if (is_last || status != KOMBILAD_WALK_DONE) break;
+ *         status = KOMBILAD_OK;
+ *     }
+ *     kombilad_pack_free(&packing); // `status` is KOMBILAD_WALK_DONE at the end of the file
+ */
+
+/* What is packed, or nothing if all its bytes are zero. A caller sets them to zero before the first
+ * call. After that only the calls below may read or write them. A kombilad_packing may be moved, but
+ * only one copy of it may be used, by one call at a time. */
+typedef struct kombilad_packing {
+    uint64_t is_open;
+    uint64_t packing;
+} kombilad_packing;
+
+/* A block that was packed. */
+typedef struct kombilad_packed_block {
+    kombilad_cid cid;
+    /* How many bytes of the file are in the block and in all blocks below it. Blocks of folders and
+     * symbolic links have 0. */
+    uint64_t size;
+    uint64_t total; /* the bytes of the block and of all blocks below it: a link's `tsize` */
+} kombilad_packed_block;
+
+/* The layout of `ipfs add`: the bytes of a chunk, the links of a block, and the bytes of names and
+ * CIDs above which a folder is sharded. A block of a file with such chunks has fewer bytes than
+ * KOMBILAD_PACK_BLOCK. */
+#define KOMBILAD_PACK_CHUNK ((size_t)1 << 18)
+#define KOMBILAD_PACK_LINKS ((size_t)174)
+#define KOMBILAD_PACK_SHARDED_ABOVE ((uint64_t)1 << 18)
+#define KOMBILAD_PACK_BLOCK ((size_t)(1 << 18) + 64)
+
+/* Begins a file, and frees what the kombilad_packing had. Its CIDs have this version: 0 or 1. With
+ * `raw_leaves` other than 0 a chunk is a raw block, whose CID has version 1, unless it is the only
+ * chunk of a file with a mode or a time. A block above others has at most `links` links, at least 2.
+ * With an error the kombilad_packing is as before.
+ *
+ * Statuses: OK, NO_MEMORY, KOMBILAD_CID_UNKNOWN_VERSION, KOMBILAD_PACK_WIDTH. */
+uint32_t kombilad_pack_file(uint32_t version, uint32_t raw_leaves, size_t links,
+                            kombilad_packing *packing);
+
+/* Adds a chunk that isn't the last to the file. The blocks that are then complete wait to be taken:
+ * the block of the chunk, and then each block after those to which it has links. Before that, all
+ * blocks of the calls before have to be taken; they are freed then. With any status except OK the file is as before. It
+ * allocates the blocks, and up to about 300 bytes for each link in them.
+ *
+ * Statuses: OK, NO_MEMORY, KOMBILAD_WALK_CLOSED if no file was begun or it has its last chunk,
+ * KOMBILAD_PACK_WAITING, KOMBILAD_PACK_TOO_LARGE. */
+uint32_t kombilad_pack_chunk(kombilad_packing *packing, const uint8_t *chunk, size_t len);
+
+/* Adds the last chunk of the file, which may be empty. The blocks that are then complete wait to be
+ * taken, and the last of them is the root. The root has the mode and the time that `attributes` has
+ * by its `fields`; the `kind` and the `size` are not read. With OK or an error of the chunk the file
+ * takes no other chunk. With KOMBILAD_WALK_CLOSED and KOMBILAD_PACK_WAITING all is as before.
+ *
+ * Statuses: those of kombilad_pack_chunk, KOMBILAD_PACK_NANOSECONDS. */
+uint32_t kombilad_pack_last_chunk(kombilad_packing *packing, const uint8_t *chunk, size_t len,
+                                  const kombilad_node *attributes);
+
+/* Packs a symbolic link with this target, and frees what the kombilad_packing had. Its block waits
+ * to be taken. The attributes are those of kombilad_pack_last_chunk. With an error the
+ * kombilad_packing is as before.
+ *
+ * Statuses: OK, NO_MEMORY, KOMBILAD_CID_UNKNOWN_VERSION, KOMBILAD_TEXT_UTF8, KOMBILAD_PACK_TOO_LARGE,
+ * KOMBILAD_PACK_NANOSECONDS. */
+uint32_t kombilad_pack_symlink(uint32_t version, const kombilad_node *attributes,
+                               const uint8_t *target, size_t len, kombilad_packing *packing);
+
+/* Packs a folder of these entries, and frees what the kombilad_packing had. The names are at their
+ * places in `names`, as far as it has bytes, and ascend by their bytes. The `tsize` of an entry is
+ * the `total` of its block, and is written whatever `has_tsize` is.
+ * If the names and the CIDs have more than `sharded_above` bytes altogether, the folder is sharded,
+ * and otherwise plain. Its blocks wait to be taken, the root first, and each shard before those below
+ * it. The attributes are those of kombilad_pack_last_chunk. With an error the kombilad_packing is as
+ * before. It allocates up to about 1,000 bytes for each entry, and the blocks.
+ *
+ * If an entry is at fault, it writes the number of the entry to `place`, counted from 0. That is so
+ * with KOMBILAD_CID_* except UNKNOWN_VERSION of `version`, KOMBILAD_TEXT_UTF8,
+ * KOMBILAD_PACK_INVALID_NAME and KOMBILAD_PACK_NAME_ORDER. With other errors it may write 0.
+ *
+ * Statuses: OK, NO_MEMORY, KOMBILAD_CID_*, KOMBILAD_TEXT_UTF8, KOMBILAD_PACK_* except WIDTH and
+ * WAITING. */
+uint32_t kombilad_pack_folder(uint32_t version, const kombilad_node *attributes,
+                              uint64_t sharded_above, const kombilad_folder_entry *entries,
+                              size_t entries_len, const uint8_t *names, size_t names_len,
+                              kombilad_packing *packing, size_t *place);
+
+/* Takes the next block that waits, and writes its row and its bytes. With OK and TOO_SHORT it writes
+ * the length of the block to `needed`. With any status except OK the block still waits. Does not
+ * allocate.
+ *
+ * Statuses: OK, TOO_SHORT, KOMBILAD_WALK_DONE if no block waits, KOMBILAD_WALK_CLOSED. */
+uint32_t kombilad_pack_take(kombilad_packing *packing, kombilad_packed_block *row, uint8_t *bytes,
+                            size_t bytes_len, size_t *needed);
+
+/* Frees what the kombilad_packing has, if it has something. It has nothing after that. */
+void kombilad_pack_free(kombilad_packing *packing);
 
 /* ---- The library */
 

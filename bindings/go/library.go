@@ -151,6 +151,20 @@ static car_outcome next_part(PART, kombilad_car_place place) {
 	return made;
 }
 
+static outcome car_header(const kombilad_cid *roots, size_t roots_len, uint8_t *bytes,
+                          size_t bytes_len) {
+	outcome made = {0};
+	made.status = kombilad_car_header(roots, roots_len, bytes, bytes_len, &made.needed,
+	                                  &made.offset);
+	return made;
+}
+
+static outcome car_section(_GoString_ cid, uint64_t block_len, uint8_t *bytes, size_t bytes_len) {
+	outcome made = {0};
+	made.status = kombilad_car_section(STRING(cid), block_len, bytes, bytes_len, &made.needed);
+	return made;
+}
+
 static uint32_t verify(_GoString_ cid, const uint8_t *block, size_t len) {
 	return kombilad_verify(STRING(cid), block, len);
 }
@@ -227,6 +241,61 @@ static node_outcome unixfs_node(_GoString_ cid, const uint8_t *block, size_t len
 	made.status = kombilad_unixfs_node(STRING(cid), block, len, &made.node, target, target_len,
 	                                   &made.needed, &made.place);
 	return made;
+}
+
+typedef struct {
+	uint32_t status;
+	size_t needed;
+	size_t place;
+	kombilad_packing packing;
+	kombilad_packed_block row;
+} pack_outcome;
+
+static pack_outcome pack_file(kombilad_packing packing, uint32_t version, uint32_t raw_leaves,
+                              size_t links) {
+	pack_outcome made = {.packing = packing};
+	made.status = kombilad_pack_file(version, raw_leaves, links, &made.packing);
+	return made;
+}
+
+static pack_outcome pack_chunk(kombilad_packing packing, const uint8_t *chunk, size_t len) {
+	pack_outcome made = {.packing = packing};
+	made.status = kombilad_pack_chunk(&made.packing, chunk, len);
+	return made;
+}
+
+static pack_outcome pack_last_chunk(kombilad_packing packing, const uint8_t *chunk, size_t len,
+                                    kombilad_node attributes) {
+	pack_outcome made = {.packing = packing};
+	made.status = kombilad_pack_last_chunk(&made.packing, chunk, len, &attributes);
+	return made;
+}
+
+static pack_outcome pack_symlink(kombilad_packing packing, uint32_t version,
+                                 kombilad_node attributes, _GoString_ target) {
+	pack_outcome made = {.packing = packing};
+	made.status = kombilad_pack_symlink(version, &attributes, STRING(target), &made.packing);
+	return made;
+}
+
+static pack_outcome pack_folder(kombilad_packing packing, uint32_t version,
+                                kombilad_node attributes, uint64_t sharded_above,
+                                const kombilad_folder_entry *entries, size_t entries_len,
+                                const uint8_t *names, size_t names_len) {
+	pack_outcome made = {.packing = packing};
+	made.status = kombilad_pack_folder(version, &attributes, sharded_above, entries, entries_len,
+	                                   names, names_len, &made.packing, &made.place);
+	return made;
+}
+
+static pack_outcome pack_take(kombilad_packing packing, uint8_t *bytes, size_t bytes_len) {
+	pack_outcome made = {.packing = packing};
+	made.status = kombilad_pack_take(&made.packing, &made.row, bytes, bytes_len, &made.needed);
+	return made;
+}
+
+static void pack_free(kombilad_packing packing) {
+	kombilad_pack_free(&packing);
 }
 
 static uint32_t symlink_stays_inside(_GoString_ target, size_t depth) {
@@ -311,8 +380,9 @@ const (
 	statusDone Status = C.KOMBILAD_CAR_DONE
 )
 
-// The statuses of a walk over blocks and of a search in a folder. statusWalkDone: no block is left.
-// statusFolderMore: the search needs one more block. statusFolderMissing: there is no such entry.
+// The statuses of a walk over blocks, of a search in a folder, and of what is packed.
+// statusWalkDone: no block is left. statusFolderMore: the search needs one more block.
+// statusFolderMissing: there is no such entry.
 const (
 	statusWalkDone      Status = C.KOMBILAD_WALK_DONE
 	statusFolderMore    Status = C.KOMBILAD_FOLDER_MORE
@@ -440,6 +510,12 @@ func cidOf(record *C.kombilad_cid) string {
 	return string((*[len(record.bytes)]byte)(unsafe.Pointer(&record.bytes))[:record.len])
 }
 
+func recordOf(cid Cid) (record C.kombilad_cid) {
+	to := (*[len(record.bytes)]byte)(unsafe.Pointer(&record.bytes))
+	record.len = C.uint8_t(copy(to[:], cid.bytes))
+	return record
+}
+
 func callVerify(cid string, block []byte) Status {
 	bytes, length := bytesOf(block)
 	return Status(C.verify(cid, bytes, length))
@@ -501,6 +577,27 @@ func callCarNext(bytes []byte, isAll bool, limit int, at carPlace) carPart {
 	from, length := bytesOf(bytes)
 	place := C.kombilad_car_place{C.uint64_t(at.version), C.uint64_t(at.at), C.uint64_t(at.end)}
 	return carPartOf(C.next_part(from, length, flag(isAll), C.size_t(limit), place))
+}
+
+// carSection is the number of bytes that a section has before its block, at most.
+const carSection = C.KOMBILAD_CAR_SECTION
+
+// callCarHeader returns the header of a CAR. The offset of an error is the number of the root.
+func callCarHeader(roots []Cid) ([]byte, outcome) {
+	records := make([]C.kombilad_cid, len(roots)+1) // the last one isn't passed
+	for at, root := range roots {
+		records[at] = recordOf(root)
+	}
+	return filled(nil, func(bytes []byte) outcome {
+		to, room := bytesOf(bytes)
+		return outcomeOf(C.car_header(&records[0], C.size_t(len(roots)), to, room))
+	})
+}
+
+// callCarSection writes what a section has before a block of this length.
+func callCarSection(cid string, block int, bytes []byte) outcome {
+	to, room := bytesOf(bytes)
+	return outcomeOf(C.car_section(cid, C.uint64_t(block), to, room))
 }
 
 // walk is a walk over the blocks of a file or of a folder, whose memory is C's until free. The zero
@@ -627,6 +724,99 @@ func callUnixFSNode(cid string, block []byte) (node Node, made outcome) {
 	})
 	node.Target = string(target)
 	return node, made
+}
+
+// layout is how files and folders are cut into blocks.
+type layout struct {
+	version      int
+	rawLeaves    bool
+	chunk, links int
+	shardedAbove uint64
+}
+
+// usualLayout is the layout that the header has.
+var usualLayout = layout{
+	chunk:        C.KOMBILAD_PACK_CHUNK,
+	links:        C.KOMBILAD_PACK_LINKS,
+	shardedAbove: C.KOMBILAD_PACK_SHARDED_ABOVE,
+}
+
+// packing is a file, a folder or a symbolic link that is packed, whose memory is C's until free. The
+// zero value has none. A call gets a copy of the record and returns it, since C may move it.
+type packing struct {
+	record C.kombilad_packing
+}
+
+func (k *packing) free() {
+	C.pack_free(k.record)
+	k.record = C.kombilad_packing{}
+}
+
+func (k *packing) outcomeOf(made C.pack_outcome) outcome {
+	k.record = made.packing
+	return outcome{Status(made.status), int(made.needed), int64(made.place)}
+}
+
+func attributesOf(of *Attributes) (node C.kombilad_node) {
+	if of != nil && of.HasMode {
+		node.fields |= C.KOMBILAD_NODE_MODE
+		node.mode = C.uint32_t(of.Mode)
+	}
+	if of != nil && of.HasModTime {
+		node.fields |= C.KOMBILAD_NODE_TIME
+		node.seconds = C.int64_t(of.ModTime.Unix())
+		node.nanoseconds = C.uint32_t(of.ModTime.Nanosecond())
+	}
+	return node
+}
+
+func (k *packing) newFile(by layout) outcome {
+	version, links := C.uint32_t(by.version), C.size_t(by.links)
+	return k.outcomeOf(C.pack_file(k.record, version, flag(by.rawLeaves), links))
+}
+
+// addChunk adds a chunk that isn't the last.
+func (k *packing) addChunk(chunk []byte) outcome {
+	from, length := bytesOf(chunk)
+	return k.outcomeOf(C.pack_chunk(k.record, from, length))
+}
+
+func (k *packing) addLastChunk(chunk []byte, of *Attributes) outcome {
+	from, length := bytesOf(chunk)
+	return k.outcomeOf(C.pack_last_chunk(k.record, from, length, attributesOf(of)))
+}
+
+func (k *packing) newSymlink(by layout, target string, of *Attributes) outcome {
+	return k.outcomeOf(C.pack_symlink(k.record, C.uint32_t(by.version), attributesOf(of), target))
+}
+
+// newFolder begins a folder of entries that are sorted by their names. The offset of an error is the
+// number of the entry, if the status concerns one.
+func (k *packing) newFolder(by layout, entries []PackedEntry, of *Attributes) outcome {
+	records := make([]C.kombilad_folder_entry, len(entries)+1) // the last one isn't passed
+	var names []byte
+	for at, it := range entries {
+		records[at].cid = recordOf(it.Cid)
+		records[at].name.offset = C.uint64_t(len(names))
+		records[at].name.len = C.uint64_t(len(it.Name))
+		records[at].tsize, records[at].has_tsize = C.uint64_t(it.Total), 1
+		names = append(names, it.Name...)
+	}
+	text, length := bytesOf(names)
+	return k.outcomeOf(C.pack_folder(k.record, C.uint32_t(by.version), attributesOf(of),
+		C.uint64_t(by.shardedAbove), &records[0], C.size_t(len(entries)), text, length))
+}
+
+// take returns the next block that waits. The status is statusWalkDone if there is none.
+func (k *packing) take() (row Packed, block []byte, made outcome) {
+	block, made = filled([]byte{}, func(bytes []byte) outcome {
+		to, room := bytesOf(bytes)
+		taken := C.pack_take(k.record, to, room)
+		of := &taken.row
+		row = Packed{Cid{cidOf(&of.cid)}, uint64(of.size), uint64(of.total)}
+		return k.outcomeOf(taken)
+	})
+	return row, block, made
 }
 
 func callSymlinkStaysInside(target string, depth int) bool {

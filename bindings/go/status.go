@@ -130,6 +130,15 @@ const (
 	ErrFolderTooDeep      Status = C.KOMBILAD_FOLDER_TOO_DEEP      // more than eight levels of shards
 )
 
+// A file, a folder or a symbolic link can't be packed.
+const (
+	ErrPackWidth       Status = C.KOMBILAD_PACK_WIDTH        // MaxLinks is less than two
+	ErrPackTooLarge    Status = C.KOMBILAD_PACK_TOO_LARGE    // 2^64 bytes or more in all its blocks
+	ErrPackInvalidName Status = C.KOMBILAD_PACK_INVALID_NAME // no entry can have the name
+	ErrPackNameOrder   Status = C.KOMBILAD_PACK_NAME_ORDER   // two entries have one name
+	ErrPackSameHash    Status = C.KOMBILAD_PACK_SAME_HASH    // two names have one hash
+)
+
 // The text is not DAG-JSON, or a map of the block has none.
 const (
 	ErrJSONUTF8         Status = C.KOMBILAD_JSON_UTF8          // the text is not UTF-8

@@ -1,6 +1,6 @@
 #!/usr/bin/env python3
 """Writes random blocks, CIDs, nodes of DAG-PB, CARs, digests and trees of UnixFS for cases_test.go,
-with the results of readers that share nothing with the library.
+with the results of readers and writers that share nothing with the library.
 
 usage: cases.py FILE [COUNT [SEED]]
 
@@ -46,6 +46,7 @@ from tests.ipld.unixfs import (  # noqa: E402
     data_message,
     file_of,
     folder,
+    leaf,
     node,
     raw_leaf,
     shard,
@@ -263,6 +264,45 @@ def named_trees(choose):
     yield "mixed", folder(entries)
 
 
+def packed(trees, profile, above, depth=0):
+    """Returns the node of a random folder, file or symbolic link, and its row."""
+    choose, more = trees.random, trees.more()
+    kind = choose.choice(["file", "link", "folder"][: 3 if depth < 3 else 2]) if depth else "folder"
+    row = {"kind": kind, "mode": more.get("mode"), "time": more.get("mtime")}
+    if kind == "file":
+        content = trees.bytes(profile.chunk * choose.choice(trees.COUNTS) + choose.randrange(2))
+        row["content"] = content.hex()
+        # The root has the permissions and the time, so it is not a raw block.
+        if more and len(content) <= profile.chunk:
+            it = leaf(profile.version, content, **more)
+        else:
+            it = file_of(content, profile, **more)
+    elif kind == "link":
+        target = trees.name()
+        it, row["target"] = symlink(target, profile.version, **more), target.decode()
+    else:
+        names = {trees.name() for _ in range(choose.randrange(8))}
+        entries = {name: packed(trees, profile, above, depth + 1) for name in sorted(names)}
+        is_sharded = sum(len(name) + len(below.cid) for name, (below, _) in entries.items()) > above
+        nodes = {name: below for name, (below, _) in entries.items()}
+        it = (shard if is_sharded else folder)(nodes, profile.version, **more)
+        row["entries"] = {name.decode(): below for name, (_, below) in entries.items()}
+    return it, {**row, "cid": it.cid.hex(), "size": it.size or 0, "total": it.total}
+
+
+def pack_case(trees):
+    profile, above = trees.profile(), trees.random.choice([1, 100, 262_144])
+    return {
+        "case": "pack",
+        "version": profile.version,
+        "rawLeaves": profile.raw_leaves,
+        "chunk": profile.chunk,
+        "width": profile.width,
+        "above": above,
+        "pack": packed(trees, profile, above)[1],
+    }
+
+
 def fault_cases():
     """Yields files and folders that are not valid, with the fault."""
     names = [b"%d" % at for at in range(400)]
@@ -302,6 +342,7 @@ def cases(count, seed):
     for number in range(count):
         if number % 10 == 0:
             yield tree_case(trees.folder().node)
+            yield pack_case(trees)
         source.floats = 0.3 if number % 3 == 0 else 0.0
         block, node, car = source.block(number % 4), nodes.node(), car_cases.made(source)
         if number % 5 > 1:
