@@ -106,13 +106,21 @@ def processors_for(memory):
 # ---- Commands
 
 
-def command(words):
+def command(words, environment=None, shown=None):
     """
-    Runs a command of the repository, which counts as one case. What it prints is shown as it comes.
+    Runs a command of the repository, which counts as one case. What it prints is shown as it comes,
+    or written to the file `shown`.
     """
-    say(f"-- {' '.join(words)}")
+    if shown is None:
+        say(f"-- {' '.join(words)}")
     try:
-        ran = subprocess.run([TOP / words[0] if "/" in words[0] else words[0], *words[1:]], cwd=TOP)
+        ran = subprocess.run(
+            [TOP / words[0] if "/" in words[0] else words[0], *words[1:]],
+            cwd=TOP,
+            env={**os.environ, **(environment or {})},
+            stdout=shown,
+            stderr=shown and subprocess.STDOUT,
+        )
     except OSError as wrong:
         return Result(failed=[f"{words[0]}: {wrong.strerror}"])
     return (
@@ -120,6 +128,24 @@ def command(words):
         if ran.returncode == 0
         else Result(failed=[f"{' '.join(words)}: status {ran.returncode}"])
     )
+
+
+def in_one_piece(words, environment):
+    """Runs a command, and then shows what it printed."""
+    with tempfile.TemporaryFile() as shown:
+        result = command(words, environment, shown)
+        shown.seek(0)
+        say(f"-- {' '.join(words)}\n{shown.read().decode(errors='replace')}".rstrip("\n"))
+    return result
+
+
+def side_by_side(*each, environment=None):
+    """Runs commands, as many at once as there are processors, all of them also if one fails."""
+    result = Result()
+    with concurrent.futures.ThreadPoolExecutor(len(os.sched_getaffinity(0))) as pool:
+        for one in pool.map(lambda words: in_one_piece(words, environment), each):
+            result.add(one)
+    return result
 
 
 def commands(*each):
@@ -323,12 +349,12 @@ def rows_in_little_memory():
 def the_programs():
     result = rows_in_little_memory()
     result.add(
-        commands(
-            [".ci/program-runs"],
+        side_by_side(
+            [".ci/use-in"],
             [".ci/ipld-runs"],
+            [".ci/program-runs"],
             [".ci/failed-allocations"],
             [".ci/no-compile"],
-            [".ci/use-in"],
             [".ci/manual", "--check"],
             [
                 "python3",
@@ -342,6 +368,19 @@ def the_programs():
     return result
 
 
+def bindings():
+    """
+    Runs the tests of the packages next to those of the C files, since each has one process most of
+    the time. Both take the C file of the proved library, which is made first.
+    """
+    made = "bindings/out/made"
+    result = command(["bindings/portable/make.py", made, "kombilad"])
+    if not result.failed:
+        scripts = (["bindings/test.sh"], ["bindings/portable/test.sh"])
+        result.add(side_by_side(*scripts, environment={"DIST": made}))
+    return result
+
+
 PARTS = {
     "pages": pages,
     "tests": unproved,
@@ -349,7 +388,7 @@ PARTS = {
     "proofs": proofs,
     "mutants": mutants,
     "programs": the_programs,
-    "bindings": lambda: commands(["bindings/test.sh"], ["bindings/portable/test.sh"]),
+    "bindings": bindings,
     "bench": lambda: commands([".ci/bench"]),
     "readme": lambda: commands([".ci/readme"]),
 }
