@@ -51,7 +51,7 @@ quietly cmake --install "$tests/c"
 # ---- The exported symbols, and the numbers in the header, the bindings and the definitions
 
 python3 test/exports.py "$out/libkombilad.a" "$out/libkombilad.so.0" "$prefix/lib/libkombilad.a"
-python3 test/numbers.py
+python3 test/statuses.py
 
 # ---- C and C++
 
@@ -91,7 +91,7 @@ PYTHONPATH=.. python3 -B test/unixfs_cases.py "$tests/unixfs"
 export UNIXFS="$tests/unixfs"
 with_debian test --manifest-path "$rust/Cargo.toml"
 said "Rust: ok"
-with_debian test --no-default-features --test calls --test car --test values --test unixfs --test unixfs_memory --manifest-path "$rust/Cargo.toml"
+with_debian test --no-default-features --test calls --test car --test values --test unixfs --test packer --test unixfs_memory --manifest-path "$rust/Cargo.toml"
 said "Rust without serde: ok"
 RUSTDOCFLAGS="-D warnings" with_debian doc --no-deps --manifest-path "$rust/Cargo.toml"
 said "Rust, documentation: ok"
@@ -112,6 +112,7 @@ said "Rust, over a shared library: ok"
 "$tests/venv/bin/python" test/car.py
 "$tests/venv/bin/python" test/multibase.py
 PYTHONPATH=$PWD/.. "$tests/venv/bin/python" -B test/files.py
+PYTHONPATH=$PWD/.. "$tests/venv/bin/python" -B test/pack.py
 "$tests/venv/bin/python" test/random_blocks.py "$blocks"
 "$tests/venv/bin/python" test/random_pb.py "$blocks"
 "$tests/venv/bin/python" test/random_cars.py "$blocks"
@@ -144,7 +145,7 @@ failing="test/failing.c -Wl,--wrap=malloc,--wrap=realloc"
 sanitizers="-g -O1 -fsanitize=address,undefined -fno-sanitize-recover=all"
 renamed=
 for name in kombilad_tape kombilad_block_check kombilad_block_check_canonical kombilad_verify kombilad_file_take kombilad_folder_take \
-    kombilad_folder_lookup kombilad_unixfs_node; do renamed="$renamed --redefine-sym $name=real_$name"; done
+    kombilad_folder_lookup kombilad_unixfs_node kombilad_pack_chunk kombilad_pack_last_chunk kombilad_pack_folder; do renamed="$renamed --redefine-sym $name=real_$name"; done
 # shellcheck disable=SC2086
 objcopy $renamed "$library" "$tests/renamed.o"
 module lock -O1 -D_POSIX_C_SOURCE=200809L test/lock.c "$tests/renamed.o" -pthread
