@@ -17,8 +17,11 @@ failed() { said "$*"; exit 1; }
 ../.ci/needs --tools rt git cc header:stdlib.h ar ld objcopy readelf $python header:Python.h python:ensurepip python:setuptools python:wheel clang wasm-ld node npm ||
     failed "nothing was tested: install what is listed above"
 
-# Prints the name, the size and the time of each file except the unproved ones.
-others() { [ ! -d "$out" ] || find "$out" -path "$made" -prune -o -path "$out/wheels" -prune -o ! -type d -printf '%p %s %T@\n' | sort; }
+# Prints the name, the size and the time of each file except the unproved ones. portable/test.sh may run at the same time, and writes into
+# out/portable.
+others() {
+    [ ! -d "$out" ] || find "$out" \( -path "$made" -o -path "$out/wheels" -o -path "$out/portable" \) -prune -o ! -type d -printf '%p %s %T@\n' | sort
+}
 before=$(others)
 rm -rf "$made"
 ./build.sh --unproved > /dev/null
