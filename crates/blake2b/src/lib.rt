@@ -18,7 +18,5 @@ mod chain;
 mod compress;
 mod hasher;
 mod state;
-#[cfg(test)]
-mod tests;
 
 pub use hasher::{Blake2b, Blake2b256, Blake2b512};

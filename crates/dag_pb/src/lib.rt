@@ -32,8 +32,6 @@ mod node;
 mod owned;
 mod reader;
 mod spans;
-#[cfg(test)]
-mod tests;
 mod writer;
 
 pub use codec::DagPbCodec;

@@ -12,7 +12,5 @@
 #![tactic(auto)]
 
 mod hash;
-#[cfg(test)]
-mod tests;
 
 pub use hash::{murmur3_x64_64, murmur3_x64_128};

@@ -19,8 +19,6 @@
 mod error;
 pub mod laws;
 mod read;
-#[cfg(test)]
-mod tests;
 mod write;
 
 pub use error::WireError;

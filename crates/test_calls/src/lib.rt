@@ -3,7 +3,7 @@
 //! They cover failing sources, readers and writers, errors as texts, `ipld!` as a macro, and code
 //! that is generic over the codec. They also cover cursors and builders after a rejection and
 //! dropped over deep trees, walks, blocks of many keys, each item of `ipld_core` under its path,
-//! and the program.
+//! the program, and the hashes, nodes, files and folders that other programs make.
 #![tactic(auto)]
 
 #[cfg(test)]
@@ -17,6 +17,10 @@ mod facade;
 #[cfg(test)]
 mod failing;
 #[cfg(test)]
+mod files;
+#[cfg(test)]
+mod hashes;
+#[cfg(test)]
 mod large;
 #[cfg(test)]
 mod links;
@@ -24,6 +28,8 @@ mod links;
 mod macros;
 #[cfg(test)]
 mod messages;
+#[cfg(test)]
+mod nodes;
 #[cfg(test)]
 mod pieces;
 #[cfg(test)]

@@ -21,8 +21,6 @@ mod error;
 pub mod laws;
 mod node;
 mod reader;
-#[cfg(test)]
-mod tests;
 mod time;
 mod writer;
 

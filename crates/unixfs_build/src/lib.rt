@@ -39,8 +39,6 @@ mod layout;
 mod level;
 mod node;
 mod shard;
-#[cfg(test)]
-mod tests;
 
 pub use block::FileBlock;
 pub use builder::FileBuilder;

@@ -22,8 +22,6 @@ mod part;
 mod range;
 mod state;
 mod store;
-#[cfg(test)]
-mod tests;
 mod walk;
 
 pub use error::PartError;

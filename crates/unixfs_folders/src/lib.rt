@@ -34,8 +34,6 @@ mod names;
 mod path;
 mod saying;
 mod symlink_target;
-#[cfg(test)]
-mod tests;
 mod visit;
 mod walk;
 

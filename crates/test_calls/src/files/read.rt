@@ -1,7 +1,7 @@
 //! A file that `ipfs` made of `foobar` and a line feed in chunks of two bytes. The CID of its root
 //! was computed apart from this crate.
 
-use crate::{BlockStore, FileErrorKind, FileLimits, FileRange, FileWalk, PartError, write_file};
+use unixfs_files::{BlockStore, FileErrorKind, FileLimits, FileRange, FileWalk, PartError, write_file};
 use ipld_cid::Cid;
 use std::alloc::{AllocError, Global};
 use std::test::Fail;

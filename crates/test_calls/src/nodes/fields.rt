@@ -1,6 +1,6 @@
 //! Bytes that the documentation of Protocol Buffers states ("Encoding"), and where reading stops.
 
-use crate::{
+use pb_wire::{
     WireError, content_field, fixed32_field, number_field, push_content, push_content_head,
     push_fixed32, push_number, push_varint, read_varint, varint_len,
 };

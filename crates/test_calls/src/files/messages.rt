@@ -1,7 +1,7 @@
 //! Messages in blocks that `ipfs` made. Each is compared with the CID of its block, which was
 //! computed apart from this crate.
 
-use crate::{Data, DataType, UnixFsErrorKind, UnixTime, encode_data, read_data};
+use unixfs::{Data, DataType, UnixFsErrorKind, UnixTime, encode_data, read_data};
 use std::alloc::Global;
 use std::test::Fail;
 

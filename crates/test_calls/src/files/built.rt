@@ -2,7 +2,7 @@
 //! `ipfs add` gives. The others were computed apart from this crate, by the writer of UnixFS in
 //! tests/ipld.
 
-use crate::{
+use unixfs_build::{
     Attributes, BuildError, FileBlock, FileBuilder, Layout, NewEntry, NodeBlock, SHARDED_ABOVE,
     build_folder, build_symlink,
 };

@@ -3,7 +3,7 @@
 ghost use Rattle.std.specs.Prelude.{◌≡◌, ◌++◌};
 ghost use Rattle.blake2b.specs.Blake2b.{blake2b};
 
-use crate::{Blake2b256, Blake2b512};
+use blake2b::{Blake2b256, Blake2b512};
 use std::process::Abort;
 use std::test::Fail;
 

@@ -1,7 +1,7 @@
 //! A sharded folder that `ipfs` made, a plain one, and blocks that are not folders. The CIDs were
 //! computed apart from this crate.
 
-use crate::{Folder, FolderErrorKind, FolderWalk, Lookup, LookupStep, read_folder};
+use unixfs_folders::{Folder, FolderErrorKind, FolderWalk, Lookup, LookupStep, read_folder};
 use dag_pb::{PbLink, PbNode, encode_node};
 use ipld_cid::Cid;
 use std::alloc::{AllocError, Global};

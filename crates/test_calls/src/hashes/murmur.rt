@@ -3,7 +3,7 @@
 ghost use Rattle.std.specs.Prelude.{◌≡◌, slice_index};
 ghost use Rattle.murmur3.specs.Murmur3.{murmur3_x64_64};
 
-use crate::{murmur3_x64_64, murmur3_x64_128};
+use murmur3::{murmur3_x64_64, murmur3_x64_128};
 use std::process::Abort;
 use std::test::Fail;
 

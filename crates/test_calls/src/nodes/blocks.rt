@@ -1,7 +1,7 @@
 //! Blocks that the tests of JavaScript's `@ipld/dag-pb` have, links that are not sorted, and the
 //! codec.
 
-use crate::{
+use dag_pb::{
     DagPbCodec, PbCodecError, PbEncodeError, PbError, PbErrorKind, PbLink, PbNode, PbNodeBuf,
     encode_node, read_node,
 };

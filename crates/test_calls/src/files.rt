@@ -1,0 +1,6 @@
+//! Files and folders of UnixFS.
+
+mod built;
+mod folders;
+mod messages;
+mod read;

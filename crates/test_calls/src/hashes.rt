@@ -1,0 +1,4 @@
+//! Hashes of bytes, as other programs state them.
+
+mod blake;
+mod murmur;

@@ -1,0 +1,4 @@
+//! Nodes of DAG-PB, and the fields of their blocks.
+
+mod blocks;
+mod fields;
