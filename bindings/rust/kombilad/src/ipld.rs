@@ -103,6 +103,7 @@ impl Ipld {
                         Left { begin, count: map.len(), values: Values::Pairs(pairs.len()) },
                     )?;
                     let first = pairs.len();
+                    pairs.try_reserve(map.len()).map_err(|_| EncodeError::OutOfMemory)?;
                     pairs.extend(map.iter().rev());
                     pairs[first..].sort_unstable_by(|(one, _), (other, _)| {
                         (other.len(), *other).cmp(&(one.len(), *one))
@@ -155,6 +156,7 @@ fn opened<'v>(open: &mut Vec<Left<'v>>, left: Left<'v>) -> Result<(), EncodeErro
     if open.len() >= Ipld::LEVELS {
         return Err(EncodeError::TooDeep);
     }
+    open.try_reserve(1).map_err(|_| EncodeError::OutOfMemory)?;
     open.push(left);
     Ok(())
 }

@@ -6,6 +6,8 @@ use std::mem;
 use std::thread::LocalKey;
 
 use crate::ffi::Entry;
+#[cfg(feature = "serde")]
+use crate::write::Pair;
 
 /// A buffer is kept if it has at most this many bytes.
 const KEPT: usize = 1 << 15;
@@ -13,6 +15,11 @@ const KEPT: usize = 1 << 15;
 thread_local! {
     static ENTRIES: Cell<Vec<Entry>> = const { Cell::new(Vec::new()) };
     static BYTES: Cell<Vec<u8>> = const { Cell::new(Vec::new()) };
+}
+
+#[cfg(feature = "serde")]
+thread_local! {
+    static PAIRS: Cell<Vec<Pair>> = const { Cell::new(Vec::new()) };
 }
 
 /// Takes the kept buffer, which is empty. When a thread ends, it has none, and this returns a new
@@ -59,5 +66,24 @@ impl Bytes {
 impl Drop for Bytes {
     fn drop(&mut self) {
         keep(&BYTES, &mut self.0);
+    }
+}
+
+/// Pairs, in a buffer that the thread keeps when this is dropped.
+#[cfg(feature = "serde")]
+pub(crate) struct Pairs(pub(crate) Vec<Pair>);
+
+#[cfg(feature = "serde")]
+impl Pairs {
+    /// Creates an empty list of pairs, in the kept buffer if there is one.
+    pub(crate) fn new() -> Self {
+        Pairs(taken(&PAIRS))
+    }
+}
+
+#[cfg(feature = "serde")]
+impl Drop for Pairs {
+    fn drop(&mut self) {
+        keep(&PAIRS, &mut self.0);
     }
 }

@@ -8,7 +8,8 @@ use crate::cid::Cid;
 use crate::de::{CID, SERDE_LEVELS};
 use crate::error::EncodeError;
 use crate::ipld::Ipld;
-use crate::write::Writer;
+use crate::room;
+use crate::write::{Pair, Writer};
 
 /// Encodes a value as its canonical block. The keys of each map are sorted, and the library encodes
 /// the block from a tape of the value.
@@ -37,7 +38,7 @@ use crate::write::Writer;
 /// [`EncodeError`] if the value has no block. It is [`EncodeError::TooDeep`] if the value nests
 /// deeper than [`SERDE_LEVELS`].
 pub fn to_vec<T: Serialize + ?Sized>(value: &T) -> Result<Vec<u8>, EncodeError> {
-    let mut block = Block { writer: Writer::new(), pairs: Vec::new() };
+    let mut block = Block { writer: Writer::new(), pairs: room::Pairs::new() };
     value.serialize(ItemSerializer { block: &mut block, left: SERDE_LEVELS })?;
     block.writer.finish()
 }
@@ -48,10 +49,10 @@ impl ser::Error for EncodeError {
     }
 }
 
-/// The tape as far as it is written, and the index of each key's entry in the open maps.
+/// The tape as far as it is written, and the pairs of the open maps.
 struct Block {
     writer: Writer,
-    pairs: Vec<usize>,
+    pairs: room::Pairs,
 }
 
 impl Block {
@@ -85,7 +86,7 @@ impl<'b> ItemSerializer<'b> {
 
     fn pairs(self) -> Result<Pairs<'b>, EncodeError> {
         let left = self.deeper()?;
-        let first = self.block.pairs.len();
+        let first = self.block.pairs.0.len();
         let begin = self.block.writer.map()?;
         Ok(Pairs { block: self.block, left, begin, variant: None, first })
     }
@@ -334,10 +335,10 @@ impl Pairs<'_> {
     }
 
     fn close(self) -> Result<(), EncodeError> {
-        let keys = &self.block.pairs[self.first..];
-        let count = keys.len();
-        self.block.writer.sort_pairs(keys)?;
-        self.block.pairs.truncate(self.first);
+        let pairs = &mut self.block.pairs.0[self.first..];
+        let count = pairs.len();
+        self.block.writer.sort_pairs(pairs)?;
+        self.block.pairs.0.truncate(self.first);
         self.block.writer.end(self.begin, count)?;
         self.block.close_variant(self.variant)
     }
@@ -348,7 +349,9 @@ impl SerializeMap for Pairs<'_> {
     type Error = EncodeError;
 
     fn serialize_key<T: Serialize + ?Sized>(&mut self, key: &T) -> Result<(), EncodeError> {
-        self.block.pairs.push(self.block.writer.len());
+        let begin = self.block.writer.len();
+        self.block.pairs.0.try_reserve(1).map_err(|_| EncodeError::OutOfMemory)?;
+        self.block.pairs.0.push(Pair::at(begin));
         key.serialize(OnlySerializer { block: self.block, only: Only::Key })
     }
 

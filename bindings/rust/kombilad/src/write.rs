@@ -158,27 +158,51 @@ impl Writer {
         }
     }
 
-    /// Sorts the pairs of a map by their keys. `keys` has the index of each key's entry. The last
-    /// pair ends with the last entry.
-    pub(crate) fn sort_pairs(&mut self, keys: &[usize]) -> Result<(), EncodeError> {
-        let (entries, data) = (&self.entries.0, &self.data.0);
-        let key = |at: usize| {
-            let Entry { len, value, .. } = entries[at];
-            (len, &data[value as usize..value as usize + len as usize])
+    /// Sorts the pairs of a map by their keys. They are all of its pairs, and the last one ends
+    /// with the last entry.
+    pub(crate) fn sort_pairs(&mut self, pairs: &mut [Pair]) -> Result<(), EncodeError> {
+        let (entries, data) = (&mut self.entries.0, &self.data.0);
+        let compare = |one: &Pair, other: &Pair| {
+            let key = |pair: &Pair| {
+                let Entry { len, value, .. } = entries[pair.begin];
+                (len, &data[value as usize..value as usize + len as usize])
+            };
+            key(one).cmp(&key(other))
         };
-        if keys.windows(2).all(|pair| key(pair[0]) <= key(pair[1])) {
+        if pairs.windows(2).all(|pair| compare(&pair[0], &pair[1]).is_le()) {
             return Ok(());
         }
-        let mut order: Vec<usize> = (0..keys.len()).collect();
-        order.sort_by(|one, other| key(keys[*one]).cmp(&key(keys[*other])));
-        let mut sorted: Vec<Entry> = Vec::new();
-        sorted.try_reserve_exact(entries.len() - keys[0]).map_err(|_| EncodeError::OutOfMemory)?;
-        for at in order {
-            let end = keys.get(at + 1).map_or(entries.len(), |next| *next);
-            sorted.extend_from_slice(&entries[keys[at]..end]);
+        let (first, end) = (pairs[0].begin, entries.len());
+        pairs.iter_mut().rev().fold(end, |next, pair| {
+            pair.end = next;
+            pair.begin
+        });
+        pairs.sort_unstable_by(compare);
+        // A sorted copy behind the entries, which then takes their place.
+        entries.try_reserve(end - first).map_err(|_| EncodeError::OutOfMemory)?;
+        for pair in pairs {
+            entries.extend_from_within(pair.begin..pair.end);
         }
-        self.entries.0[keys[0]..].copy_from_slice(&sorted);
+        entries.copy_within(end.., first);
+        entries.truncate(end);
         Ok(())
+    }
+}
+
+/// A pair of a map.
+#[cfg(feature = "serde")]
+pub(crate) struct Pair {
+    /// The index of the entry of its key.
+    begin: usize,
+    /// The index of the entry after its value, while the pairs are sorted.
+    end: usize,
+}
+
+#[cfg(feature = "serde")]
+impl Pair {
+    /// Creates a pair whose key is at this entry.
+    pub(crate) fn at(begin: usize) -> Self {
+        Pair { begin, end: begin }
     }
 }
 
