@@ -113,6 +113,7 @@ said "Rust, over a shared library: ok"
 "$tests/venv/bin/python" test/multibase.py
 PYTHONPATH=$PWD/.. "$tests/venv/bin/python" -B test/files.py
 PYTHONPATH=$PWD/.. "$tests/venv/bin/python" -B test/pack.py
+PYTHONPATH=$PWD/.. "$tests/venv/bin/python" -B test/indexed_cars.py
 "$tests/venv/bin/python" test/random_blocks.py "$blocks"
 "$tests/venv/bin/python" test/random_pb.py "$blocks"
 "$tests/venv/bin/python" test/random_cars.py "$blocks"

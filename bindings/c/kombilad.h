@@ -673,6 +673,29 @@ uint32_t kombilad_car_header(const kombilad_cid *roots, size_t roots_len, uint8_
 uint32_t kombilad_car_section(const uint8_t *cid, size_t cid_len, uint64_t block_len,
                               uint8_t *bytes, size_t bytes_len, size_t *needed);
 
+/* The CID of a block in the payload of a CAR, and the number of bytes of the payload before its
+ * section. */
+typedef struct kombilad_car_row {
+    kombilad_cid cid;
+    uint64_t offset;
+} kombilad_car_row;
+
+/* The length of what a CAR of version 2 has before its payload. */
+#define KOMBILAD_CAR_FRONT ((size_t)51)
+
+/* Writes what a CAR of version 2 has around its payload, which is a CAR of version 1 of
+ * `payload_len` bytes. The first KOMBILAD_CAR_FRONT bytes stand before the payload: the pragma and
+ * the header. The other bytes stand after it: an index of the blocks in `rows`, in the format
+ * MultihashIndexSorted. The rows may have any order. A block whose CID has an empty digest gets no
+ * entry. If a row has no CID, it writes the number of that row to `place`, counted from 0. It
+ * allocates about 80 bytes for each row, up to twice as many for rows of several hash functions, and
+ * what it writes.
+ *
+ * Statuses: OK, TOO_SHORT, NO_MEMORY, KOMBILAD_CID_*, KOMBILAD_CAR_LENGTH_TOO_LARGE if the index
+ * would begin at byte 2^64 or later. */
+uint32_t kombilad_car_index(const kombilad_car_row *rows, size_t rows_len, uint64_t payload_len,
+                            uint8_t *bytes, size_t bytes_len, size_t *needed, size_t *place);
+
 /* ---- Walks over files and folders of UnixFS
  *
  * Nobody has to trust the source of the blocks: each block is verified before it is read.

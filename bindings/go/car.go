@@ -3,6 +3,7 @@ package kombilad
 import (
 	"fmt"
 	"io"
+	"io/fs"
 	"math"
 )
 
@@ -251,19 +252,32 @@ type CarWriter struct {
 // If a root is undefined it fails with ErrCidEnd, and writes nothing. The path of the error is such
 // as roots[1]. An error of the writer is wrapped. It also fails with ErrNoMemory.
 func NewCarWriter(to io.Writer, roots []Cid) (*CarWriter, error) {
-	header, made := callCarHeader(roots)
-	if made.status != 0 {
-		failure := failedWith(made.status)
-		if made.status != ErrNoMemory {
-			failure.Path = "roots" + indexPart(int(made.offset))
-		}
-		return nil, failure
+	header, err := carHeader(roots)
+	if err != nil {
+		return nil, err
 	}
-	w := &CarWriter{to: to, head: make([]byte, carSection)}
+	w := newCarWriter(to)
 	if err := w.write(header); err != nil {
 		return nil, err
 	}
-	return w, nil
+	return &w, nil
+}
+
+func newCarWriter(to io.Writer) CarWriter {
+	return CarWriter{to: to, head: make([]byte, carSection)}
+}
+
+// carHeader returns the header of a CAR with these roots.
+func carHeader(roots []Cid) ([]byte, error) {
+	header, made := callCarHeader(roots)
+	if made.status == 0 {
+		return header, nil
+	}
+	failure := failedWith(made.status)
+	if made.status != ErrNoMemory {
+		failure.Path = "roots" + indexPart(int(made.offset))
+	}
+	return nil, failure
 }
 
 // Write writes a block. The blocks may come in any order. Write doesn't compare them with their
@@ -272,11 +286,17 @@ func NewCarWriter(to io.Writer, roots []Cid) (*CarWriter, error) {
 // If the CID is undefined it fails with ErrCidEnd, and writes nothing. An error of the writer is
 // wrapped. After it a section may be incomplete, and Write returns the same error again.
 func (w *CarWriter) Write(cid Cid, block []byte) error {
+	_, err := w.section(cid, block)
+	return err
+}
+
+// section writes a section, and returns the number of its bytes before the block.
+func (w *CarWriter) section(cid Cid, block []byte) (int, error) {
 	made := callCarSection(cid.bytes, len(block), w.head)
 	if made.status != 0 {
-		return failedWith(made.status)
+		return 0, failedWith(made.status)
 	}
-	return w.write(w.head[:made.needed], block)
+	return made.needed, w.write(w.head[:made.needed], block)
 }
 
 // write writes parts of the CAR, unless there was an error before.
@@ -290,8 +310,96 @@ func (w *CarWriter) write(parts ...[]byte) error {
 			err = io.ErrShortWrite
 		}
 		if err != nil {
-			w.err = fmt.Errorf("kombilad: cannot write the CAR: %w", err)
+			w.fail(err)
 		}
 	}
 	return w.err
+}
+
+// fail keeps an error of the writer, and returns it.
+func (w *CarWriter) fail(err error) error {
+	w.err = fmt.Errorf("kombilad: cannot write the CAR: %w", err)
+	return w.err
+}
+
+// IndexedCarWriter writes a CAR of version 2: that of a [CarWriter], and an index of its blocks. Its
+// method Write can be the [BlockPutter] of a [Packer]. It keeps 96 bytes for each block.
+//
+// An IndexedCarWriter is for one goroutine at a time. The file is not a CAR before Close has returned
+// nil.
+type IndexedCarWriter struct {
+	car     CarWriter
+	to      io.WriteSeeker
+	start   int64 // where the CAR begins in the file
+	payload uint64
+	rows    []carRow
+	closed  bool
+}
+
+// NewIndexedCarWriter writes the header of a CAR with these roots from the position of the file on,
+// and returns a writer of its blocks.
+//
+// If a root is undefined it fails with ErrCidEnd, and writes nothing. The path of the error is such
+// as roots[1]. An error of the file is wrapped. It also fails with ErrNoMemory.
+func NewIndexedCarWriter(to io.WriteSeeker, roots []Cid) (*IndexedCarWriter, error) {
+	header, err := carHeader(roots)
+	if err != nil {
+		return nil, err
+	}
+	w := &IndexedCarWriter{car: newCarWriter(to), to: to, payload: uint64(len(header))}
+	if w.start, err = to.Seek(0, io.SeekCurrent); err != nil {
+		return nil, w.car.fail(err)
+	}
+	if err := w.car.write(make([]byte, carFront), header); err != nil {
+		return nil, err
+	}
+	return w, nil
+}
+
+// Write writes a block, as the method of [CarWriter] does.
+func (w *IndexedCarWriter) Write(cid Cid, block []byte) error {
+	if w.closed {
+		return fmt.Errorf("kombilad: cannot write to a CAR after its end: %w", fs.ErrClosed)
+	}
+	head, err := w.car.section(cid, block)
+	if err == nil {
+		w.rows = append(w.rows, rowOf(cid, w.payload))
+		w.payload += uint64(head) + uint64(len(block))
+	}
+	return err
+}
+
+// Close writes the index and the first bytes, and leaves the file at the end of the CAR. It doesn't
+// close the file. If there was an error before, it returns that and writes nothing. A second Close
+// does nothing.
+func (w *IndexedCarWriter) Close() error {
+	if w.car.err != nil || w.closed {
+		return w.car.err
+	}
+	around, made := callCarIndex(w.rows, w.payload)
+	if made.status != 0 {
+		return failedWith(made.status)
+	}
+	end := w.start + carFront + int64(w.payload) + int64(len(around)-carFront)
+	if err := w.car.write(around[carFront:]); err != nil {
+		return err
+	}
+	if err := w.seek(w.start); err != nil {
+		return err
+	}
+	if err := w.car.write(around[:carFront]); err != nil {
+		return err
+	}
+	if err := w.seek(end); err != nil {
+		return err
+	}
+	w.closed, w.rows = true, nil
+	return nil
+}
+
+func (w *IndexedCarWriter) seek(at int64) error {
+	if _, err := w.to.Seek(at, io.SeekStart); err != nil {
+		return w.car.fail(err)
+	}
+	return nil
 }

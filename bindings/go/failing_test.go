@@ -107,6 +107,16 @@ func TestEachAllocationMayFail(t *testing.T) {
 			}
 			return w.Write(cid, nil)
 		},
+		"IndexedCarWriter": func() error {
+			w, err := NewIndexedCarWriter(&memoryFile{}, []Cid{cid, cid})
+			if err != nil {
+				return err
+			}
+			if err := w.Write(cid, nil); err != nil {
+				return err
+			}
+			return w.Close()
+		},
 		"StringOfBase": func() error { _, err := cid.StringOfBase(Base58BTC); return err },
 	} {
 		refused := 0

@@ -159,6 +159,14 @@ static outcome car_header(const kombilad_cid *roots, size_t roots_len, uint8_t *
 	return made;
 }
 
+static outcome car_index(const kombilad_car_row *rows, size_t rows_len, uint64_t payload_len,
+                         uint8_t *bytes, size_t bytes_len) {
+	outcome made = {0};
+	made.status = kombilad_car_index(rows, rows_len, payload_len, bytes, bytes_len, &made.needed,
+	                                 &made.offset);
+	return made;
+}
+
 static outcome car_section(_GoString_ cid, uint64_t block_len, uint8_t *bytes, size_t bytes_len) {
 	outcome made = {0};
 	made.status = kombilad_car_section(STRING(cid), block_len, bytes, bytes_len, &made.needed);
@@ -598,6 +606,26 @@ func callCarHeader(roots []Cid) ([]byte, outcome) {
 func callCarSection(cid string, block int, bytes []byte) outcome {
 	to, room := bytesOf(bytes)
 	return outcomeOf(C.car_section(cid, C.uint64_t(block), to, room))
+}
+
+// carFront is the number of bytes of a CAR of version 2 before its payload.
+const carFront = C.KOMBILAD_CAR_FRONT
+
+// carRow is the CID of a block, and the offset of its section in the payload.
+type carRow = C.kombilad_car_row
+
+func rowOf(cid Cid, offset uint64) carRow {
+	return carRow{cid: recordOf(cid), offset: C.uint64_t(offset)}
+}
+
+// callCarIndex returns the first bytes of a CAR of version 2 with a payload of this length, and after
+// them its index.
+func callCarIndex(rows []carRow, payload uint64) ([]byte, outcome) {
+	records := append(rows, carRow{}) // the last one isn't passed
+	return filled(nil, func(bytes []byte) outcome {
+		to, room := bytesOf(bytes)
+		return outcomeOf(C.car_index(&records[0], C.size_t(len(rows)), C.uint64_t(payload), to, room))
+	})
 }
 
 // walk is a walk over the blocks of a file or of a folder, whose memory is C's until free. The zero

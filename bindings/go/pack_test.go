@@ -2,6 +2,7 @@ package kombilad
 
 import (
 	"bytes"
+	"encoding/binary"
 	"encoding/hex"
 	"errors"
 	"fmt"
@@ -628,6 +629,113 @@ func TestCarWriterErrors(t *testing.T) {
 	_, err = p.File(strings.NewReader(lorem), nil)
 	same(t, "File", err, w.Write(cid, nil))
 	same(t, "File", errors.Is(err, broken), true)
+}
+
+// memoryFile is a file in memory, of which the calls fail after so many, if that is not 0.
+type memoryFile struct {
+	data  []byte
+	at    int
+	calls int
+	most  int
+}
+
+var errMemoryFile = errors.New("broken")
+
+func (f *memoryFile) called() error {
+	f.calls++
+	if f.most > 0 && f.calls > f.most {
+		return errMemoryFile
+	}
+	return nil
+}
+
+func (f *memoryFile) Write(from []byte) (int, error) {
+	if err := f.called(); err != nil {
+		return 0, err
+	}
+	for len(f.data) < f.at+len(from) {
+		f.data = append(f.data, 0)
+	}
+	f.at += copy(f.data[f.at:], from)
+	return len(from), nil
+}
+
+func (f *memoryFile) Seek(offset int64, whence int) (int64, error) {
+	if err := f.called(); err != nil {
+		return 0, err
+	}
+	if whence == io.SeekCurrent {
+		offset += int64(f.at)
+	}
+	f.at = int(offset)
+	return offset, nil
+}
+
+// indexOf returns an index of blocks with SHA2-256, whose sections have these offsets.
+func indexOf(cids []Cid, offsets []int) []byte {
+	rows := make([]string, len(cids))
+	for at, cid := range cids {
+		rows[at] = string(cid.Digest()) + string(binary.LittleEndian.AppendUint64(nil, uint64(offsets[at])))
+	}
+	sort.Strings(rows)
+	index := append([]byte{0x81, 8}, 1, 0, 0, 0)
+	index = append(index, 0x12, 0, 0, 0, 0, 0, 0, 0, 1, 0, 0, 0, 40, 0, 0, 0)
+	index = binary.LittleEndian.AppendUint64(index, uint64(40*len(rows)))
+	return append(index, strings.Join(rows, "")...)
+}
+
+func TestIndexedCarWriter(t *testing.T) {
+	for _, count := range []int{1, 2, 300, 70_000} {
+		roots := []Cid{cidOfText(t, version0), cidOfText(t, "bafkqaaa")}
+		file := &memoryFile{data: []byte("before"), at: 6}
+		w, err := NewIndexedCarWriter(file, roots)
+		same(t, "NewIndexedCarWriter", err, nil)
+		payload := carOf(roots)
+		cids, offsets := make([]Cid, count), make([]int, count)
+		for at := range cids {
+			block := []byte{byte(at), byte(at >> 8), byte(at >> 16)}
+			cids[at], offsets[at] = NewCid(Raw, block), len(payload)
+			payload = append(payload, framed(append(cids[at].Bytes(), block...))...)
+			same(t, "Write", w.Write(cids[at], block), nil)
+		}
+		same(t, "no CAR yet", bytes.Equal(file.data[6:57], make([]byte, 51)), true)
+		same(t, "Close", []any{w.Close(), w.Close()}, []any{nil, nil})
+		same(t, "Write", errors.Is(w.Write(cids[0], nil), fs.ErrClosed), true)
+		same(t, "the file's position", file.at, len(file.data))
+		wanted := append([]byte("before\x0a\xa1\x67version\x02\x80"), make([]byte, 15)...)
+		for _, number := range []int{51, len(payload), 51 + len(payload)} {
+			wanted = binary.LittleEndian.AppendUint64(wanted, uint64(number))
+		}
+		wanted = append(append(wanted, payload...), indexOf(cids, offsets)...)
+		same(t, "the CAR", bytes.Equal(file.data, wanted), true)
+		r, err := OpenCar(bytes.NewReader(file.data[6:]))
+		same(t, "OpenCar", err, nil)
+		found := 0
+		r.Blocks()(func(Cid, []byte) bool { found++; return true })
+		same(t, "Blocks", []any{found, r.Err()}, []any{count, nil})
+	}
+}
+
+func TestIndexedCarWriterErrors(t *testing.T) {
+	cid := NewCid(Raw, []byte("block"))
+	_, err := NewIndexedCarWriter(&memoryFile{}, []Cid{cid, {}})
+	sameError(t, "an undefined root", err, ErrCidEnd, -1)
+	// Two calls for the header and its place, two for a block, and four for the end.
+	for most := 1; most < 9; most++ {
+		file := &memoryFile{most: most}
+		w, err := NewIndexedCarWriter(file, []Cid{cid})
+		if err == nil {
+			sameError(t, "an undefined CID", w.Write(Cid{}, nil), ErrCidEnd, -1)
+			err = w.Write(cid, []byte("block"))
+			if err == nil {
+				err = w.Close()
+			}
+			file.most = 0
+			same(t, "Write", w.Write(cid, nil), err)
+			same(t, "Close", w.Close(), err)
+		}
+		same(t, "an error of the file", []any{errors.Is(err, errMemoryFile), err.Error()}, []any{true, "kombilad: cannot write the CAR: broken"})
+	}
 }
 
 func TestPackedFoldersAreSorted(t *testing.T) {

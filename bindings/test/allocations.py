@@ -47,11 +47,12 @@ def pack():
     return packer.folder(entries, mode=0o755, mtime_ns=1), put
 
 
-def car():
+def car(version=1):
     """Returns a CAR."""
     file = io.BytesIO()
-    writer = kombilad.CarWriter(file, [LINK] * 3)
-    writer.write(LINK, b"")
+    with kombilad.CarWriter(file, [LINK] * 3, version=version) as writer:
+        writer.write(LINK, b"")
+        writer.write(Cid.of_block(b""), b"")
     return file.getvalue()
 
 
@@ -79,6 +80,7 @@ def works():
     yield lambda: kombilad.open_file(UNIXFS.get, FILE).read()
     yield pack
     yield car
+    yield lambda: car(version=2)
 
 
 def refused(what, begin, end, most=2000):

@@ -1789,6 +1789,83 @@ static void check_written_car(void) {
     free(v0.at), free(header.at), free(none.at), free(longest.at);
 }
 
+/* The pragma and the header of version 2, whose characteristics begin with the byte `full`. The
+ * payload has 0x1234 bytes. */
+#define AROUND(full)                                               \
+    "0aa16776657273696f6e02" full "000000000000000000000000000000" \
+    "3300000000000000"                                             \
+    "3412000000000000"                                             \
+    "6712000000000000"
+/* An index of the identity hash, with a digest of one byte, and of SHA2-256. */
+#define HASH_INDEX                                                                      \
+    "8108"                                                                              \
+    "02000000"                                                                          \
+    "0000000000000000"                                                                  \
+    "01000000"                                                                          \
+    "09000000"                                                                          \
+    "0900000000000000"                                                                  \
+    "61"                                                                                \
+    "0500000000000000"                                                                  \
+    "1200000000000000"                                                                  \
+    "01000000"                                                                          \
+    "28000000"                                                                          \
+    "7800000000000000" DIGEST "0700000000000000" DIGEST "ffffffffffffffff" EMPTY_DIGEST \
+    "0000000000000000"
+
+static void check_car_index(void) {
+    static const struct {
+        const char *cid;
+        uint64_t offset;
+    } given[] = {{V0, 0}, {V1, UINT64_MAX}, {"0155000161", 5}, {V1, 7}, {"01550000", 9}};
+    kombilad_car_row rows[COUNT(given)] = {{.offset = 0}};
+    for (size_t at = 0; at < COUNT(given); at++) {
+        bytes cid = from_hex(given[at].cid);
+        rows[at].cid.len = (uint8_t)cid.len;
+        memcpy(rows[at].cid.bytes, cid.at, cid.len);
+        rows[at].offset = given[at].offset;
+        free(cid.at);
+    }
+    bytes all = from_hex(AROUND("80") HASH_INDEX), some = from_hex(AROUND("00") HASH_INDEX);
+    bytes none = from_hex(AROUND("80") "810800000000");
+    uint8_t out[300];
+    size_t needed = 7, place = 7;
+    memset(out, '#', sizeof out);
+    CHECK(kombilad_car_index(rows, 4, 0x1234, out, all.len - 1, &needed, &place) ==
+          KOMBILAD_TOO_SHORT);
+    CHECK(needed == all.len && place == 7 && is_all(out, sizeof out, '#'));
+    CHECK(kombilad_car_index(rows, 4, 0x1234, out, all.len, &needed, &place) == KOMBILAD_OK);
+    CHECK(needed == all.len && place == 7 && memcmp(out, all.at, all.len) == 0);
+    CHECK(is_all(out + all.len, sizeof out - all.len, '#'));
+    /* An empty digest has no row. */
+    CHECK(kombilad_car_index(rows, 5, 0x1234, out, sizeof out, &needed, &place) == KOMBILAD_OK);
+    CHECK(needed == some.len && memcmp(out, some.at, some.len) == 0);
+    CHECK(kombilad_car_index(NULL, 0, 0x1234, out, sizeof out, &needed, &place) == KOMBILAD_OK);
+    CHECK(needed == none.len && memcmp(out, none.at, none.len) == 0);
+    CHECK(kombilad_car_index(NULL, 0, UINT64_MAX - 51, out, sizeof out, &needed, &place) ==
+          KOMBILAD_OK);
+    CHECK(out[35] == 0xcc && is_all(out + 36, 7, 0xff) && is_all(out + 43, 8, 0xff));
+    needed = 7;
+    memset(out, '#', sizeof out);
+    CHECK(kombilad_car_index(NULL, 0, UINT64_MAX - 50, out, sizeof out, &needed, &place) ==
+          KOMBILAD_CAR_LENGTH_TOO_LARGE);
+    rows[2].cid.len = 1;
+    rows[3].cid.len = 2;
+    CHECK(kombilad_car_index(rows, 5, UINT64_MAX, out, sizeof out, &needed, &place) ==
+          KOMBILAD_CID_END);
+    CHECK(needed == 7 && place == 2 && is_all(out, sizeof out, '#'));
+    free(all.at), free(some.at), free(none.at);
+}
+
+static uint32_t call_car_index(bytes cid, void *out, size_t len, size_t *needed) {
+    kombilad_car_row rows[2] = {{.offset = 1}, {.offset = 0}};
+    size_t place;
+    rows[0].cid.len = (uint8_t)cid.len;
+    memcpy(rows[0].cid.bytes, cid.at, cid.len);
+    /* The identity hash, so that the index has two. */
+    rows[1].cid = (kombilad_cid){.len = 5, .bytes = {1, 0x55, 0, 1, 'a'}};
+    return kombilad_car_index(rows, COUNT(rows), 9, out, len, needed, &place);
+}
+
 static uint32_t call_car_header(bytes cid, void *out, size_t len, size_t *needed) {
     kombilad_cid roots[3];
     size_t place;
@@ -1858,6 +1935,7 @@ static void check_refused(void) {
     CHECK(refuse_each(call_pack, folder, 1) > 10);
     CHECK(refuse_each(call_pack_folder, folder, 1) > 5);
     CHECK(refuse_each(call_car_header, folder, 200) > 2);
+    CHECK(refuse_each(call_car_index, cid, 300) > 2);
     bytes target = from_text("a/b");
     CHECK(refuse_each(call_pack_link, target, 1) > 2);
     free(target.at);
@@ -2244,6 +2322,7 @@ int main(int count, char **words) {
     check_packed_files();
     check_packed_folders();
     check_written_car();
+    check_car_index();
     check_threads();
     puts("calls: ok");
     return 0;

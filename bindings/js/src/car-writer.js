@@ -1,5 +1,5 @@
 import { CID, ownCid } from './cid.js'
-import { bytesOf, iterableOf, place, run } from './core.js'
+import { bytesOf, iterableOf, longOf, place, run } from './core.js'
 import { ofStatus } from './errors.js'
 import { zeros } from './writer.js'
 
@@ -47,4 +47,46 @@ export async function * encodeCar (roots, blocks) {
     section.set(block, head.length)
     yield section
   }
+}
+
+/** The size in bytes of the core's record of a CID and an offset. */
+const ROW = CID_RECORD + 8
+/** The number of bytes of a CAR of version 2 before its payload. */
+const FRONT = 51
+
+function indexIn (core, rows, payload) {
+  const given = rows.length * ROW
+  // An entry takes fewer bytes than a row, unless its digest is long.
+  let most = given + 2 * ROW
+  for (;;) {
+    core.reserve(given + most)
+    const { bytes, numbers, room } = core
+    const out = room + given
+    bytes.fill(0, room, out)
+    rows.forEach(({ cid, offset }, each) => {
+      const at = room + each * ROW
+      bytes[at] = cid.length
+      bytes.set(cid, at + 1)
+      numbers.setBigUint64(at + CID_RECORD, offset, true)
+    })
+    const status = core.calls.kombilad_car_index(room, rows.length, payload, out, most, core.neededAt, core.offsetAt)
+    const needed = core.needed()
+    if (status === 0) return core.bytes.slice(out, out + needed)
+    if (status !== 2 || needed <= most) throw ofStatus(status)
+    most = needed
+  }
+}
+
+/**
+ * Returns what a CAR of version 2 has around a payload, which is a CAR of version 1: the bytes before
+ * it, and the index of its blocks after it.
+ */
+export function encodeCarIndex (blocks, payloadLength) {
+  const payload = longOf(payloadLength, 'the length of the payload')
+  const rows = []
+  for (const { cid, offset } of blocks) {
+    rows.push({ cid: CID.decode(ownCid(cid).bytes).bytes, offset: longOf(offset, 'an offset') })
+  }
+  const around = run(indexIn, rows, payload)
+  return { header: around.slice(0, FRONT), index: around.slice(FRONT) }
 }

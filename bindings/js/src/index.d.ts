@@ -492,3 +492,25 @@ export class CarReader {
  *     await writeFile('new.car', encodeCar([root], reader.blocks()))
  */
 export function encodeCar(roots: Iterable<CID> | AsyncIterable<CID>, blocks: Iterable<Block> | AsyncIterable<Block>): AsyncGenerator<Uint8Array, void, void>
+
+/** What a CAR of version 2 has around its payload. */
+export interface CarAround {
+  /** The 51 bytes before the payload. */
+  header: Uint8Array
+  /** The bytes after the payload: an index in the format MultihashIndexSorted. */
+  index: Uint8Array
+}
+
+/**
+ * Returns what a CAR of version 2 has around its payload. The payload is a CAR of version 1 of so many
+ * bytes, and each block has the offset of its section in it, as `CarIndexer` yields them. The blocks
+ * may have any order. One with an empty digest gets no entry. Throws `INPUT` if a number is out of
+ * range, and `CAR_LENGTH_TOO_LARGE` if the index would begin at byte 2^64 or later.
+ *
+ *     const payload = await readFile('old.car')
+ *     const blocks = []
+ *     for await (const block of await CarIndexer.fromBytes(payload)) blocks.push(block)
+ *     const { header, index } = encodeCarIndex(blocks, payload.length)
+ *     await writeFile('new.car', [header, payload, index])
+ */
+export function encodeCarIndex(blocks: Iterable<{ cid: CID, offset: number | bigint }>, payloadLength: number | bigint): CarAround

@@ -12,7 +12,7 @@ export { listFolder, resolvePath } from './folder.js'
 export { readNode } from './unixfs.js'
 export { Packer } from './pack.js'
 export { CarBlockIterator, CarCIDIterator, CarIndexer, CarReader } from './car.js'
-export { encodeCar } from './car-writer.js'
+export { encodeCar, encodeCarIndex } from './car-writer.js'
 export { KombiladError } from './errors.js'
 export { init, setMemoryLimit } from './core.js'
 

@@ -1,4 +1,4 @@
-// Tests Packer and encodeCar. The roots are those that `ipfs add` prints, and otherwise those of the
+// Tests Packer, encodeCar and encodeCarIndex. The roots are those that `ipfs add` prints, and otherwise those of the
 // independent writer in tests/ipld, as are the files of FILES and the folders of FOLDERS.
 import assert from 'node:assert/strict'
 import { readFileSync } from 'node:fs'
@@ -8,7 +8,7 @@ import { describe, test } from 'node:test'
 import { runInNewContext } from 'node:vm'
 import { core, kombilad } from './package.mjs'
 
-const { CarBlockIterator, CarReader, CID, KombiladError, Packer, encodeCar, links, listFolder, readFile, readNode, resolvePath, setMemoryLimit, verify } = kombilad
+const { CarBlockIterator, CarIndexer, CarReader, CID, KombiladError, Packer, encodeCar, encodeCarIndex, links, listFolder, readFile, readNode, resolvePath, setMemoryLimit, verify } = kombilad
 const files = process.env.FILES
 const cases = JSON.parse(readFileSync(join(process.env.FOLDERS, 'cases.json'), 'utf8'))
 const bytes = (text) => new TextEncoder().encode(text)
@@ -575,5 +575,62 @@ describe('encodeCar', () => {
     const get = async (cid) => (await reader.get(cid))?.bytes
     assert.deepEqual((await all(listFolder(get, root.cid))).map(({ name }) => name), ['content', 'link'])
     assert.ok(Buffer.concat(await all(readFile(get, await resolvePath(get, root.cid, 'content')))).equals(content))
+  })
+})
+
+describe('encodeCarIndex', () => {
+  const sha2 = (digest) => CID.decode(Uint8Array.from([1, 0x55, 0x12, 32, ...digest]))
+  const hex = (part) => Buffer.from(part).toString('hex')
+  const long = (number) => { const part = Buffer.alloc(8); part.writeBigUInt64LE(BigInt(number)); return part.toString('hex') }
+  const front = (full, length) => '0aa16776657273696f6e02' + full + '00'.repeat(15) + long(51) + long(length) + long(51 + length)
+
+  test('writes the header and the index by their specification', () => {
+    const [low, high] = [Array(32).fill(1), Array(32).fill(200)]
+    const rows = [{ cid: sha2(high), offset: 7 }, { cid: sha2(low), offset: 2n ** 64n - 1n }, { cid: CID.decode(Uint8Array.of(1, 0x55, 0, 1, 9)), offset: 3 }, { cid: sha2(low), offset: 5n }]
+    const expected = '810802000000' + long(0) + '01000000' + '09000000' + long(9) + '09' + long(3) +
+      long(0x12) + '01000000' + '28000000' + long(120) + '01'.repeat(32) + long(5) + '01'.repeat(32) + 'ff'.repeat(8) + 'c8'.repeat(32) + long(7)
+    for (const length of [0, 4660, 4660n]) {
+      const { header, index } = encodeCarIndex(rows, length)
+      assert.deepEqual([hex(header), hex(index)], [front('80', Number(length)), expected])
+    }
+    // An empty digest has no row.
+    const { header, index } = encodeCarIndex(new Set([{ cid: CID.parse('bafkqaaa'), offset: 0 }]), 9)
+    assert.deepEqual([hex(header), hex(index)], [front('00', 9), '810800000000'])
+    assert.equal(hex(encodeCarIndex([], 9).header), front('80', 9))
+  })
+
+  test('makes a CAR of version 2 that is read', async () => {
+    for (const name of ['raw-leaves.car', 'nodes.car', 'folder.car']) {
+      const payload = readFileSync(join(files, name))
+      const blocks = await all(await CarIndexer.fromBytes(payload))
+      const { header, index } = encodeCarIndex(blocks, payload.length)
+      const reader = await CarReader.fromBytes(Buffer.concat([header, payload, index]))
+      assert.equal(reader.version, 2)
+      assert.deepEqual(await all(reader.cids()), blocks.map(({ cid }) => cid))
+    }
+  })
+
+  test('indexes 70,000 blocks, and digests of the greatest length', () => {
+    const number = [...Array(8).fill(0x80), 1]
+    const longest = (at) => CID.decode(Uint8Array.of(1, ...number, ...number, 64, ...Array(61).fill(9), at >> 16, (at >> 8) & 255, at & 255))
+    const rows = Array.from({ length: 70000 }, (_, at) => ({ cid: longest(69999 - at), offset: at }))
+    const { index } = encodeCarIndex(rows, 2 ** 40)
+    assert.equal(index.length, 2 + 4 + 8 + 4 + 4 + 8 + 70000 * 72)
+    for (const at of [0, 1, 65535, 65536, 69999]) {
+      const row = Buffer.from(index.buffer, index.byteOffset + 30 + at * 72, 72)
+      assert.deepEqual([row.readUIntBE(61, 3), row.readUInt32LE(64)], [at, 69999 - at])
+    }
+  })
+
+  test('refuses what are no CIDs, offsets or lengths', () => {
+    const cid = CID.parse('bafkqaaa')
+    for (const offset of [-1, 0.5, 2n ** 64n, '1', undefined, NaN, 2 ** 53]) {
+      assert.throws(() => encodeCarIndex([{ cid, offset }], 0), { code: 'INPUT' })
+      assert.throws(() => encodeCarIndex([], offset), { code: 'INPUT' })
+    }
+    assert.throws(() => encodeCarIndex([], 2n ** 64n - 51n), { code: 'CAR_LENGTH_TOO_LARGE' })
+    assert.ok(encodeCarIndex([], 2n ** 64n - 52n))
+    assert.throws(() => encodeCarIndex([{ cid: changed, offset: 0 }], 0), KombiladError)
+    for (const rows of [[{}], [{ cid: 'bafkqaaa', offset: 0 }], [null], null, 7]) assert.throws(() => encodeCarIndex(rows, 0))
   })
 })

@@ -282,3 +282,50 @@ PyObject *car_section(PyObject *module, PyObject *arguments) {
     set_failed(state_of(module), status, 0);
     return NULL;
 }
+
+/* Reads a list of pairs, of a CID's bytes and an offset. */
+static int rows_of(PyObject *given, kombilad_car_row *rows, Py_ssize_t count) {
+    for (Py_ssize_t at = 0; at < count; at++) {
+        const char *bytes;
+        Py_ssize_t len;
+        unsigned long long offset;
+        if (!PyArg_ParseTuple(PyList_GetItem(given, at), "y#K", &bytes, &len, &offset) ||
+            cid_record(bytes, len, &rows[at].cid) < 0)
+            return -1;
+        rows[at].offset = offset;
+    }
+    return 0;
+}
+
+/* Returns the header and the index of version 2, in one piece. */
+static PyObject *around_of(const struct state *state, const kombilad_car_row *rows, size_t count,
+                           uint64_t payload_len) {
+    size_t len = 0, place = 0;
+    PyObject *around = NULL;
+    uint32_t status = kombilad_car_index(rows, count, payload_len, NULL, 0, &len, &place);
+    if (status == KOMBILAD_TOO_SHORT) {
+        around = PyBytes_FromStringAndSize(NULL, (Py_ssize_t)len);
+        if (around == NULL) return NULL;
+        status = kombilad_car_index(rows, count, payload_len, (uint8_t *)PyBytes_AsString(around),
+                                    len, &len, &place);
+    }
+    if (status == KOMBILAD_OK) return around;
+    Py_XDECREF(around);
+    set_failed(state, status, 0);
+    return NULL;
+}
+
+/* car_index(rows, payload_len): returns the first bytes of a CAR of version 2, and its index. */
+PyObject *car_index(PyObject *module, PyObject *arguments) {
+    PyObject *given, *around = NULL;
+    unsigned long long len;
+    if (!PyArg_ParseTuple(arguments, "OK", &given, &len)) return NULL;
+    Py_ssize_t count = PyList_Size(given);
+    if (count < 0) return NULL;
+    kombilad_car_row *rows = PyMem_New(kombilad_car_row, (size_t)count);
+    if (rows == NULL) return PyErr_NoMemory();
+    if (rows_of(given, rows, count) == 0)
+        around = around_of(state_of(module), rows, (size_t)count, len);
+    PyMem_Free(rows);
+    return around;
+}

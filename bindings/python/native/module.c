@@ -80,6 +80,8 @@ static PyMethodDef methods[] = {
     {"car_header", car_header, METH_O, "car_header(roots): the header with these CIDs' bytes."},
     {"car_section", car_section, METH_VARARGS,
      "car_section(cid, block_len): what a section has before its block."},
+    {"car_index", car_index, METH_VARARGS,
+     "car_index(rows, payload_len): the first bytes of a CAR of version 2, and its index."},
     {"check", block_check, METH_VARARGS, "check(block, levels, values): None if it is valid."},
     {"cid_check", cid_check, METH_O, "cid_check(bytes): a copy of bytes that are those of a CID."},
     {"cid_from_text", cid_from_text, METH_O, "cid_from_text(text): the bytes of its CID."},

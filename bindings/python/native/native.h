@@ -164,6 +164,7 @@ PyObject *verify(PyObject *module, PyObject *arguments);
 PyObject *decode_car(PyObject *module, PyObject *arguments);
 PyObject *car_header(PyObject *module, PyObject *roots);
 PyObject *car_section(PyObject *module, PyObject *arguments);
+PyObject *car_index(PyObject *module, PyObject *arguments);
 
 /* Calls on files, folders and nodes of UnixFS. */
 PyObject *file_new(PyObject *module, PyObject *arguments);

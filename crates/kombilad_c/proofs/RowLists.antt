@@ -1,5 +1,5 @@
 -- Rows that stand for elements, one after the other.
-use Rattle.std.proofs.Common.{◌≡◌, ℕ, ◌+◌, ◌<◌, ◌≤◌, List, [], ◌∷◌, ◌++◌, length, map, take, drop, get_or, refl, sym, ap, subst, ◌∙◌, arith}
+use Rattle.std.proofs.Common.{◌≡◌, ℕ, ◌+◌, ◌<◌, List, [], ◌∷◌, ◌++◌, length, map, take, drop, get_or, refl, sym, ap, subst, ◌∙◌, arith}
 use Rattle.std.proofs.lemmas.List.{take_more, drop_more, map-append, take-append-drop, length-take-le}
 use Rattle.kombilad_c.specs.Rows.{AreEach, FirstFault}
 
@@ -30,7 +30,13 @@ fault_at Is IsNone rows elements i other status inside are none = record {
 }
 
 -- what is so of the elements in a list, of a list with one more
+pub each_appended : {A B : Type 0} (Is : A → B → Type 0) (rows : List A) (elements more : List B) (i : ℕ) (other : A) (element : B) → i < length rows
+    → AreEach Is (take i rows) elements → Is (get_or rows i other) element → more ≡ elements ++ element ∷ [] → AreEach Is (take (i + 1) rows) more
+each_appended Is rows elements more i other element inside are is same =
+    subst (λ es. AreEach Is (take (i + 1) rows) es) (sym same) (each_next Is rows elements i other element inside are is)
+
+-- the same of what a list is mapped to
 pub each_pushed : {A B X : Type 0} (Is : A → B → Type 0) (f : X → B) (rows : List A) (xs pushed : List X) (i : ℕ) (other : A) (x : X) → i < length rows
     → AreEach Is (take i rows) (map f xs) → Is (get_or rows i other) (f x) → pushed ≡ xs ++ x ∷ [] → AreEach Is (take (i + 1) rows) (map f pushed)
 each_pushed Is f rows xs pushed i other x inside are is same =
-    subst (λ es. AreEach Is (take (i + 1) rows) es) (sym (ap (map f) same ∙ map-append f xs (x ∷ []))) (each_next Is rows (map f xs) i other (f x) inside are is)
+    each_appended Is rows (map f xs) (map f pushed) i other (f x) inside are is (ap (map f) same ∙ map-append f xs (x ∷ []))

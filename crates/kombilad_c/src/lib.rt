@@ -10,6 +10,7 @@ mod attributes;
 mod base32;
 mod box_parts;
 mod car_header;
+mod car_index;
 mod car_next_part;
 mod car_open_part;
 mod car_place;

@@ -1,4 +1,4 @@
-import { CID, CarBlockIterator, CarIndexedReader, CarIndexer, CarReader, KombiladError, Packer, check, code, countLinks, decode, encode, encodeCar, fromJSON, isCanonical, linkPositions, links, listFolder, name, readFile, readNode, resolvePath, setMemoryLimit, sha256, tape, toJSON, verify, dagCbor, dagPb } from 'kombilad'
+import { CID, CarBlockIterator, CarIndexedReader, CarIndexer, CarReader, KombiladError, Packer, check, code, countLinks, decode, encode, encodeCar, encodeCarIndex, fromJSON, isCanonical, linkPositions, links, listFolder, name, readFile, readNode, resolvePath, setMemoryLimit, sha256, tape, toJSON, verify, dagCbor, dagPb } from 'kombilad'
 
 const cid: CID = CID.parse('bafkqaaa')
 const version: 0 | 1 = cid.version
@@ -73,6 +73,11 @@ export async function packed (car: { write(bytes: Uint8Array): unknown }, file: 
   const { mode, mtime } = readNode(a.cid, blocks[0].bytes)
   const root = await packer.folder(new Map([['a', a], ['b', b], ['c', c], ['link', link]]), { mode, mtime })
   for await (const piece of encodeCar([root.cid], blocks)) car.write(piece)
+  const sections: Array<{ cid: CID, offset: number }> = []
+  for await (const section of await CarIndexer.fromBytes(bytes)) sections.push(section)
+  const { header, index } = encodeCarIndex(sections, bytes.length)
+  car.write(encodeCarIndex([{ cid: root.cid, offset: 0n }], 2n).index)
+  car.write(header.length > 51 ? header : index)
   return root.total
 }
 

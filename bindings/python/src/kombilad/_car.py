@@ -319,9 +319,13 @@ def _reading(source: Any) -> Callable[[int], Awaitable[bytes]]:
     return read_chunk
 
 
+# The number of bytes of a CAR of version 2 before its payload.
+_FRONT = 51
+
+
 class CarWriter:
-    """Writes a CAR of version 1 to a binary file that is open for writing: the header with the roots at
-    once, and a section for each block. It keeps nothing in memory, and doesn't close the file.
+    """Writes a CAR to a binary file that is open for writing: the header with the roots at once, and a
+    section for each block. It doesn't close the file.
 
     >>> import io
     >>> file = io.BytesIO()
@@ -330,13 +334,35 @@ class CarWriter:
     >>> CarReader(file.getvalue()).roots
     [Cid('bafkqaaa')]
 
+    A CAR of version 1 is complete after each block, and nothing of it is kept in memory. One of version
+    2 has an index of its blocks. For it the file has to be seekable, the CID and the offset of each
+    block are kept, and `finish` completes the CAR. So does the end of a `with` block, unless by an
+    exception.
+
     It is for files that wait until they can write. An error of the file is passed on, and may leave a
     part of a section.
     """
 
-    def __init__(self, file: BinaryIO, roots: Iterable[Cid] = ()):
+    def __init__(self, file: BinaryIO, roots: Iterable[Cid] = (), *, version: int = 1):
+        if version not in (1, 2):
+            raise ValueError(f"a CAR has version 1 or 2, not {version!r}")
+        header = _native.car_header([bytes(root) for root in roots])
         self._file: Any = file
-        self._write(_native.car_header([bytes(root) for root in roots]))
+        self._rows: Optional[List[Tuple[bytes, int]]] = None
+        self._complete = False
+        if version == 2:
+            self._start = file.tell()
+            self._rows = []
+            self._write(bytes(_FRONT))
+        self._write(header)
+        self._payload_len = len(header)
+
+    def __enter__(self) -> "CarWriter":
+        return self
+
+    def __exit__(self, error: Optional[type], *_: object) -> None:
+        if error is None:
+            self.finish()
 
     def _write(self, data: BytesLike) -> None:
         # A file without a buffer may take only some of the bytes.
@@ -347,7 +373,26 @@ class CarWriter:
 
     def write(self, cid: Cid, block: BytesLike) -> None:
         """Writes a block with its CID. They are not compared."""
+        if self._complete:
+            raise ValueError("the CAR is complete: write to a new one")
         with memoryview(block) as view:
             size = view.nbytes
-        self._write(_native.car_section(bytes(cid), size))
+        head = _native.car_section(bytes(cid), size)
+        self._write(head)
         self._write(block)
+        if self._rows is not None:
+            self._rows.append((bytes(cid), self._payload_len))
+        self._payload_len += len(head) + size
+
+    def finish(self) -> None:
+        """Completes a CAR of version 2: writes the index at its end, and then its first bytes. The file
+        is at the end afterwards. Does nothing to a CAR of version 1, or one that is complete.
+        """
+        if self._rows is None:
+            return
+        around = _native.car_index(self._rows, self._payload_len)
+        self._write(around[_FRONT:])
+        self._file.seek(self._start)
+        self._write(around[:_FRONT])
+        self._file.seek(self._payload_len + len(around) - _FRONT, 1)
+        self._rows, self._complete = None, True

@@ -26,6 +26,17 @@ pub struct kombilad_cid {
     pub bytes: [u8; 87],
 }
 
+/// The CID of a block in the payload of a CAR, and the number of bytes of the payload before its
+/// section.
+#[repr(C)]
+#[derive(Clone, Copy, Debug, PartialEq, Eq)]
+pub struct kombilad_car_row {
+    /// The CID of the block.
+    pub cid: kombilad_cid,
+    /// The number of bytes of the payload before the section.
+    pub offset: u64,
+}
+
 /// The parts of a CID. The digest is the last `digest_len` of its bytes.
 #[repr(C)]
 #[derive(Clone, Copy, Debug, PartialEq, Eq)]
@@ -433,6 +444,8 @@ pub const KOMBILAD_NODE_TIME: u32 = 4;
 
 /// The maximum number of bytes that a section of a CAR has before its block.
 pub const KOMBILAD_CAR_SECTION: usize = 96;
+/// The number of bytes of a CAR of version 2 before its payload.
+pub const KOMBILAD_CAR_FRONT: usize = 51;
 
 /// The number of bytes of a chunk in the layout of `ipfs add`.
 pub const KOMBILAD_PACK_CHUNK: usize = 1 << 18;
@@ -641,6 +654,17 @@ extern "C" {
         bytes: *mut u8,
         bytes_len: usize,
         needed: *mut usize,
+    ) -> u32;
+    /// Writes what a CAR of version 2 has around a payload of `payload_len` bytes: the first
+    /// [`KOMBILAD_CAR_FRONT`] bytes, and an index of the blocks in `rows`.
+    pub fn kombilad_car_index(
+        rows: *const kombilad_car_row,
+        rows_len: usize,
+        payload_len: u64,
+        bytes: *mut u8,
+        bytes_len: usize,
+        needed: *mut usize,
+        place: *mut usize,
     ) -> u32;
     /// Compares the digest of a block with that of a CID.
     pub fn kombilad_verify(cid: *const u8, cid_len: usize, block: *const u8, len: usize) -> u32;

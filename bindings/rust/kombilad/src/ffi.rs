@@ -365,6 +365,27 @@ pub(crate) fn car_header(roots: &[Cid]) -> Result<Vec<u8>, Stopped> {
     })
 }
 
+/// The position of a block in the payload of a CAR.
+pub(crate) type CarRow = sys::kombilad_car_row;
+
+/// Returns the first bytes of a CAR of version 2 with a payload of this length, and after them the
+/// index of the blocks in these rows.
+pub(crate) fn car_index(rows: &[CarRow], payload_len: u64) -> Result<Vec<u8>, Stopped> {
+    // An entry takes fewer bytes than a row unless its digest is long, and the rest fits in two rows.
+    let capacity = mem::size_of_val(rows).saturating_add(2 * mem::size_of::<CarRow>());
+    filled(capacity, |bytes, capacity, needed, place| unsafe {
+        sys::kombilad_car_index(
+            rows.as_ptr(),
+            rows.len(),
+            payload_len,
+            bytes,
+            capacity,
+            needed,
+            place,
+        )
+    })
+}
+
 /// Returns what a section of a CAR has before its block. It is written to the beginning of `bytes`.
 pub(crate) fn car_section<'a>(
     cid: &Cid,

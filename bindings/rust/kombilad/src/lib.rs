@@ -56,7 +56,7 @@ pub use block::{
     Limits, Links,
 };
 pub use car::{CarReadError, CarReader, Section};
-pub use car_writer::CarWriter;
+pub use car_writer::{CarWriter, IndexedCarWriter};
 pub use cid::{Base, Cid, Version};
 #[cfg(feature = "serde")]
 pub use de::{from_slice, SERDE_LEVELS};

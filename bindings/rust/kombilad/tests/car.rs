@@ -1,9 +1,13 @@
 //! Tests of CAR files: written and read back, cut short, of version 2, from readers that return few
 //! bytes at a time, and verified.
 
-use std::io::{self, ErrorKind, Read};
+use std::collections::BTreeMap;
+use std::io::{self, Cursor, ErrorKind, Read, Write};
 
-use kombilad::{CarError, CarReadError, CarReader, CarWriter, Cid, CidError, Error, DAG_CBOR, RAW};
+use kombilad::{
+    CarError, CarReadError, CarReader, CarWriter, Cid, CidError, Error, IndexedCarWriter, DAG_CBOR,
+    RAW,
+};
 
 type Blocks = Vec<(Cid, Vec<u8>)>;
 
@@ -95,6 +99,85 @@ fn errors_of_the_writer_come_through() {
     assert_eq!(CarWriter::new(&mut room[..58], &[cid]).unwrap_err().kind(), ErrorKind::WriteZero);
     let mut car = CarWriter::new(&mut room[..], &[cid]).unwrap();
     assert_eq!(car.write(&cid, b"\xa0").unwrap_err().kind(), ErrorKind::WriteZero);
+}
+
+/// Returns the index of sections in the format MultihashIndexSorted. The digests of a hash function
+/// all have the same length.
+fn index_of(sections: &[(Cid, u64)]) -> Vec<u8> {
+    let mut groups = BTreeMap::<u64, Vec<(&[u8], u64)>>::new();
+    for (cid, offset) in sections.iter().filter(|(cid, _)| !cid.digest().is_empty()) {
+        groups.entry(cid.hash_code()).or_default().push((cid.digest(), *offset));
+    }
+    let mut index = [&b"\x81\x08"[..], &(groups.len() as u32).to_le_bytes()].concat();
+    for (code, mut rows) in groups {
+        rows.sort_unstable();
+        let width = rows[0].0.len() + 8;
+        index.extend(code.to_le_bytes());
+        index.extend(1u32.to_le_bytes());
+        index.extend((width as u32).to_le_bytes());
+        index.extend(((width * rows.len()) as u64).to_le_bytes());
+        for (digest, offset) in rows {
+            index.extend(digest);
+            index.extend(offset.to_le_bytes());
+        }
+    }
+    index
+}
+
+#[test]
+fn version_2_is_written_with_an_index() {
+    let empty = Cid::try_from(&b"\x01\x55\0\0"[..]).unwrap();
+    for (count, is_full) in [(0, true), (5, true), (6, true), (7, false)] {
+        let blocks: Blocks =
+            blocks().into_iter().chain([(empty, Vec::new())]).take(count).collect();
+        let roots: Vec<Cid> = blocks.iter().map(|(cid, _)| *cid).take(2).collect();
+        let payload = written(&roots, &blocks);
+        let sections: Vec<_> = (0..blocks.len())
+            .map(|at| (blocks[at].0, written(&roots, &blocks[..at]).len() as u64))
+            .collect();
+        let mut file = Cursor::new(Vec::new());
+        file.write_all(b"before").unwrap();
+        let mut car = IndexedCarWriter::new(file, &roots).unwrap();
+        blocks.iter().for_each(|(cid, block)| car.write(cid, block).unwrap());
+        let mut file = car.finish().unwrap();
+        file.write_all(b"behind").unwrap();
+        let mut expected = version_2(&payload, 0, payload.len(), &index_of(&sections));
+        expected[11] = if is_full { 0x80 } else { 0 };
+        assert_eq!(file.into_inner(), [&b"before"[..], &expected, b"behind"].concat());
+        assert_eq!(read(&expected[..]).unwrap(), (2, roots, blocks));
+    }
+}
+
+#[test]
+fn a_file_of_version_2_is_no_car_before_its_end() {
+    let cid = Cid::of_block(RAW, b"a");
+    let mut file = Cursor::new(Vec::new());
+    let mut car = IndexedCarWriter::new(&mut file, &[cid]).unwrap();
+    car.write(&cid, b"a").unwrap();
+    drop(car);
+    assert_eq!(file.get_ref()[..51], [0; 51]);
+    // 51 bytes, the header of 59, the section of 38, and the index of 66.
+    let sizes = [0, 50, 109, 130, 147, 200];
+    for size in sizes {
+        let mut room = vec![0; size];
+        let mut file = Cursor::new(&mut room[..]);
+        let made = IndexedCarWriter::new(&mut file, &[cid])
+            .and_then(|mut car| car.write(&cid, b"a").map(|()| car))
+            .and_then(|car| car.finish().map(drop));
+        assert_eq!(made.unwrap_err().kind(), ErrorKind::WriteZero, "{size}");
+    }
+    let mut many = IndexedCarWriter::new(Cursor::new(Vec::new()), &[]).unwrap();
+    let cids: Vec<Cid> = (0..70_000u32)
+        .map(|number| {
+            Cid::try_from([b"\x01\x55\0\x04", &number.to_le_bytes()[..]].concat()).unwrap()
+        })
+        .collect();
+    cids.iter().for_each(|cid| many.write(cid, b"a").unwrap());
+    let car = many.finish().unwrap().into_inner();
+    // The header has 18 bytes, and a section 10.
+    let sections: Vec<_> =
+        (0..).step_by(10).map(|at| 18 + at).zip(&cids).map(|(at, cid)| (*cid, at)).collect();
+    assert_eq!(car[51 + 18 + 10 * 70_000..], index_of(&sections));
 }
 
 #[test]

@@ -2,15 +2,15 @@
 //! `ipfs add` gives. The others were computed apart from this crate, by the writer of UnixFS in
 //! tests/ipld.
 
-use unixfs_build::{
-    Attributes, BuildError, FileBlock, FileBuilder, Layout, NewEntry, NodeBlock, SHARDED_ABOVE,
-    build_folder, build_symlink,
-};
 use ipld_cid::Version;
 use ipld_cid_text::usual_text;
 use std::alloc::{AllocError, Global};
 use std::test::Fail;
 use unixfs::UnixTime;
+use unixfs_build::{
+    Attributes, BuildError, FileBlock, FileBuilder, Layout, NewEntry, NodeBlock, SHARDED_ABOVE,
+    build_folder, build_symlink,
+};
 use unixfs_folders::FolderWalk;
 
 // A file: its content, how many bytes a chunk has, and the root.

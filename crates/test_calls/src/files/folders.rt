@@ -1,12 +1,12 @@
 //! A sharded folder that `ipfs` made, a plain one, and blocks that are not folders. The CIDs were
 //! computed apart from this crate.
 
-use unixfs_folders::{Folder, FolderErrorKind, FolderWalk, Lookup, LookupStep, read_folder};
 use dag_pb::{PbLink, PbNode, encode_node};
 use ipld_cid::Cid;
 use std::alloc::{AllocError, Global};
 use std::test::Fail;
 use unixfs::DataType;
+use unixfs_folders::{Folder, FolderErrorKind, FolderWalk, Lookup, LookupStep, read_folder};
 
 // The root of a sharded folder of sixteen empty files `long-named-file-NNN`, by the tests of
 // go-ipfs.

@@ -1,9 +1,9 @@
 //! Messages in blocks that `ipfs` made. Each is compared with the CID of its block, which was
 //! computed apart from this crate.
 
-use unixfs::{Data, DataType, UnixFsErrorKind, UnixTime, encode_data, read_data};
 use std::alloc::Global;
 use std::test::Fail;
+use unixfs::{Data, DataType, UnixFsErrorKind, UnixTime, encode_data, read_data};
 
 // Returns a message of this type, without fields.
 fn empty(alloc: Global, data_type: DataType) -> Data<'static> {

@@ -1,10 +1,12 @@
 //! A file that `ipfs` made of `foobar` and a line feed in chunks of two bytes. The CID of its root
 //! was computed apart from this crate.
 
-use unixfs_files::{BlockStore, FileErrorKind, FileLimits, FileRange, FileWalk, PartError, write_file};
 use ipld_cid::Cid;
 use std::alloc::{AllocError, Global};
 use std::test::Fail;
+use unixfs_files::{
+    BlockStore, FileErrorKind, FileLimits, FileRange, FileWalk, PartError, write_file,
+};
 
 // QmRJHYTNvC3hmd9gJQARxLR1QMEincccBV53bBw524yyq6
 const ROOT_CID: &[u8] =
