@@ -145,7 +145,7 @@ module() {
 failing="test/failing.c -Wl,--wrap=malloc,--wrap=realloc"
 sanitizers="-g -O1 -fsanitize=address,undefined -fno-sanitize-recover=all"
 renamed=
-for name in kombilad_tape kombilad_block_check kombilad_block_check_canonical kombilad_verify kombilad_file_take kombilad_folder_take \
+for name in kombilad_tape kombilad_block_at kombilad_block_check kombilad_block_check_canonical kombilad_verify kombilad_file_take kombilad_folder_take \
     kombilad_folder_lookup kombilad_unixfs_node kombilad_pack_chunk kombilad_pack_last_chunk kombilad_pack_folder; do renamed="$renamed --redefine-sym $name=real_$name"; done
 # shellcheck disable=SC2086
 objcopy $renamed "$library" "$tests/renamed.o"

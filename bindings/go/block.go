@@ -1,5 +1,7 @@
 package kombilad
 
+import "strings"
+
 // Options are limits for untrusted blocks, and options for Go types. The zero value has the defaults.
 // The functions of the package use it.
 type Options struct {
@@ -85,6 +87,43 @@ func (o Options) Canonicalize(block []byte) ([]byte, error) {
 		return nil, failed(made)
 	}
 	return out, nil
+}
+
+// Get returns the bytes of the value at a path in a block of DAG-CBOR, and the rest of the path. The
+// bytes are a block of their own, for Decode or Unmarshal, and a part of the given one.
+//
+// The path is such as a/b/0: in a map a segment is a key, and in a list an index. Empty segments are
+// skipped, and the empty path leads to the whole block. If the path continues after a link, the
+// value is the link, and the rest leads on from its block. Otherwise the rest is empty.
+//
+// It fails with ErrPathMissing or ErrPathNotAContainer if the path leads to nothing, with ErrTextUTF8
+// if it is not UTF-8, and with the errors of Check, which come first.
+func Get(block []byte, path string) (value []byte, rest string, err error) {
+	return Options{}.Get(block, path)
+}
+
+// Get is like the function Get, within these limits.
+func (o Options) Get(block []byte, path string) (value []byte, rest string, err error) {
+	value, rest, made := callAt(block, o.limits(), path)
+	switch made.status {
+	case 0:
+		return value, rest, nil
+	case ErrPathMissing, ErrPathNotAContainer:
+		return nil, "", failedAt(path, made)
+	case ErrTextUTF8:
+		return nil, "", failedWith(made.status)
+	}
+	return nil, "", failed(made)
+}
+
+// failedAt returns the error of a path that leads to nothing at a segment, with the segments up to it.
+func failedAt(path string, made outcome) error {
+	failure := failedWith(made.status)
+	segments := strings.FieldsFunc(path, func(letter rune) bool { return letter == '/' })
+	for at := int(made.offset) - 1; at >= 0; at-- {
+		failure = failure.within(keyPart(segments[at]))
+	}
+	return failure.asError()
 }
 
 // ToJSON returns the DAG-JSON of a block of DAG-CBOR: UTF-8 without blanks, with the keys of each

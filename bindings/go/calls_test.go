@@ -148,6 +148,48 @@ func TestJSON(t *testing.T) {
 	sameError(t, "levels of a block", err, ErrTooDeep, 1)
 }
 
+func TestGet(t *testing.T) {
+	text := `{"a":[1,{"b":"cd","é":[{"/":"bafkqaaa"}]}],"l":{"/":"bafkqaaa"},"0":{"1":null}}`
+	block, err := FromJSON([]byte(text))
+	same(t, "block", err, nil)
+	for path, row := range map[string]struct{ value, rest string }{
+		"": {text, ""}, "//": {text, ""}, "a/+0": {"1", ""}, "/a//1/b/": {`"cd"`, ""},
+		"a/01/é": {`[{"/":"bafkqaaa"}]`, ""}, "0/1": {"null", ""}, "l/": {`{"/":"bafkqaaa"}`, ""},
+		"l//x/é/": {`{"/":"bafkqaaa"}`, "x/é/"}, "a/1/é/0/é": {`{"/":"bafkqaaa"}`, "é"},
+	} {
+		expected, err := FromJSON([]byte(row.value))
+		same(t, path, err, nil)
+		value, rest, err := Get(block, path)
+		same(t, path, []any{value, rest, err}, []any{expected, row.rest, nil})
+		same(t, path, cap(value), len(value))
+	}
+	for path, row := range map[string]struct {
+		status Status
+		path   string
+	}{
+		"b": {ErrPathMissing, "b"}, ".": {ErrPathMissing, `["."]`}, "a/2/x": {ErrPathMissing, `a["2"]`},
+		"//a//-1": {ErrPathMissing, `a["-1"]`}, "a/18446744073709551616": {ErrPathMissing, `a["18446744073709551616"]`},
+		"a/0/0": {ErrPathNotAContainer, `a["0"]["0"]`}, "0/1/x/y": {ErrPathNotAContainer, `["0"]["1"].x`},
+	} {
+		value, rest, err := Get(block, path)
+		sameError(t, path, err, row.status, -1)
+		var failure *Error
+		errors.As(err, &failure)
+		same(t, path, []any{failure.Path, value, rest}, []any{row.path, []byte(nil), ""})
+	}
+	_, _, err = Get(block, "a/2")
+	same(t, "sentence", err.Error(), `kombilad: a["2"]: the path leads to no key or index`)
+	_, _, err = Get(block, "a/\xff")
+	sameError(t, "no text", err, ErrTextUTF8, -1)
+	for length := range block {
+		_, _, err := Get(block[:length], "b")
+		same(t, "a cut block", err, Check(block[:length]))
+	}
+	flat := Options{MaxLevels: 3}
+	_, _, err = flat.Get(block, "b")
+	same(t, "levels", err, flat.Check(block))
+}
+
 // The CIDs are examples of the CID specification and of IPFS's documentation.
 func TestCids(t *testing.T) {
 	raw := cidOfText(t, "zb2rhe5P4gXftAwvA4eXQ5HJwsER2owDyS9sKaQRRVQPn93bA")

@@ -47,6 +47,7 @@ type randomCase struct {
 	Links          []string
 	Positions      [][2]int
 	Canonical      string
+	Paths          []pathRow
 
 	Parts               []string
 	Base, Text, Changed string
@@ -71,6 +72,12 @@ type randomCase struct {
 	Chunk, Width int
 	Above        int64
 	Pack         packRow
+}
+
+// pathRow is a path, and the range of its value and its rest, or the name of a status.
+type pathRow struct {
+	Path, Error, Rest string
+	Span              [2]int
 }
 
 // TestRandomCases compares the results with those of a reader that shares no code with the library.
@@ -222,6 +229,8 @@ func checkBlockCase(t *testing.T, it randomCase, block []byte, status Status) {
 	}
 	value, err := options.Decode(block)
 	sameError(t, "Decode", err, status, it.Offset)
+	_, _, err = options.Get(block, "")
+	sameError(t, "Get", err, status, it.Offset)
 	var typed any
 	sameError(t, "Unmarshal", options.Unmarshal(block, &typed), status, it.Offset)
 	if status != 0 {
@@ -244,6 +253,12 @@ func checkBlockCase(t *testing.T, it randomCase, block []byte, status Status) {
 	same(t, "CountLinks", count, len(it.Links))
 	for at, position := range positions {
 		same(t, "LinkPositions", [2]int{position.Offset, position.Len}, it.Positions[at])
+	}
+	byName := statuses(t)
+	for _, row := range it.Paths {
+		part, rest, err := options.Get(block, row.Path)
+		sameError(t, "Get "+row.Path, err, byName[row.Error], -1)
+		same(t, "Get "+row.Path, [2]string{string(part), rest}, [2]string{string(block[row.Span[0]:row.Span[1]]), row.Rest})
 	}
 	same(t, "Decode", valueText(value), it.Value)
 	same(t, "Unmarshal", valueText(typed), it.Value)

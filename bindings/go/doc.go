@@ -2,7 +2,7 @@
 // and folders of UnixFS, and reads blocks of DAG-PB. A proved C library decodes and encodes them.
 //
 // [Decode] and [Encode] are for values of any shape, [Unmarshal] and [Marshal] for Go types.
-// [Links] finds the links of a block without decoding it. [OpenCar] reads a CAR one block at a time,
+// [Get] finds the value at a path in a block, and [Links] its links, without decoding it. [OpenCar] reads a CAR one block at a time,
 // and [NewCarWriter] writes one. [ToJSON] converts a block to DAG-JSON, and [FromJSON] converts
 // DAG-JSON to a block.
 //

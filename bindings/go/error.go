@@ -23,7 +23,8 @@ type Error struct {
 	// Path leads from the whole value to the part that can't be decoded or encoded, for example
 	// posts[3].author. It is empty for the whole value, and for a block that isn't valid. A path of
 	// many parts has [...] in its middle. For a link of a folder's block it is such as Links[3]. For
-	// an entry that can't be packed it is the name, quoted if it isn't a simple one.
+	// an entry that can't be packed it is the name, quoted if it isn't a simple one. For Get it has
+	// the segments up to the one that leads to nothing.
 	Path string
 	// Type is the Go type that doesn't fit the value, or nil.
 	Type reflect.Type

@@ -55,6 +55,7 @@ func TestEachAllocationMayFail(t *testing.T) {
 		"Canonicalize":   func() error { _, err := Canonicalize(block); return err },
 		"ToJSON":         func() error { _, err := ToJSON(block); return err },
 		"FromJSON":       func() error { _, err := FromJSON(text); return err },
+		"Get":            func() error { _, _, err := Get(block, "1/0/0"); return err },
 		"Links":          func() error { _, err := Links(block); return err },
 		"CountLinks":     func() error { _, err := CountLinks(block); return err },
 		"Decode":         func() error { _, err := Decode(block); return err },

@@ -38,7 +38,15 @@ typedef struct {
 	kombilad_span block;
 } car_outcome;
 
+typedef struct {
+	uint32_t status;
+	kombilad_span value;
+	size_t rest;
+	size_t place;
+} at_outcome;
+
 #define BLOCK const uint8_t *block, size_t len, size_t levels, size_t values
+#define STRING(text) (const uint8_t *)_GoStringPtr(text), _GoStringLen(text)
 
 static outcome check(BLOCK) {
 	outcome made = {0};
@@ -80,6 +88,13 @@ static outcome from_json(const uint8_t *text, size_t len, size_t levels, size_t 
 	return made;
 }
 
+static at_outcome at(BLOCK, _GoString_ path) {
+	at_outcome made = {0};
+	made.status = kombilad_block_at(block, len, levels, values, STRING(path), &made.value,
+	                                &made.rest, &made.place);
+	return made;
+}
+
 static outcome positions(BLOCK, kombilad_span *spans, size_t spans_len) {
 	outcome made = {0};
 	made.status = kombilad_link_positions(block, len, levels, values, spans, spans_len,
@@ -108,8 +123,6 @@ static outcome encode(const kombilad_entry *entries, size_t entries_len, const u
 	                              &made.needed, &made.offset);
 	return made;
 }
-
-#define STRING(text) (const uint8_t *)_GoStringPtr(text), _GoStringLen(text)
 
 static parts_outcome cid_parts(_GoString_ cid) {
 	parts_outcome made = {0};
@@ -453,6 +466,18 @@ func callFromJSON(text []byte, within limits, out []byte) outcome {
 	bytes, length := bytesOf(text)
 	to, room := bytesOf(out)
 	return outcomeOf(C.from_json(bytes, length, within.levels, within.values, to, room))
+}
+
+// callAt returns the value at a path, the rest of the path, and the status with its place.
+func callAt(block []byte, within limits, path string) ([]byte, string, outcome) {
+	bytes, length := bytesOf(block)
+	made := C.at(bytes, length, within.levels, within.values, path)
+	stopped := outcome{Status(made.status), 0, int64(made.place)}
+	if stopped.status != 0 {
+		return nil, "", stopped
+	}
+	value := block[made.value.offset:][:made.value.len:made.value.len]
+	return value, path[made.rest:], stopped
 }
 
 func callPositions(block []byte, within limits, spans []span) outcome {

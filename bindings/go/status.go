@@ -54,6 +54,12 @@ const (
 	ErrBlockTrailingBytes Status = C.KOMBILAD_BLOCK_TRAILING_BYTES // bytes follow the value
 )
 
+// A path leads to nothing in a block.
+const (
+	ErrPathMissing       Status = C.KOMBILAD_PATH_MISSING         // no such key or index
+	ErrPathNotAContainer Status = C.KOMBILAD_PATH_NOT_A_CONTAINER // it goes on after another value
+)
+
 // The bytes of a link in a block are not a CID.
 const (
 	ErrLinkEnd              Status = C.KOMBILAD_LINK_END                // as ErrCidEnd

@@ -68,8 +68,10 @@ def works():
     for block in BLOCKS:
         for cids in (Cid, str, bytes):
             yield lambda: kombilad.decode_dag_cbor(block, cids=cids)
+            yield lambda: kombilad.get(block, "", cids=cids)
         yield lambda: kombilad.decode_dag_cbor_multi(block * 3)
         yield lambda: kombilad.encode_dag_cbor(kombilad.decode_dag_cbor(block))
+    yield lambda: kombilad.get(LINKS, "0/b/x")
     yield lambda: kombilad.decode_car(CAR)
     for node in NODES:
         yield lambda: kombilad.decode_dag_pb(node)

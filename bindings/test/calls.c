@@ -770,6 +770,158 @@ static void check_json(void) {
     free(text.at);
 }
 
+/* Paths in {"a": [1, {"b": "cd", "é": [LINK]}], "l": LINK, "0": {"1": null}}, in another order. */
+#define PATHS               \
+    "a3"                    \
+    "616c" LEAF_LINK "6161" \
+    "82"                    \
+    "01"                    \
+    "a2"                    \
+    "6162"                  \
+    "626364"                \
+    "62c3a9"                \
+    "81" LEAF_LINK "6130"   \
+    "a1"                    \
+    "6131"                  \
+    "f6"
+#define LEAF_LINK "d82a450001550000"
+
+static const struct {
+    const char *path;
+    uint32_t status;
+    size_t offset, len; /* of the value */
+    size_t rest, place;
+} found_at[] = {
+    {"", KOMBILAD_OK, 0, 39, 0, NONE},
+    {"/", KOMBILAD_OK, 0, 39, 1, NONE},
+    {"//", KOMBILAD_OK, 0, 39, 2, NONE},
+    {"a", KOMBILAD_OK, 13, 20, 1, NONE},
+    {"/a", KOMBILAD_OK, 13, 20, 2, NONE},
+    {"a/0", KOMBILAD_OK, 14, 1, 3, NONE},
+    {"a/+0", KOMBILAD_OK, 14, 1, 4, NONE},
+    {"a/00000000000000000000001", KOMBILAD_OK, 15, 18, 25, NONE},
+    {"a/1/b", KOMBILAD_OK, 18, 3, 5, NONE},
+    {"//a///1//b//", KOMBILAD_OK, 18, 3, 12, NONE},
+    {"a/1/\xc3\xa9", KOMBILAD_OK, 24, 9, 6, NONE},
+    {"0", KOMBILAD_OK, 35, 4, 1, NONE},
+    {"0/1", KOMBILAD_OK, 38, 1, 3, NONE},
+    /* a link, and paths that continue after it */
+    {"l", KOMBILAD_OK, 3, 8, 1, NONE},
+    {"l/", KOMBILAD_OK, 3, 8, 2, NONE},
+    {"l/x", KOMBILAD_OK, 3, 8, 2, NONE},
+    {"/l//x/y/", KOMBILAD_OK, 3, 8, 4, NONE},
+    {"a/1/\xc3\xa9/0/\xc3\xa9/z", KOMBILAD_OK, 25, 8, 9, NONE},
+    /* no key and no index */
+    {"b", KOMBILAD_PATH_MISSING, 0, 0, 0, 1},
+    {"A", KOMBILAD_PATH_MISSING, 0, 0, 0, 1},
+    {"aa/1", KOMBILAD_PATH_MISSING, 0, 0, 0, 1},
+    {"//0/0", KOMBILAD_PATH_MISSING, 0, 0, 0, 2},
+    {"a/2", KOMBILAD_PATH_MISSING, 0, 0, 0, 2},
+    {"a/-1", KOMBILAD_PATH_MISSING, 0, 0, 0, 2},
+    {"a/0x1", KOMBILAD_PATH_MISSING, 0, 0, 0, 2},
+    {"a/ 1", KOMBILAD_PATH_MISSING, 0, 0, 0, 2},
+    {"a/++1", KOMBILAD_PATH_MISSING, 0, 0, 0, 2},
+    {"a/18446744073709551615", KOMBILAD_PATH_MISSING, 0, 0, 0, 2},
+    {"a/18446744073709551616", KOMBILAD_PATH_MISSING, 0, 0, 0, 2},
+    {"a/18446744073709551617/b", KOMBILAD_PATH_MISSING, 0, 0, 0, 2},
+    {"a//1/c/d", KOMBILAD_PATH_MISSING, 0, 0, 0, 3},
+    {"a/1/e\xcc\x81", KOMBILAD_PATH_MISSING, 0, 0, 0, 3},
+    /* neither a list nor a map nor a link */
+    {"a/0/0", KOMBILAD_PATH_NOT_A_CONTAINER, 0, 0, 0, 3},
+    {"a/1/b/0", KOMBILAD_PATH_NOT_A_CONTAINER, 0, 0, 0, 4},
+    {"0/1/x/y", KOMBILAD_PATH_NOT_A_CONTAINER, 0, 0, 0, 3},
+    {"\xff", KOMBILAD_TEXT_UTF8, 0, 0, 0, NONE},
+    {"a/1/\xc3", KOMBILAD_TEXT_UTF8, 0, 0, 0, NONE},
+    {"l/\xed\xa0\x80", KOMBILAD_TEXT_UTF8, 0, 0, 0, NONE},
+};
+
+/* Checks that the call leaves what it doesn't write. */
+static void check_at(const char *what, bytes block, size_t levels, size_t values, bytes path,
+                     uint32_t status, kombilad_span value, size_t rest, size_t place) {
+    kombilad_span given = {NONE, NONE};
+    size_t after = NONE, at = NONE;
+    uint32_t returned = kombilad_block_at(block.at, block.len, levels, values, path.at, path.len,
+                                          &given, &after, &at);
+    bool found = status == KOMBILAD_OK;
+    if (returned != status || given.offset != (found ? value.offset : NONE) ||
+        given.len != (found ? value.len : NONE) || after != (found ? rest : NONE) || at != place) {
+        printf("%s: %u %zu %zu %zu %zu\n", what, (unsigned)returned, (size_t)given.offset,
+               (size_t)given.len, after, at);
+        CHECK(false);
+    }
+}
+
+static void check_paths(void) {
+    bytes block = from_hex(PATHS), none = {NULL, 0};
+    for (size_t at = 0; at < COUNT(found_at); at++) {
+        bytes path = from_text(found_at[at].path);
+        kombilad_span value = {found_at[at].offset, found_at[at].len};
+        check_at(found_at[at].path, block, 4, 10, path, found_at[at].status, value,
+                 found_at[at].rest, found_at[at].place);
+        free(path.at);
+    }
+    kombilad_span all = {0, block.len};
+    check_at("no path", block, 4, 10, none, KOMBILAD_OK, all, 0, NONE);
+    check_at("no block", none, 4, 10, none, KOMBILAD_BLOCK_END, all, 0, 0);
+    bytes zero = {(uint8_t *)"a\0b", 3};
+    check_at("a zero byte", block, 4, 10, zero, KOMBILAD_PATH_MISSING, all, 0, 1);
+
+    /* The block is checked to its end, before the path is read. */
+    bytes bad = {(uint8_t *)"\xff", 1}, first = {(uint8_t *)"a", 1};
+    for (size_t len = 0; len < block.len; len++) {
+        bytes cut = {block.at, len};
+        kombilad_span value = {NONE, NONE};
+        size_t rest = NONE, place = NONE, offset = NONE;
+        uint32_t status = kombilad_block_check(cut.at, cut.len, 4, 10, &offset);
+        CHECK(kombilad_block_at(cut.at, cut.len, 4, 10, first.at, 1, &value, &rest, &place) ==
+              status);
+        CHECK(place == offset && value.len == NONE && rest == NONE);
+        check_at("a cut block", cut, 4, 10, bad, status, value, 0, offset);
+    }
+    check_at("levels", block, 3, 10, first, KOMBILAD_TOO_DEEP, all, 0, 24);
+    check_at("values", block, 4, 9, first, KOMBILAD_TOO_MANY, all, 0, 38);
+    bytes more = from_hex("a161618000"), tag = from_hex("a1616181d82a4100");
+    check_at("more bytes", more, 4, 10, first, KOMBILAD_BLOCK_TRAILING_BYTES, all, 0, 4);
+    check_at("a link", tag, 4, 10, first, KOMBILAD_LINK_END, all, 0, 6);
+
+    /* Equal values have their own places. */
+    bytes equal = from_hex("84018100810001");
+    for (size_t at = 0; at < 4; at++) {
+        static const size_t places[] = {1, 2, 4, 6}, lens[] = {1, 2, 2, 1};
+        char digit = (char)('0' + at);
+        bytes path = {(uint8_t *)&digit, 1};
+        kombilad_span value = {places[at], lens[at]};
+        check_at("equal values", equal, 4, 10, path, KOMBILAD_OK, value, 1, NONE);
+    }
+
+    /* A key of 70,000 bytes, and 70,000 values before it. */
+    enum { LONG = 70000, HEAD = 5 };
+    bytes large = {malloc(HEAD + LONG + 2 * HEAD + 2 * LONG), 0}, path = {malloc(LONG + 8), LONG};
+    memset(path.at, 'k', LONG);
+    uint8_t *to = large.at;
+    *to++ = 0x82;
+    *to++ = 0x9a, *to++ = 0, *to++ = 1, *to++ = 0x11, *to++ = 0x70;
+    for (size_t at = 0; at < LONG; at++) *to++ = (uint8_t)(at % 24);
+    *to++ = 0xa1;
+    *to++ = 0x7a, *to++ = 0, *to++ = 1, *to++ = 0x11, *to++ = 0x70;
+    memcpy(to, path.at, LONG), to += LONG;
+    *to++ = 0x81, *to++ = 0x17;
+    large.len = (size_t)(to - large.at);
+    memcpy(path.at + LONG, "/0", 2), path.len = LONG + 2;
+    kombilad_span value = {large.len - 1, 1};
+    bytes whole = {malloc(path.len + 2), path.len + 2};
+    memcpy(whole.at, "1/", 2), memcpy(whole.at + 2, path.at, path.len);
+    check_at("a long key", large, 4, SIZE_MAX, whole, KOMBILAD_OK, value, whole.len, NONE);
+    whole.at[100] = 'l';
+    check_at("another long key", large, 4, SIZE_MAX, whole, KOMBILAD_PATH_MISSING, value, 0, 2);
+    bytes last = from_text("0/69999"), over = from_text("0/70000");
+    kombilad_span item = {HEAD + LONG, 1};
+    check_at("the last item", large, 4, SIZE_MAX, last, KOMBILAD_OK, item, 7, NONE);
+    check_at("no item", large, 4, SIZE_MAX, over, KOMBILAD_PATH_MISSING, item, 0, 2);
+    free(last.at), free(over.at), free(whole.at), free(path.at), free(large.at);
+    free(equal.at), free(more.at), free(tag.at), free(block.at);
+}
+
 static void check_limits(void) {
     uint8_t out[8];
     const uint8_t nested[] = {0x82, 0x81, 0x80, 0x80}, cut[] = {0x82, 0x81, 0x81};
@@ -792,7 +944,8 @@ static void check_limits(void) {
         size_t len = limits[at].is_cut ? 3 : 4, levels = limits[at].levels,
                values = limits[at].values, needed = NONE;
         uint32_t status = limits[at].status;
-        size_t offsets[8] = {NONE, NONE, NONE, NONE, NONE, NONE, NONE, NONE};
+        size_t offsets[9] = {NONE, NONE, NONE, NONE, NONE, NONE, NONE, NONE, NONE};
+        kombilad_span span;
         CHECK(kombilad_block_check(block, len, levels, values, &offsets[0]) == status);
         CHECK(kombilad_block_check_canonical(block, len, levels, values, &offsets[1]) == status);
         CHECK(kombilad_block_canonicalize(block, len, levels, values, out, sizeof out, &needed,
@@ -805,6 +958,8 @@ static void check_limits(void) {
               (status ? status : KOMBILAD_TOO_SHORT));
         CHECK(kombilad_block_to_json(block, len, levels, values, NULL, 0, &needed, &offsets[7]) ==
               (status ? status : KOMBILAD_TOO_SHORT));
+        CHECK(kombilad_block_at(block, len, levels, values, NULL, 0, &span, &needed, &offsets[8]) ==
+              status);
         for (size_t call = 0; call < COUNT(offsets); call++)
             CHECK(offsets[call] == limits[at].offset);
     }
@@ -876,6 +1031,16 @@ static uint32_t call_to_json(bytes block, void *out, size_t len, size_t *needed)
     uint32_t status = kombilad_block_to_json(block.at, block.len, 100, 100, out, len, needed,
                                              &offset);
     CHECK(offset <= block.len);
+    return status;
+}
+
+static uint32_t call_at(bytes block, void *out, size_t len, size_t *needed) {
+    kombilad_span span;
+    size_t place = 0;
+    (void)out, (void)len;
+    uint32_t status = kombilad_block_at(block.at, block.len, 100, 100, (const uint8_t *)"aa/0/x/y",
+                                        8, &span, needed, &place);
+    CHECK(place <= block.len);
     return status;
 }
 
@@ -1912,6 +2077,7 @@ static void check_refused(void) {
     CHECK(refuse_each(call_encode, block, 500) > 0);
     CHECK(refuse_each(call_canonicalize, block, 500) > 0);
     CHECK(refuse_each(call_to_json, block, 500) > 0);
+    CHECK(refuse_each(call_at, block, 1) > 0);
     bytes json = from_text(
         "{\"b\":[{\"/\":\"bafkqaaa\"},1.5,-7],\"aa\":{\"/\":{\"bytes\":\"aGk\"}},"
         "\"\\u0061\":{\"c\":\"d\",\"\":[[]]}}");
@@ -2305,6 +2471,7 @@ int main(int count, char **words) {
     check_cid_of_block();
     check_blocks();
     check_json();
+    check_paths();
     check_each_kind();
     check_no_tapes();
     check_nodes();

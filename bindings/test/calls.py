@@ -57,6 +57,7 @@ class Bytes(unittest.TestCase):
                 kombilad.canonicalize,
                 kombilad.is_canonical,
                 kombilad.to_json,
+                lambda block: kombilad.get(block, ""),
                 Cid.of_block,
             ):
                 self.assertRaises((TypeError, BufferError), call, wrong)
@@ -193,6 +194,7 @@ class Blocks(unittest.TestCase):
             kombilad.canonicalize,
             kombilad.is_canonical,
             kombilad.to_json,
+            lambda block, **limits: kombilad.get(block, "0/0", **limits),
         ):
             call(deep, levels=6, values=6)
             call(deep, levels=1 << 70, values=1 << 70)
@@ -272,8 +274,61 @@ class Blocks(unittest.TestCase):
         for wrong in (7, None, [0x80], memoryview(BLOCK)[::2]):
             self.assertRaises((TypeError, BufferError), kombilad.from_json, wrong)
 
+    def test_paths(self):
+        value = {"a": [1, {"b": "cd", "é": [SHORT]}], "l": SHORT, "0": {"1": None}}
+        block = kombilad.encode_dag_cbor(value)
+        for path, found, rest in (
+            ("", value, ""),
+            ("//", value, ""),
+            ("a", value["a"], ""),
+            ("a/+0", 1, ""),
+            ("/a//1/b/", "cd", ""),
+            ("a/01/é", [SHORT], ""),
+            ("0/1", None, ""),
+            ("l/", SHORT, ""),
+            ("l//x/é/", SHORT, "x/é/"),
+            ("a/1/é/0/é", SHORT, "é"),
+        ):
+            for given in (block, bytearray(block), memoryview(b"_" + block)[1:]):
+                self.assertEqual(kombilad.get(given, path), (found, rest))
+        self.assertEqual(kombilad.get(block, "l/x", cids=bytes), (bytes(SHORT), "x"))
+        self.assertEqual(kombilad.get(block, "a/1/é", cids=str), (["bafkqaaa"], ""))
+        for path, name, segment in (
+            ("b", "PATH_MISSING", 1),
+            ("a/2/x", "PATH_MISSING", 2),
+            ("a//-1", "PATH_MISSING", 2),
+            ("a/18446744073709551616", "PATH_MISSING", 2),
+            ("a/1/e\u0301", "PATH_MISSING", 3),
+            ("a/0/0", "PATH_NOT_A_CONTAINER", 3),
+            ("0/1/x/y", "PATH_NOT_A_CONTAINER", 3),
+        ):
+            with self.assertRaises(kombilad.PathError) as raised:
+                kombilad.get(block, path)
+            error = raised.exception
+            self.assertEqual((error.name, error.place, error.offset), (name, segment, None))
+            self.assertIsInstance(error, LookupError)
+            self.assertEqual(str(pickle.loads(pickle.dumps(error))), str(error))
+        with self.assertRaises(kombilad.TextError) as raised:
+            kombilad.get(block, "a/\ud800")
+        self.assertEqual(raised.exception.name, "TEXT_UTF8")
+        self.assertEqual(kombilad.get(block, "l/\0")[1], "\0")
+        for wrong in (b"a", 7, None, ["a"]):
+            self.assertRaises((TypeError, AttributeError), kombilad.get, block, wrong)
+        # The whole block is checked before the path, within the same limits.
+        for end in range(len(block)):
+            with self.assertRaises(kombilad.BlockError) as expected:
+                kombilad.check(block[:end])
+            with self.assertRaises(kombilad.BlockError) as raised:
+                kombilad.get(block[:end], "b")
+            self.assertEqual(str(raised.exception), str(expected.exception))
+        long = {"k" * 70_000: ["v" * 70_000], "l": 1}
+        self.assertEqual(
+            kombilad.get(kombilad.encode_dag_cbor(long), "k" * 70_000 + "/0"), ("v" * 70_000, "")
+        )
+
     def test_nothing_is_no_block(self):
         for call in (
+            lambda block: kombilad.get(block, "a"),
             kombilad.check,
             kombilad.links,
             kombilad.count_links,

@@ -57,6 +57,10 @@ WATCHED(kombilad_tape,
         (const uint8_t *block, size_t len, size_t levels, size_t values, kombilad_entry *entries,
          size_t entries_len, size_t *needed, size_t *offset),
         (block, len, levels, values, entries, entries_len, needed, offset))
+WATCHED(kombilad_block_at,
+        (const uint8_t *block, size_t len, size_t levels, size_t values, const uint8_t *path,
+         size_t path_len, kombilad_span *value, size_t *rest, size_t *place),
+        (block, len, levels, values, path, path_len, value, rest, place))
 WATCHED(kombilad_block_check,
         (const uint8_t *block, size_t len, size_t levels, size_t values, size_t *offset),
         (block, len, levels, values, offset))

@@ -76,6 +76,13 @@ class Lock(unittest.TestCase):
         self.assertEqual(calls(lambda: kombilad.encode_dag_cbor(VALUES[0])), (0, 1))
         self.assertEqual(calls(lambda: kombilad.encode_dag_cbor(VALUES[1])), (1, 0))
 
+    def test_paths(self):
+        for block, without, with_lock in ((SMALL, 0, 2), (LARGE, 2, 0), (bytearray(LARGE), 0, 2)):
+            self.assertEqual(calls(lambda: kombilad.get(block, "")), (without, with_lock))
+        # The value is small, so it is decoded with the lock.
+        block = kombilad.encode_dag_cbor({"a": 1, "b": VALUES[1]})
+        self.assertEqual(calls(lambda: kombilad.get(block, "a")), (1, 1))
+
     def test_digests(self):
         for block, without, with_lock in ((SMALL, 0, 1), (LARGE, 1, 0), (bytearray(LARGE), 0, 1)):
             cid = Cid.of_block(block)

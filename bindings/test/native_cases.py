@@ -4,7 +4,7 @@ The module for JavaScript has to give the same.
 usage: python3 native_cases.py LIBRARY FILE [COUNT [SEED]]
 
 Each line of FILE is a JSON list:
-- the name of a call, its input in hexadecimal, and its numbers
+- the name of a call, its input in hexadecimal, and its numbers, which a path in hexadecimal follows
 - the number of bytes or records of its buffer
 - its results: the status, the number that it writes, the offset, and the buffer
 
@@ -20,7 +20,8 @@ import types
 # Only the parts of random_blocks and random_pb that make blocks are used, and not the package that
 # they test.
 sys.modules.setdefault("kombilad", types.ModuleType("kombilad"))
-from random_blocks import BASES  # noqa: E402
+import reader  # noqa: E402
+from random_blocks import BASES, random_path  # noqa: E402
 from random_pb import PbSource  # noqa: E402
 
 FILL = 0xA5
@@ -61,6 +62,10 @@ class Native:
             status = call(*given, *map(size, numbers), place)
         elif name == "links_count":
             status = call(*given, *map(size, numbers), number, place)
+        elif name == "block_at":
+            path = bytes.fromhex(numbers[2])
+            text = ctypes.c_char_p(path), ctypes.c_size_t(len(path))
+            status = call(*given, *map(size, numbers[:2]), *text, buffer, number, place)
         else:
             status = call(
                 *given, *map(size, numbers), buffer, ctypes.c_size_t(length), number, place
@@ -106,11 +111,18 @@ def lines(native, source, count):
             limits,
             max(0, len(block) + choose.choice([-1, 0, 0, 0, 3])),
         )
+        yield line("block_at", block, (*limits, path_in(block).hex()), 1, SPAN)
         yield from of_json(block, limits)
         yield line("links_count", block, limits)
         yield line("link_positions", block, limits, room, SPAN)
         if native.has_tape:
             yield line("tape", block, limits, choose.choice([0, 3, len(block), len(block)]), ENTRY)
+
+    def path_in(block):
+        try:
+            return random_path(source, block, reader.read(block, kind=reader.ReadWithFloats))
+        except (reader.Rejected, RecursionError):
+            return choose.choice([b"", b"0/0/0", b"a", b"\xff"])
 
     def of_json(block, limits):
         status, needed, _, text = native.call(

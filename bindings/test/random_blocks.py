@@ -27,6 +27,9 @@ BASES = {
 }
 CODES = [0x55, 0x70, 0x71, 0x12, 0, 1, 127, 128, 0x300001, 2**63, 2**64 - 1]
 LENGTHS = [0, 1, 20, 32, 32, 32, 32, 64]
+# Segments that lead to nothing, except by chance.
+OTHER_SEGMENTS = [b"0", b"1", b"-1", b"+", b"+-1", b"1_0", b" 1", b"0x1", b"1.0", b".", b"a", b"\0"]
+OTHER_SEGMENTS += ["é".encode(), "१".encode(), b"%d" % 2**64, b"%d" % (2**64 + 1), b"9" * 99]
 # The number in places to which no call writes.
 UNWRITTEN = 77
 
@@ -228,6 +231,69 @@ def compare_tape(source, what, block, levels, values, read, library):
         )
 
 
+def random_path(source, block, read):
+    """Returns a path, of which most segments lead somewhere."""
+    choose, at, parts = source.random, 0, []
+    while choose.random() < 0.9:
+        found = reader.children(block, read.tape, at)
+        named = [(key, it) for key, it in found if key is None or key and b"/" not in key]
+        if not named or choose.random() < 0.1:
+            parts.append(choose.choice(OTHER_SEGMENTS))
+            if choose.random() < 0.5:
+                break
+            continue
+        key, at = choose.choice(named)
+        index = b"+" * (choose.random() < 0.1) + b"0" * choose.choice([0, 0, 0, 3])
+        parts.append(index + b"%d" % [it for _, it in found].index(at) if key is None else key)
+    return b"".join(
+        b"/" * choose.choice([0, 1, 1, 1, 2]) * (at > 0) + it for at, it in enumerate(parts)
+    )
+
+
+def found_at(block, levels, values, path, library):
+    """Calls kombilad_block_at. Returns what it wrote, or the name of its error and the place."""
+    value, rest, place = (
+        (ctypes.c_size_t * 2)(UNWRITTEN, UNWRITTEN),
+        ctypes.c_size_t(UNWRITTEN),
+        ctypes.c_size_t(UNWRITTEN),
+    )
+    sizes = [ctypes.c_size_t(it) for it in (len(block), levels, values)]
+    status = library.kombilad_block_at(
+        block,
+        *sizes,
+        path,
+        ctypes.c_size_t(len(path)),
+        value,
+        ctypes.byref(rest),
+        ctypes.byref(place),
+    )
+    name, written = kombilad.Status(status).name, (*value, rest.value)
+    if status == kombilad.Status.OK and place.value == UNWRITTEN:
+        return written
+    if status != kombilad.Status.OK and written == (UNWRITTEN,) * 3:
+        return name, place.value
+    return name, "written", written, place.value
+
+
+def compare_paths(source, what, block, levels, values, read, library):
+    for _ in range(3):
+        fine = not isinstance(read, tuple)
+        path = random_path(source, block, read) if fine else b"a"
+        try:
+            (begin, end), rest = reader.at_path(read, path) if fine else ((0, 0), 0)
+            spot = (begin, end - begin, rest) if fine else read
+        except reader.Rejected as why:
+            spot = f"PATH_{why.name}", why.offset
+        named = f"at {path!r} {what}"
+        compare(named, block, found_at(block, levels, values, path, library), spot)
+        got = outcome(kombilad.get, block, path.decode(), levels=levels, values=values)
+        if len(spot) == 3:
+            part = kombilad.decode_dag_cbor(block[begin:end]), path[rest:].decode()
+            compare("get " + named, block, repr(got), repr(part))
+        else:
+            compare("get " + named, block, got, spot[0] if fine else spot)
+
+
 def as_json(value):
     """Returns the value that `json` reads from the DAG-JSON of a value."""
     if isinstance(value, bytes):
@@ -278,6 +344,7 @@ def compare_block(source, block, library):
         read.canonical == block if fine else read,
     )
     compare_tape(source, what, block, levels, values, read, library)
+    compare_paths(source, what, block, levels, values, read, library)
     compare(
         "canonicalize " + what,
         block,

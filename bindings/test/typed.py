@@ -81,6 +81,14 @@ def json_of(block: bytes, text: str) -> Tuple[str, bytes]:
     return kombilad.to_json(block, levels=3), kombilad.from_json(text) + kombilad.from_json(block)
 
 
+def part_of(block: bytes) -> Tuple[str, Any]:
+    try:
+        value, rest = kombilad.get(block, "a/0", cids=str, levels=3)
+        return rest, value
+    except kombilad.PathError as error:
+        return error.name, error.place
+
+
 class Named(Cid):
     pass
 
@@ -105,6 +113,8 @@ kombilad.check("text")  # type: ignore[arg-type]
 kombilad.links(None)  # type: ignore[arg-type]
 kombilad.check(b"", 3)  # type: ignore[misc]
 kombilad.to_json("text")  # type: ignore[arg-type]
+kombilad.get(b"", b"a")  # type: ignore[arg-type]
+kombilad.get(b"", "a", str)  # type: ignore[misc]
 kombilad.from_json(7)  # type: ignore[arg-type]
 kombilad.decode_dag_cbor(b"", cids=int)  # type: ignore[arg-type]
 Cid(7)  # type: ignore[arg-type]

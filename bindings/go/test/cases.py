@@ -113,6 +113,16 @@ def failed(name, offset):
     return {"error": name, "offset": -1 if offset is None else offset}
 
 
+def path_case(source, block, read):
+    path = random_blocks.random_path(source, block, read)
+    case = {"path": path.decode()}
+    try:
+        span, rest = reader.at_path(read, path)
+    except reader.Rejected as why:
+        return {**case, "error": f"PATH_{why.name}"}
+    return {**case, "span": span, "rest": path[rest:].decode()}
+
+
 def block_case(source, block):
     limits = [(64, 10**6), (64, 10**6), (64, 10**6), (2, 10**6), (64, 7), (0, 3), (3, 0)]
     levels, values = source.random.choice(limits)
@@ -127,6 +137,7 @@ def block_case(source, block):
         "links": [it.hex() for it in read.links],
         "positions": read.places,
         "canonical": read.canonical.hex(),
+        "paths": [path_case(source, block, read) for _ in range(3)],
     }
 
 

@@ -1,7 +1,8 @@
 import { checkedCid } from './cid.js'
 import { failed, inputOf, levelsOf, place, run, sizeOf, valuesOf } from './core.js'
 import { ofName } from './errors.js'
-import { Texts } from './text.js'
+import { Texts, textOfUtf8 } from './text.js'
+import { utf8 } from './writer.js'
 
 // ---- Checks
 
@@ -350,6 +351,28 @@ function decodeIn (core, bytes, levels, values) { return withTape(core, bytes, l
 /** Decodes a block, after the core has checked all of its bytes. */
 export function decode (bytes, options) {
   return run(decodeIn, inputOf(bytes), levelsOf(options), valuesOf(options))
+}
+
+function getIn (core, bytes, levels, values, path) {
+  const size = sizeOf(bytes)
+  const span = place(core, bytes, size, SPAN + path.length)
+  core.bytes.set(path, span + SPAN)
+  const status = core.calls.kombilad_block_at(core.room, size, levels, values, span + SPAN, path.length, span, core.neededAt, core.offsetAt)
+  if (status !== 0) throw failed(core, status)
+  const rest = core.needed()
+  // The value comes from the core's copy of the block, which has not changed since the core read it.
+  const begins = core.room + core.words[span >>> 2]
+  const part = core.bytes.slice(begins, begins + core.words[(span >>> 2) + 2])
+  return { value: decodeIn(core, part, levels, values), remaining: textOfUtf8(path, rest, path.length) }
+}
+
+/**
+ * Decodes the value at a path in a block, after the core has checked all of the block. If the path
+ * continues after a link, the value is the link, and `remaining` is the rest of the path.
+ */
+export function get (bytes, path, options) {
+  if (typeof path !== 'string') throw ofName('INPUT')
+  return run(getIn, inputOf(bytes), levelsOf(options), valuesOf(options), utf8(path))
 }
 
 export function entriesOf (core, first, count) {

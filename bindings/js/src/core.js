@@ -146,8 +146,14 @@ startBy(() => {
   }
 })
 
-/** Returns the error of a status, with its offset if the status has one. */
+/** Returns the error of a status, with its offset or the number of a segment if it has one. */
 export function failed (core, status) {
+  if (status === 64 || status === 65) {
+    const error = ofStatus(status)
+    error.segment = core.offset()
+    error.message += ` (at segment ${error.segment})`
+    return error
+  }
   const has = status === 6 || status === 7 || status >= 48
   return ofStatus(status, has ? core.offset() : undefined)
 }

@@ -31,6 +31,8 @@ const NAMES = {
   54: 'BLOCK_DUPLICATE_KEY',
   55: 'BLOCK_LINK_BYTES',
   56: 'BLOCK_TRAILING_BYTES',
+  64: 'PATH_MISSING',
+  65: 'PATH_NOT_A_CONTAINER',
   80: 'LINK_END',
   81: 'LINK_NOT_SHORTEST',
   82: 'LINK_VARINT_TOO_LARGE',
@@ -162,7 +164,8 @@ const OTHERS = {
  * Represents an error of this package. `code` is its name. `offset` is the byte of the input at
  * which it occurred, or undefined. The calls for UnixFS also set `cid`, which is the CID of the
  * block, `link`, which is the index of the invalid link of a folder, `path`, which is the path up to
- * a missing name, and `entry`, which is the name of the entry that a folder can't have.
+ * a missing name, and `entry`, which is the name of the entry that a folder can't have. `get` sets
+ * `segment`, which is the number of the segment of a path that leads to nothing, counted from 1.
  */
 export class KombiladError extends Error {
   constructor (code, message, offset) {
@@ -174,6 +177,7 @@ export class KombiladError extends Error {
     this.link = undefined
     this.path = undefined
     this.entry = undefined
+    this.segment = undefined
   }
 }
 

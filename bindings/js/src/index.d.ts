@@ -24,6 +24,7 @@ export type ErrorCode =
   | 'CID_END' | 'CID_NOT_SHORTEST' | 'CID_VARINT_TOO_LARGE' | 'CID_EXPLICIT_VERSION_0' | 'CID_UNKNOWN_VERSION' | 'CID_DIGEST_TOO_LONG' | 'CID_TRAILING_BYTES'
   | 'TEXT_UNKNOWN_BASE' | 'TEXT_INVALID_LENGTH' | 'TEXT_INVALID_LETTER' | 'TEXT_UNUSED_BITS' | 'TEXT_WRONG_VERSION' | 'TEXT_UTF8'
   | 'BLOCK_END' | 'BLOCK_NOT_SHORTEST' | 'BLOCK_FLOAT' | 'BLOCK_UNSUPPORTED' | 'BLOCK_UTF8' | 'BLOCK_KEY_NOT_TEXT' | 'BLOCK_DUPLICATE_KEY' | 'BLOCK_LINK_BYTES' | 'BLOCK_TRAILING_BYTES'
+  | 'PATH_MISSING' | 'PATH_NOT_A_CONTAINER'
   | 'LINK_END' | 'LINK_NOT_SHORTEST' | 'LINK_VARINT_TOO_LARGE' | 'LINK_EXPLICIT_VERSION_0' | 'LINK_UNKNOWN_VERSION' | 'LINK_DIGEST_TOO_LONG' | 'LINK_TRAILING_BYTES'
   | 'CAR_UNEXPECTED_END' | 'CAR_LENGTH_NOT_SHORTEST' | 'CAR_LENGTH_TOO_LARGE' | 'CAR_EMPTY' | 'CAR_TOO_LONG' | 'CAR_NOT_A_HEADER' | 'CAR_PAYLOAD' | 'CAR_SHORT_PAYLOAD' | 'CAR_READ_ONCE'
   | 'PB_END' | 'PB_VARINT_TOO_LARGE' | 'PB_UNKNOWN_FIELD' | 'PB_FIELD_ORDER' | 'PB_NO_HASH' | 'PB_UTF8'
@@ -53,6 +54,8 @@ export class KombiladError extends Error {
   readonly path?: string
   /** The name of the entry at fault, if `Packer.folder` rejects one. */
   readonly entry?: string
+  /** The number of the segment of a path that leads to nothing, counted from 1, for `get`. */
+  readonly segment?: number
 }
 
 /** A multihash. */
@@ -142,6 +145,14 @@ export const code: 0x71
 export function encode(value: unknown): Uint8Array
 /** Decodes the value of a block. An integer that isn't a safe integer becomes a `bigint`. */
 export function decode<T = any>(bytes: Bytes, limits?: Limits): T
+/**
+ * Decodes the value at a path in a block, such as `a/b/0`, as `Block.get` of `multiformats`. In a map
+ * a segment is a key, and in a list an index. Empty segments are skipped, and the empty path leads to
+ * the whole value. If the path continues after a link, `value` is the link, and `remaining` is the
+ * rest of the path, which leads on from its block. Otherwise `remaining` is empty. Throws
+ * `PATH_MISSING` or `PATH_NOT_A_CONTAINER` if the path leads to nothing.
+ */
+export function get<T = any>(bytes: Bytes, path: string, limits?: Limits): { value: T, remaining: string }
 /** The DAG-CBOR codec as one object: a `BlockCodec` of `multiformats`, for example for Helia. */
 export const dagCbor: {
   readonly name: 'dag-cbor'

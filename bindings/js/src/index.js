@@ -3,7 +3,7 @@ import { decode } from './block.js'
 import { encode } from './writer.js'
 
 export { CID, bases, sha256, verify } from './cid.js'
-export { canonicalize, check, countLinks, decode, isCanonical, linkPositions, links, tape } from './block.js'
+export { canonicalize, check, countLinks, decode, get, isCanonical, linkPositions, links, tape } from './block.js'
 export { encode } from './writer.js'
 export { fromJSON, toJSON } from './json.js'
 export { dagPb } from './pb.js'

@@ -7,7 +7,7 @@ import { inspect, types } from 'node:util'
 import { runInNewContext } from 'node:vm'
 import { core, errors, fresh, kombilad, needsTape } from './package.mjs'
 
-const { CID, KombiladError, check, canonicalize, countLinks, decode, encode, fromJSON, isCanonical, linkPositions, links, setMemoryLimit, sha256, tape, toJSON, verify } = kombilad
+const { CID, KombiladError, check, canonicalize, countLinks, decode, encode, fromJSON, get, isCanonical, linkPositions, links, setMemoryLimit, sha256, tape, toJSON, verify } = kombilad
 const hex = (text) => Uint8Array.from(Buffer.from(text, 'hex'))
 const toHex = (bytes) => Buffer.from(bytes).toString('hex')
 
@@ -420,6 +420,37 @@ describe('blocks', () => {
     for (const text of [undefined, null, 7, {}, ['1']]) fails(() => fromJSON(text), 'INPUT')
   })
 
+  test('have values at paths', needsTape, () => {
+    const value = { a: [1, { b: 'cd', é: [CID.parse('bafkqaaa')] }], l: CID.parse('bafkqaaa'), 0: { 1: null } }
+    const block = encode(value)
+    for (const [path, found, remaining = ''] of [
+      ['', value], ['/', value], ['a', value.a], ['a/+0', 1], ['/a//1/b/', 'cd'], ['a/01/é', value.a[1].é], ['0/1', null], ['l/', value.l],
+      ['l//x/é/', value.l, 'x/é/'], ['a/1/é/0/é', value.l, 'é']
+    ]) {
+      assert.deepEqual(get(block, path), { value: found, remaining })
+    }
+    for (const [path, code, segment] of [
+      ['b', 'PATH_MISSING', 1], ['toString', 'PATH_MISSING', 1], ['a/2/x', 'PATH_MISSING', 2], ['a/length', 'PATH_MISSING', 2], ['a//-1', 'PATH_MISSING', 2],
+      ['a/18446744073709551616', 'PATH_MISSING', 2], ['a/0/0', 'PATH_NOT_A_CONTAINER', 3], ['0/1/x/y', 'PATH_NOT_A_CONTAINER', 3]
+    ]) {
+      fails(() => get(block, path), code, undefined)
+      assert.throws(() => get(block, path), { segment, message: new RegExp(` \\(at segment ${segment}\\)$`) })
+    }
+    fails(() => get(block, 'a/\ud800'), 'ENCODE_STRING')
+    for (const path of [undefined, null, 0, ['a'], new String('a')]) fails(() => get(block, path), 'INPUT') // eslint-disable-line no-new-wrappers
+    // The whole block is checked, in the same limits.
+    for (let end = 0; end < block.length; end++) {
+      const cut = block.subarray(0, end)
+      assert.throws(() => check(cut), ({ code, offset }) => { fails(() => get(cut, 'b'), code, offset); return true })
+    }
+    fails(() => get(hex('a1616181818100'), 'b', { levels: 3 }), 'TOO_DEEP', 5)
+    fails(() => get(hex('820102'), '0', { values: 2 }), 'TOO_MANY', 2)
+    assert.deepEqual(get(hex('81fb3ff8000000000000'), '0', { levels: 1, values: 2 }), { value: 1.5, remaining: '' })
+    const key = '東'.repeat(30000)
+    assert.deepEqual(get(encode({ [key]: [7], x: 'y'.repeat(100000) }), `${key}/0`), { value: 7, remaining: '' })
+    fails(() => get(block, key), 'PATH_MISSING')
+  })
+
   test('have tapes', needsTape, () => {
     assert.deepEqual(tape(hex(`a26161820102616238ff`)), [
       { kind: 10, length: 6, value: 2 }, { kind: 11, length: 1, value: 2 }, { kind: 9, length: 3, value: 2 },
@@ -478,7 +509,7 @@ describe('the instance', () => {
 
   test('frees all that it allocates', needsTape, () => {
     for (const block of ['81'.repeat(5000) + '80', '81'.repeat(5000), 'a2616202616101', '1b00']) {
-      for (const call of [check, decode, links, canonicalize, isCanonical, toJSON]) {
+      for (const call of [check, decode, links, canonicalize, isCanonical, toJSON, (bytes, limits) => get(bytes, '0/0', limits)]) {
         try { call(hex(block), { levels: Infinity }) } catch (error) { assert.ok(error instanceof KombiladError) }
         core.run((instance) => assert.equal(instance.calls.kombilad_wasm_live(), 0))
       }
@@ -682,6 +713,7 @@ describe('hostile inputs', needsTape, () => {
     isCanonical: [isCanonical, block, true],
     canonicalize: [(input) => toHex(canonicalize(input)), hex('a2616202616101'), 'a2616101616202'],
     tape: [tape, hex('01'), [{ kind: 3, length: 0, value: 1 }]],
+    get: [(input) => toHex(get(input, '0').value), block, '010203'],
     toJSON: [toJSON, block, '[{"/":{"bytes":"AQID"}},{"/":"bafkqaaa"}]'],
     fromJSON: [(input) => toHex(fromJSON(input)), Buffer.from('[1]'), '8101'],
     'dagPb.decode': [(input) => parts(dagPb.decode(input)), hex('0a0178'), ['78', []]],

@@ -9,7 +9,7 @@ import { core } from './package.mjs'
 const { run } = core
 const FILL = 0xa5
 const UNWRITTEN = 0x5a5a5a5a
-const WIDTHS = { link_positions: 16, pb_tape: 16, tape: 16, cid_from_text: 88, cid_of_block: 88 }
+const WIDTHS = { block_at: 16, link_positions: 16, pb_tape: 16, tape: 16, cid_from_text: 88, cid_of_block: 88 }
 // The calls whose only output buffer is the CID of the record.
 const IN_RECORD = ['cid_from_text', 'cid_of_block']
 
@@ -18,17 +18,21 @@ function outcome (instance, name, data, numbers, length) {
   const size = length * width
   const call = instance.calls[`kombilad_${name}`]
   const inRecord = IN_RECORD.includes(name)
-  const after = core.place(instance, data, data.length, size + 16)
+  const path = Buffer.from(name === 'block_at' ? numbers[2] : '', 'hex')
+  const after = core.place(instance, data, data.length, size + 16 + path.length)
   const { room, neededAt, offsetAt, cidAt } = instance
   const buffer = inRecord ? cidAt : after
   instance.bytes.fill(FILL, buffer, buffer + size + (inRecord ? 0 : 16))
   instance.words[neededAt >>> 2] = instance.words[offsetAt >>> 2] = UNWRITTEN
   const given = [room, data.length]
+  const pathAt = buffer + size + 16
+  if (path.length > 0) instance.bytes.set(path, pathAt)
   let status
   if (name === 'cid_of_block') status = call(BigInt(numbers[0]) << 32n | BigInt(numbers[1]), ...given, cidAt) ?? 0
   else if (name === 'cid_to_text') status = call(...given, numbers[0], buffer, length, neededAt)
   else if (name === 'cid_from_text') status = call(...given, cidAt, neededAt)
   else if (name === 'cid_check') status = call(...given)
+  else if (name === 'block_at') status = call(...given, numbers[0], numbers[1], pathAt, path.length, buffer, neededAt, offsetAt)
   else if (name === 'links_count') status = call(...given, ...numbers, neededAt, offsetAt)
   else if (name.startsWith('block_check')) status = call(...given, ...numbers, offsetAt)
   else status = call(...given, ...numbers, buffer, length, neededAt, offsetAt)

@@ -35,6 +35,7 @@ enum call {
     BLOCK_CHECK,
     BLOCK_CHECK_CANONICAL,
     BLOCK_CANONICALIZE,
+    BLOCK_AT,
     BLOCK_TO_JSON,
     BLOCK_OF_JSON,
     LINKS_COUNT,
@@ -250,6 +251,15 @@ static uint32_t run(const input *of, size_t count, size_t *needed) {
                                              &offset);
         note_bytes(out.at, count);
         break;
+    case BLOCK_AT: {
+        kombilad_span value = {UNWRITTEN, UNWRITTEN};
+        size_t rest = UNWRITTEN;
+        status = kombilad_block_at(first, len, levels, values, of->second.at, of->second.size,
+                                   &value, &rest, &offset);
+        note_spans(&value, 1);
+        note(rest);
+        break;
+    }
     case BLOCK_TO_JSON:
         out = make_room(count);
         status = kombilad_block_to_json(first, len, levels, values, out.at, count, needed, &offset);

@@ -196,20 +196,25 @@ PyObject *decode_block(struct state *state, const struct lent *block, enum cid_k
     return value;
 }
 
-/* The arguments of both calls: bytes, a class for CIDs, and two limits. */
+/* The arguments of the calls: bytes, a class for CIDs, and two limits. */
 struct asked {
     struct lent block;
     enum cid_kind kind;
     size_t levels, values;
 };
 
-static int ask(const struct state *state, PyObject *arguments, struct asked *asked) {
-    PyObject *block, *cids, *levels, *values;
-    if (!PyArg_UnpackTuple(arguments, "decode", 4, 4, &block, &cids, &levels, &values)) return -1;
+static int ask_of(const struct state *state, PyObject *block, PyObject *cids, PyObject *levels,
+                  PyObject *values, struct asked *asked) {
     if (cid_kind_of(state, cids, &asked->kind) < 0 || limit_of(levels, &asked->levels) < 0 ||
         limit_of(values, &asked->values) < 0)
         return -1;
     return lend(block, &asked->block);
+}
+
+static int ask(const struct state *state, PyObject *arguments, struct asked *asked) {
+    PyObject *block, *cids, *levels, *values;
+    if (!PyArg_UnpackTuple(arguments, "decode", 4, 4, &block, &cids, &levels, &values)) return -1;
+    return ask_of(state, block, cids, levels, values, asked);
 }
 
 PyObject *decode(PyObject *module, PyObject *arguments) {
@@ -219,6 +224,37 @@ PyObject *decode(PyObject *module, PyObject *arguments) {
     PyObject *value = decode_block(state, &asked.block, asked.kind, asked.levels, asked.values, 0);
     take_back(&asked.block);
     return value;
+}
+
+/* get(block, cids, levels, values, path): returns (the value at a path of these bytes, the byte of the
+ * path at which its rest begins). */
+PyObject *get(PyObject *module, PyObject *arguments) {
+    struct state *state = state_of(module);
+    PyObject *block, *cids, *levels, *values;
+    const char *path;
+    Py_ssize_t path_len;
+    struct asked asked;
+    if (!PyArg_ParseTuple(arguments, "OOOOy#", &block, &cids, &levels, &values, &path, &path_len) ||
+        ask_of(state, block, cids, levels, values, &asked) < 0)
+        return NULL;
+    kombilad_span span;
+    size_t rest = 0, place = 0;
+    PyThreadState *saved = unlock(&asked.block);
+    uint32_t status = kombilad_block_at(asked.block.bytes, asked.block.len, asked.levels,
+                                        asked.values, (const uint8_t *)path, (size_t)path_len,
+                                        &span, &rest, &place);
+    lock(saved);
+    PyObject *value = NULL;
+    if (status == KOMBILAD_OK) {
+        struct lent part = asked.block;
+        part.bytes += span.offset;
+        part.len = span.len;
+        value = decode_block(state, &part, asked.kind, asked.levels, asked.values, span.offset);
+    } else {
+        set_failed(state, status, place);
+    }
+    take_back(&asked.block);
+    return value == NULL ? NULL : Py_BuildValue("Nn", value, (Py_ssize_t)rest);
 }
 
 /* Returns whether the bytes begin with a block, and then writes its length to `end`. */

@@ -114,6 +114,9 @@ static PyMethodDef methods[] = {
      "folder_take(walk, block): name, CID and size of the entries in the block that it wants."},
     {"from_json", block_from_json, METH_VARARGS,
      "from_json(text, levels, values): the canonical block of the bytes of a text in DAG-JSON."},
+    {"get", get, METH_VARARGS,
+     "get(block, cids, levels, values, path): the value at a path, and the byte at which the rest "
+     "of the path begins."},
     {"is_canonical", block_is_canonical, METH_VARARGS,
      "is_canonical(block, levels, values): whether the keys of its maps are in order."},
     {"link_positions", block_link_positions, METH_VARARGS,

@@ -121,8 +121,8 @@ int limit_of(PyObject *given, size_t *limit);
 /* Returns the number as an integer, or None if there is none. */
 PyObject *number_if(bool is_there, uint64_t number);
 
-/* Sets the exception of a status that isn't KOMBILAD_OK, with the offset in a block or the number of
- * a link. */
+/* Sets the exception of a status that isn't KOMBILAD_OK, with the offset in a block, or the number of
+ * a link or of a segment. */
 void set_failed(const struct state *state, uint32_t status, size_t offset);
 
 /* Sets the exception of a status of a text, with the index of a character in it, or of the entries of
@@ -158,6 +158,7 @@ PyObject *decode_block(struct state *state, const struct lent *block, enum cid_k
 PyObject *decode(PyObject *module, PyObject *arguments);
 PyObject *decode_multi(PyObject *module, PyObject *arguments);
 PyObject *decode_pb(PyObject *module, PyObject *arguments);
+PyObject *get(PyObject *module, PyObject *arguments);
 PyObject *open_part(PyObject *module, PyObject *arguments);
 PyObject *next_part(PyObject *module, PyObject *arguments);
 PyObject *verify(PyObject *module, PyObject *arguments);

@@ -63,10 +63,10 @@ module _ (before : ℕ) (part : List ℕ) (parts : List (List ℕ)) (d : DataIte
   same_found : (x y : DataItem) → found x ≡ found y → x ≡ y
   same_found x y e = cc
 
-  not_reached : (next : DataItem → Option (Link × ℕ)) (a : AtPath) (passed : ℕ) (error : ShowError) → LeadsBehind (then_at (λ x. found x) a) passed (Err error) → if_reached next a ≡ None
-  not_reached next (found x) passed error h = absurd h
-  not_reached next (no_segment n) passed error h = refl
-  not_reached next (not_a_container n) passed error h = refl
+  not_reached : (next : DataItem → Option (Link × ℕ)) (a : AtPath) (passed : ℕ) (after : List ℕ) (error : ShowError) → LeadsBehind (then_at (λ x. found x) a) passed after (Err error) → if_reached next a ≡ None
+  not_reached next (found x) passed after error h = absurd h
+  not_reached next (no_segment n) passed after error h = refl
+  not_reached next (not_a_container n) passed after error h = refl
 
   passes_none : (e : DataItem) → found d ≡ found e → link_along before (parts_in parts) d ≡ link_along (before + 0) (parts_in parts) e
   passes_none e h =
@@ -87,10 +87,10 @@ module _ (before : ℕ) (part : List ℕ) (parts : List (List ℕ)) (d : DataIte
         | inr none ↦ rw none (passes_none e)
       ]
 
-  pub stops : (passed : ℕ) (error : ShowError) → LeadsBehind (at_segments before (parts_in (part ∷ [])) d) passed (Err error) → link_along before (parts_in (part ∷ parts)) d ≡ link_first (link_in d) before None
-  stops passed error =
+  pub stops : (passed : ℕ) (after : List ℕ) (error : ShowError) → LeadsBehind (at_segments before (parts_in (part ∷ [])) d) passed after (Err error) → link_along before (parts_in (part ∷ parts)) d ≡ link_first (link_in d) before None
+  stops passed after error =
       elim (cases_Bool (ltb 0 (length part))) [
-        | inl some ↦ rw some (λ h. ap (link_first (link_in d) before) (not_reached (link_along (suc before) (parts_in parts)) (at_segment (suc before) part d) passed error h))
+        | inl some ↦ rw some (λ h. ap (link_first (link_in d) before) (not_reached (link_along (suc before) (parts_in parts)) (at_segment (suc before) part d) passed after error h))
         | inr none ↦ rw none (λ h. absurd h)
       ]
 
@@ -114,32 +114,34 @@ link_or_error d path None before error (Ok (Some on)) same stopped h = absurd h
 link_or_error d path None before error (Ok None) same stopped h = absurd h
 link_or_error d path None before error (Err given) same stopped h = (same, subst (λ (e : ShowError). LeadsTo (at_segments 0 (segments path) d) (Err e)) (sym h) stopped)
 
-entered : (a : AtPath) (passed : ℕ) (q : Bor (List ℕ) × ℕ) → LeadsBehind a passed (Ok q) → (e : DataItem) × (a ≡ found e) × (q.1 ≡ passed) × (rest : List ℕ) × BeginsWithItem e q.0.now rest
-entered (found e) passed q h = (e, refl, h.0, h.1, h.2)
-entered (no_segment number) passed q h = absurd h
-entered (not_a_container number) passed q h = absurd h
+pub entered : (a : AtPath) (passed : ℕ) (after : List ℕ) (q : Bor (List ℕ) × ℕ) → LeadsBehind a passed after (Ok q) → (e : DataItem) × (a ≡ found e) × (q.1 ≡ passed) × BeginsWithItem e q.0.now after
+entered (found e) passed after q h = (e, refl, h.0, h.1)
+entered (no_segment number) passed after q h = absurd h
+entered (not_a_container number) passed after q h = absurd h
 
 module _ (d : DataItem) (path value rest front back : List ℕ) (before : ℕ) (w : OnWay d path value rest before)
     (cut : (front ≡ before_first (λ b. b == 47) rest) × (back ≡ after_first (λ b. b == 47) rest) × (position_or_len (λ b. b == 47) rest < length rest)) where
   parts : parts_of rest ≡ front ∷ parts_of back
   parts = rw (cut.0, cut.1) (cut_at rest cut.2)
 
-  along : link_along 0 (segments path) d ≡ link_along before (parts_in (front ∷ parts_of back)) w.reached.inner
+  pub along : link_along 0 (segments path) d ≡ link_along before (parts_in (front ∷ parts_of back)) w.reached.inner
   along = w.same ∙ ap (λ (ps : List (List ℕ)). link_along before (parts_in ps) w.reached.inner) parts
 
-  pub on_way : (q : Bor (List ℕ) × ℕ) → LeadsBehind (at_segments before (parts_in (front ∷ [])) w.reached.inner) (before + length (parts_in (front ∷ []))) (Ok q) → OnWay d path q.0.now back q.1
-  on_way q h =
-      let e = entered (at_segments before (parts_in (front ∷ [])) w.reached.inner) (before + length (parts_in (front ∷ []))) q h in
+  pub on_way : (after : List ℕ) (q : Bor (List ℕ) × ℕ) → LeadsBehind (at_segments before (parts_in (front ∷ [])) w.reached.inner) (before + length (parts_in (front ∷ []))) after (Ok q)
+      → OnWay d path q.0.now back q.1
+  on_way after q h =
+      let e = entered (at_segments before (parts_in (front ∷ [])) w.reached.inner) (before + length (parts_in (front ∷ []))) after q h in
       record {
-        reached = record { inner = e.0; more = e.3; begins = e.4; same = reached_same d path value rest front back before w.reached cut q e.0 e.1 e.2 };
+        reached = record { inner = e.0; more = after; begins = e.3; same = reached_same d path value rest front back before w.reached cut q e.0 e.1 e.2 };
         same = along ∙ passes before front (parts_of back) w.reached.inner e.0 e.1 ∙ ap (λ (n : ℕ). link_along n (segments back) e.0) (sym e.2);
       }
 
-  pub link_at_part : (error : ShowError) (r : Result (Option LinkOnPath) ShowError) → LeadsBehind (at_segments before (parts_in (front ∷ [])) w.reached.inner) (before + length (parts_in (front ∷ []))) (Err error)
+  pub link_at_part : (after : List ℕ) (error : ShowError) (r : Result (Option LinkOnPath) ShowError)
+      → LeadsBehind (at_segments before (parts_in (front ∷ [])) w.reached.inner) (before + length (parts_in (front ∷ []))) after (Err error)
       → IsLinkOr (link_in w.reached.inner) before error r → IsLinkOnPath d path r
-  link_at_part error r h o =
-      link_or_error d path (link_in w.reached.inner) before error r (along ∙ stops before front (parts_of back) w.reached.inner (before + length (parts_in (front ∷ []))) error h)
-      (stopped_at_part d path value rest front back before w.reached cut error h) o
+  link_at_part after error r h o =
+      link_or_error d path (link_in w.reached.inner) before error r (along ∙ stops before front (parts_of back) w.reached.inner (before + length (parts_in (front ∷ []))) after error h)
+      (stopped_at_part d path value rest front back before w.reached cut after error h) o
 
 module _ (d : DataItem) (path value rest : List ℕ) (before : ℕ) (w : OnWay d path value rest before) (none : position_or_len (λ b. b == 47) rest ≡ length rest) where
   last : link_along 0 (segments path) d ≡ link_along before (parts_in (rest ∷ [])) w.reached.inner
@@ -148,13 +150,13 @@ module _ (d : DataItem) (path value rest : List ℕ) (before : ℕ) (w : OnWay d
   last_at : at_segments 0 (segments path) d ≡ at_segments before (parts_in (rest ∷ [])) w.reached.inner
   last_at = w.reached.same ∙ ap (λ (ps : List (List ℕ)). at_segments before (parts_in ps) w.reached.inner) (not_cut rest none)
 
-  pub no_link_at_end : (passed : ℕ) (q : Bor (List ℕ) × ℕ) → LeadsBehind (at_segments before (parts_in (rest ∷ [])) w.reached.inner) passed (Ok q) → IsLinkOnPath d path (Ok None)
-  no_link_at_end passed q h =
-      let e = entered (at_segments before (parts_in (rest ∷ [])) w.reached.inner) passed q h in
+  pub no_link_at_end : (passed : ℕ) (after : List ℕ) (q : Bor (List ℕ) × ℕ) → LeadsBehind (at_segments before (parts_in (rest ∷ [])) w.reached.inner) passed after (Ok q) → IsLinkOnPath d path (Ok None)
+  no_link_at_end passed after q h =
+      let e = entered (at_segments before (parts_in (rest ∷ [])) w.reached.inner) passed after q h in
       (last ∙ passes before rest [] w.reached.inner e.0 e.1, e.0, last_at ∙ e.1)
 
-  pub link_at_end : (passed : ℕ) (error : ShowError) (r : Result (Option LinkOnPath) ShowError) → LeadsBehind (at_segments before (parts_in (rest ∷ [])) w.reached.inner) passed (Err error)
+  pub link_at_end : (passed : ℕ) (after : List ℕ) (error : ShowError) (r : Result (Option LinkOnPath) ShowError) → LeadsBehind (at_segments before (parts_in (rest ∷ [])) w.reached.inner) passed after (Err error)
       → IsLinkOr (link_in w.reached.inner) before error r → IsLinkOnPath d path r
-  link_at_end passed error r h o =
-      link_or_error d path (link_in w.reached.inner) before error r (last ∙ stops before rest [] w.reached.inner passed error h)
-      (stopped_at_end d path value rest before w.reached none passed error h) o
+  link_at_end passed after error r h o =
+      link_or_error d path (link_in w.reached.inner) before error r (last ∙ stops before rest [] w.reached.inner passed after error h)
+      (stopped_at_end d path value rest before w.reached none passed after error h) o

@@ -17,10 +17,11 @@ use Rattle.dag_cbor_format.specs.declared.item.ItemHead.{ItemHead}
 use Rattle.dag_cbor_format.specs.declared.item.ItemHead.TheVariants as begin
 use Rattle.ipld_show.specs.declared.error.ShowError.{ShowError}
 use Rattle.ipld_show.specs.DataItem.{DataItem, null, boolean, integer, float, text_string, byte_string, link, list, map, DataItems, no_items, item, DataEntries, no_entries, entry, item_count, entry_count, string_encoding, encoding, items_encoding, entries_encoding, IsString, IsDataItem, AreDataItems, AreDataEntries, BeginsWithItem}
+use Rattle.ipld_show.specs.AfterPath.{after_item, after_numbered, after_value, after_segment}
 use Rattle.ipld_show.specs.AtPath.{AtPath, found, no_segment, not_a_container, item_at, item_numbered, value_under, if_found, at_segment, then_at, at_segments, LeadsTo}
 use Rattle.ipld_show.specs.Extents.{extents, extent_before, items_extents, entries_extents}
 use Rattle.ipld_show.specs.ExtentsToCome.{encodings, all_extents, AllItems}
-use Rattle.ipld_show.specs.Skipping.{items_within, parts_in, Finds, LeadsBehind}
+use Rattle.ipld_show.specs.Skipping.{items_within, parts_in, Finds, LeadsBefore, LeadsBehind}
 use Rattle.ipld_show.specs.Heads.{IsHeadOf}
 use Rattle.ipld_show.proofs.Items.{head_is, key_is}
 
@@ -207,16 +208,17 @@ next_of rest behind left t some = next_in t.items rest behind t.are_items (omega
 
 -- ---- entries and items of a list, passed one after another
 
--- so many entries are to come, and this is what stands under the key
-pub record EntriesToCome (key rest behind : List ℕ) (left : ℕ) (sought : Option DataItem) : Type 0 where
+-- so many entries are to come, and this is what stands under the key, and what follows that
+pub record EntriesToCome (key rest behind : List ℕ) (left : ℕ) (sought : Option DataItem) (after : List ℕ) : Type 0 where
   pub entries : DataEntries
   pub are_entries : AreDataEntries entries
   pub count : left ≡ entry_count entries
   pub encoded : rest ≡ entries_encoding entries ++ behind
   pub same : sought ≡ value_under key entries
+  pub follows : after ≡ after_value key entries ++ behind
 
 -- the next of them
-pub record EntryToCome (key rest behind : List ℕ) (left : ℕ) (sought : Option DataItem) : Type 0 where
+pub record EntryToCome (key rest behind : List ℕ) (left : ℕ) (sought : Option DataItem) (after : List ℕ) : Type 0 where
   pub name : List ℕ
   pub value : DataItem
   pub others : DataEntries
@@ -226,11 +228,13 @@ pub record EntryToCome (key rest behind : List ℕ) (left : ℕ) (sought : Optio
   pub count : left ≡ suc (entry_count others)
   pub encoded : rest ≡ string_encoding name ++ (encoding value ++ (entries_encoding others ++ behind))
   pub same : sought ≡ value_under key (entry name value others)
+  pub follows : after ≡ after_value key (entry name value others) ++ behind
 
-module _ (key rest behind : List ℕ) (left : ℕ) (sought : Option DataItem) where
-  entry_in : (es : DataEntries) → AreDataEntries es → left ≡ entry_count es → rest ≡ entries_encoding es ++ behind → sought ≡ value_under key es → 0 < left → EntryToCome key rest behind left sought
-  entry_in no_entries g count e same some = absurd (omega arith)
-  entry_in (entry k d es) g count e same some = record {
+module _ (key rest behind : List ℕ) (left : ℕ) (sought : Option DataItem) (after : List ℕ) where
+  entry_in : (es : DataEntries) → AreDataEntries es → left ≡ entry_count es → rest ≡ entries_encoding es ++ behind → sought ≡ value_under key es → after ≡ after_value key es ++ behind → 0 < left
+      → EntryToCome key rest behind left sought after
+  entry_in no_entries g count e same follows some = absurd (omega arith)
+  entry_in (entry k d es) g count e same follows some = record {
     name = k;
     value = d;
     others = es;
@@ -240,19 +244,20 @@ module _ (key rest behind : List ℕ) (left : ℕ) (sought : Option DataItem) wh
     count = count;
     encoded = e ∙ append_assoc (string_encoding k) (encoding d ++ entries_encoding es) behind ∙ ap (λ xs. string_encoding k ++ xs) (append_assoc (encoding d) (entries_encoding es) behind);
     same = same;
+    follows = follows;
   }
 
-  pub entry_to_come : EntriesToCome key rest behind left sought → 0 < left → EntryToCome key rest behind left sought
-  entry_to_come t some = entry_in t.entries t.are_entries t.count t.encoded t.same some
+  pub entry_to_come : EntriesToCome key rest behind left sought after → 0 < left → EntryToCome key rest behind left sought after
+  entry_to_come t some = entry_in t.entries t.are_entries t.count t.encoded t.same t.follows some
 
   no_entry_in : (es : DataEntries) → left ≡ entry_count es → sought ≡ value_under key es → left ≡ 0 → sought ≡ None
   no_entry_in no_entries count same none = same
   no_entry_in (entry k d es) count same none = absurd (omega arith)
 
-  pub no_entry : EntriesToCome key rest behind left sought → left ≡ 0 → sought ≡ None
+  pub no_entry : EntriesToCome key rest behind left sought after → left ≡ 0 → sought ≡ None
   no_entry t none = no_entry_in t.entries t.count t.same none
 
-  module _ (t : EntryToCome key rest behind left sought) (k value : List ℕ) (r : BeginsWithKey k rest value) where
+  module _ (t : EntryToCome key rest behind left sought after) (k value : List ℕ) (r : BeginsWithKey k rest value) where
     found_name : (k ≡ t.name) × (value ≡ encoding t.value ++ (entries_encoding t.others ++ behind))
     found_name = key_is t.name rest (encoding t.value ++ (entries_encoding t.others ++ behind)) t.is_name t.encoded k value r
 
@@ -263,65 +268,80 @@ module _ (key rest behind : List ℕ) (left : ℕ) (sought : Option DataItem) wh
     is_there b test e =
         t.same ∙ ap (λ c. cond c (Some t.value) (value_under key t.others)) (ap (bytes_eq key) (sym found_name.0) ∙ sym test ∙ e)
 
-    pub is_passed : (b : Bool) (after : List ℕ) → b ≡ bytes_eq key k → b ≡ false → after ≡ entries_encoding t.others ++ behind → EntriesToCome key after behind (left - 1) sought
-    is_passed b after test e f = record {
+    pub is_followed : (b : Bool) → b ≡ bytes_eq key k → b ≡ true → after ≡ entries_encoding t.others ++ behind
+    is_followed b test e =
+        t.follows ∙ ap (λ c. cond c (entries_encoding t.others) (after_value key t.others) ++ behind) (ap (bytes_eq key) (sym found_name.0) ∙ sym test ∙ e)
+
+    pub is_passed : (b : Bool) (passed : List ℕ) → b ≡ bytes_eq key k → b ≡ false → passed ≡ entries_encoding t.others ++ behind → EntriesToCome key passed behind (left - 1) sought after
+    is_passed b passed test e f = record {
       entries = t.others;
       are_entries = t.are_others;
       count = omega (arith, t.count);
       encoded = f;
       same = t.same ∙ ap (λ c. cond c (Some t.value) (value_under key t.others)) (ap (bytes_eq key) (sym found_name.0) ∙ sym test ∙ e);
+      follows = t.follows ∙ ap (λ c. cond c (entries_encoding t.others) (after_value key t.others) ++ behind) (ap (bytes_eq key) (sym found_name.0) ∙ sym test ∙ e);
     }
 
 -- the items of a list, of which the one at an index is sought
-pub record ItemsToCome (rest behind : List ℕ) (left : ℕ) (sought : Option DataItem) : Type 0 where
+pub record ItemsToCome (rest behind : List ℕ) (left : ℕ) (sought : Option DataItem) (after : List ℕ) : Type 0 where
   pub items : DataItems
   pub are_items : AreDataItems items
   pub enough : left < item_count items
   pub encoded : rest ≡ items_encoding items ++ behind
   pub same : sought ≡ item_at left items
+  pub follows : after ≡ after_item left items ++ behind
 
 -- the next of them
-pub record ItemToCome (rest behind : List ℕ) (left : ℕ) (sought : Option DataItem) : Type 0 where
+pub record ItemToCome (rest behind : List ℕ) (left : ℕ) (sought : Option DataItem) (after : List ℕ) : Type 0 where
   pub next : DataItem
   pub others : DataItems
   pub are_others : AreDataItems others
   pub enough : left < suc (item_count others)
   pub begins : BeginsWithItem next rest (items_encoding others ++ behind)
   pub same : sought ≡ item_at left (item next others)
+  pub follows : after ≡ after_item left (item next others) ++ behind
 
-module _ (rest behind : List ℕ) (left : ℕ) (sought : Option DataItem) where
-  item_in : (ds : DataItems) → AreDataItems ds → left < item_count ds → rest ≡ items_encoding ds ++ behind → sought ≡ item_at left ds → ItemToCome rest behind left sought
-  item_in no_items g enough e same = absurd (omega arith)
-  item_in (item d ds) g enough e same = record {
+module _ (rest behind : List ℕ) (left : ℕ) (sought : Option DataItem) (after : List ℕ) where
+  item_in : (ds : DataItems) → AreDataItems ds → left < item_count ds → rest ≡ items_encoding ds ++ behind → sought ≡ item_at left ds → after ≡ after_item left ds ++ behind → ItemToCome rest behind left sought after
+  item_in no_items g enough e same follows = absurd (omega arith)
+  item_in (item d ds) g enough e same follows = record {
     next = d;
     others = ds;
     are_others = g.1;
     enough = enough;
     begins = record { is_item = g.0; encoded = e ∙ append_assoc (encoding d) (items_encoding ds) behind };
     same = same;
+    follows = follows;
   }
 
-  pub item_to_come : ItemsToCome rest behind left sought → ItemToCome rest behind left sought
-  item_to_come t = item_in t.items t.are_items t.enough t.encoded t.same
+  pub item_to_come : ItemsToCome rest behind left sought after → ItemToCome rest behind left sought after
+  item_to_come t = item_in t.items t.are_items t.enough t.encoded t.same t.follows
 
 item_behind : (left : ℕ) (d : DataItem) (ds : DataItems) → 0 < left → item_at left (item d ds) ≡ item_at (left - 1) ds
 item_behind zero d ds some = absurd (omega arith)
 item_behind (suc n) d ds some = ap (λ (k : ℕ). item_at k ds) (omega arith)
 
-pub item_passed : (rest behind after : List ℕ) (left : ℕ) (sought : Option DataItem) (t : ItemToCome rest behind left sought) → 0 < left → after ≡ items_encoding t.others ++ behind
-    → ItemsToCome after behind (left - 1) sought
-item_passed rest behind after left sought t some e = record {
+after_behind : (left : ℕ) (d : DataItem) (ds : DataItems) → 0 < left → after_item left (item d ds) ≡ after_item (left - 1) ds
+after_behind zero d ds some = absurd (omega arith)
+after_behind (suc n) d ds some = ap (λ (k : ℕ). after_item k ds) (omega arith)
+
+pub item_passed : (rest behind passed : List ℕ) (left : ℕ) (sought : Option DataItem) (after : List ℕ) (t : ItemToCome rest behind left sought after) → 0 < left → passed ≡ items_encoding t.others ++ behind
+    → ItemsToCome passed behind (left - 1) sought after
+item_passed rest behind passed left sought after t some e = record {
   items = t.others;
   are_items = t.are_others;
   enough = omega (arith, t.enough);
   encoded = e;
   same = t.same ∙ item_behind left t.next t.others some;
+  follows = t.follows ∙ ap (λ (xs : List ℕ). xs ++ behind) (after_behind left t.next t.others some);
 }
 
-pub item_here : (rest behind : List ℕ) (left : ℕ) (sought : Option DataItem) → ItemsToCome rest behind left sought → left ≡ 0 → (d : DataItem) × (more : List ℕ) × (sought ≡ Some d) × BeginsWithItem d rest more
-item_here rest behind left sought t none =
-    let i = item_to_come rest behind left sought t in
-    (i.next, items_encoding i.others ++ behind, i.same ∙ ap (λ (k : ℕ). item_at k (item i.next i.others)) none, i.begins)
+pub item_here : (rest behind : List ℕ) (left : ℕ) (sought : Option DataItem) (after : List ℕ) → ItemsToCome rest behind left sought after → left ≡ 0
+    → (d : DataItem) × (sought ≡ Some d) × BeginsWithItem d rest after
+item_here rest behind left sought after t none =
+    let i = item_to_come rest behind left sought after t in
+    let follows : after ≡ items_encoding i.others ++ behind = i.follows ∙ ap (λ (k : ℕ). after_item k (item i.next i.others) ++ behind) none in
+    (i.next, i.same ∙ ap (λ (k : ℕ). item_at k (item i.next i.others)) none, subst (λ (xs : List ℕ). BeginsWithItem i.next rest xs) (sym follows) i.begins)
 
 past : (n : ℕ) (ds : DataItems) → item_count ds ≤ n → item_at n ds ≡ None
 past n no_items h = refl
@@ -333,36 +353,39 @@ past_items o n ds e h = ap (λ p. item_numbered p ds) e ∙ past n ds h
 
 -- ---- what is found
 
-pub finds_value : (o : Option DataItem) (d : DataItem) (value : Bor (List ℕ)) (more : List ℕ) → o ≡ Some d → BeginsWithItem d value.now more → Finds o (Ok (Some value))
-finds_value o d value more e b = subst (λ p. Finds p (Ok (Some value))) (sym e) (more, b)
+pub finds_value : (o : Option DataItem) (d : DataItem) (value : Bor (List ℕ)) (after more : List ℕ) → o ≡ Some d → after ≡ more → BeginsWithItem d value.now more → Finds o after (Ok (Some value))
+finds_value o d value after more e f b = subst (λ p. Finds p after (Ok (Some value))) (sym e) (subst (λ (xs : List ℕ). BeginsWithItem d value.now xs) (sym f) b)
 
-pub finds_none : (o : Option DataItem) → o ≡ None → Finds o (Ok None)
-finds_none o e = subst (λ p. Finds p (Ok None)) (sym e) tt
+pub finds_none : (o : Option DataItem) (after : List ℕ) → o ≡ None → Finds o after (Ok None)
+finds_none o after e = subst (λ p. Finds p after (Ok None)) (sym e) tt
 
 module _ (d : DataItem) (value rest behind segment : List ℕ) (number : ℕ) (b : BeginsWithItem d value behind) where
   -- a segment is looked up in a map
   pub in_map : (n : ℕ) (outcome : Result (Option (Bor (List ℕ))) ShowError) (r : Result (Bor (List ℕ)) ShowError) → BeginsWith (begin.Map n) value rest
-      → ((es : DataEntries) (more : List ℕ) → AreDataEntries es → n ≡ entry_count es → rest ≡ entries_encoding es ++ more → Finds (value_under segment es) outcome)
-      → ((o : Option DataItem) → Finds o outcome → LeadsTo (if_found number o) r) → LeadsTo (at_segment number segment d) r
+      → ((es : DataEntries) (more : List ℕ) → AreDataEntries es → n ≡ entry_count es → rest ≡ entries_encoding es ++ more → Finds (value_under segment es) (after_value segment es ++ more) outcome)
+      → ((o : Option DataItem) (after : List ℕ) → Finds o after outcome → LeadsBefore (if_found number o) after r) → LeadsBefore (at_segment number segment d) (after_segment segment d ++ behind) r
   in_map n outcome r read finds leads =
       let i = head_is d value behind b (begin.Map n) rest read in
       let h : IsDataItem (map i.0) = subst IsDataItem i.1 b.is_item in
-      subst (λ x. LeadsTo (at_segment number segment x) r) (sym i.1) (leads (value_under segment i.0) (finds i.0 behind h.1 i.2 i.3))
+      subst (λ x. LeadsBefore (at_segment number segment x) (after_segment segment x ++ behind) r) (sym i.1) (leads (value_under segment i.0) (after_value segment i.0 ++ behind) (finds i.0 behind h.1 i.2 i.3))
 
   -- in a list
   pub in_list : (n : ℕ) (outcome : Result (Option (Bor (List ℕ))) ShowError) (r : Result (Bor (List ℕ)) ShowError) → BeginsWith (begin.List n) value rest
-      → ((ds : DataItems) (more : List ℕ) → AreDataItems ds → n ≡ item_count ds → rest ≡ items_encoding ds ++ more → Finds (item_numbered (number_of segment) ds) outcome)
-      → ((o : Option DataItem) → Finds o outcome → LeadsTo (if_found number o) r) → LeadsTo (at_segment number segment d) r
+      → ((ds : DataItems) (more : List ℕ) → AreDataItems ds → n ≡ item_count ds → rest ≡ items_encoding ds ++ more
+      → Finds (item_numbered (number_of segment) ds) (after_numbered (number_of segment) ds ++ more) outcome)
+      → ((o : Option DataItem) (after : List ℕ) → Finds o after outcome → LeadsBefore (if_found number o) after r) → LeadsBefore (at_segment number segment d) (after_segment segment d ++ behind) r
   in_list n outcome r read finds leads =
       let i = head_is d value behind b (begin.List n) rest read in
       let h : IsDataItem (list i.0) = subst IsDataItem i.1 b.is_item in
-      subst (λ x. LeadsTo (at_segment number segment x) r) (sym i.1) (leads (item_numbered (number_of segment) i.0) (finds i.0 behind h.1 i.2 i.3))
+      subst (λ x. LeadsBefore (at_segment number segment x) (after_segment segment x ++ behind) r) (sym i.1)
+      (leads (item_numbered (number_of segment) i.0) (after_numbered (number_of segment) i.0 ++ behind) (finds i.0 behind h.1 i.2 i.3))
 
-  no_container : (x : DataItem) → d ≡ x → LeadsTo (at_segment number segment x) (Err (NotAContainer number)) → LeadsTo (at_segment number segment d) (Err (NotAContainer number))
-  no_container x e h = subst (λ y. LeadsTo (at_segment number segment y) (Err (NotAContainer number))) (sym e) h
+  no_container : (x : DataItem) → d ≡ x → LeadsBefore (at_segment number segment x) (after_segment segment x ++ behind) (Err (NotAContainer number))
+      → LeadsBefore (at_segment number segment d) (after_segment segment d ++ behind) (Err (NotAContainer number))
+  no_container x e h = subst (λ y. LeadsBefore (at_segment number segment y) (after_segment segment y ++ behind) (Err (NotAContainer number))) (sym e) h
 
   -- in something else
-  pub in_neither : (h : ItemHead) → BeginsWith h value rest → ((n : ℕ) → h ≡ begin.Map n → ⊥) → ((n : ℕ) → h ≡ begin.List n → ⊥) → LeadsTo (at_segment number segment d) (Err (NotAContainer number))
+  pub in_neither : (h : ItemHead) → BeginsWith h value rest → ((n : ℕ) → h ≡ begin.Map n → ⊥) → ((n : ℕ) → h ≡ begin.List n → ⊥) → LeadsBefore (at_segment number segment d) (after_segment segment d ++ behind) (Err (NotAContainer number))
   in_neither begin.Null read m l = no_container null (head_is d value behind b begin.Null rest read).0 refl
   in_neither (begin.Bool x) read m l = no_container (boolean x) (head_is d value behind b (begin.Bool x) rest read).0 refl
   in_neither (begin.Integer n) read m l = no_container (integer n) (head_is d value behind b (begin.Integer n) rest read).0 refl
@@ -408,15 +431,15 @@ pub record ReachedFrom (d : DataItem) (path value rest : List ℕ) (before : ℕ
 pub reached_first : (d : DataItem) (path block behind : List ℕ) → BeginsWithItem d block behind → ReachedFrom d path block path 0
 reached_first d path block behind b = record { inner = d; more = behind; begins = b; same = refl }
 
-entered_ok : (a : AtPath) (passed : ℕ) (q : Bor (List ℕ) × ℕ) → LeadsBehind a passed (Ok q) → (d : DataItem) × (a ≡ found d) × (q.1 ≡ passed) × (rest : List ℕ) × BeginsWithItem d q.0.now rest
-entered_ok (found d) passed q h = (d, refl, h.0, h.1, h.2)
-entered_ok (no_segment number) passed q h = absurd h
-entered_ok (not_a_container number) passed q h = absurd h
+entered_ok : (a : AtPath) (passed : ℕ) (after : List ℕ) (q : Bor (List ℕ) × ℕ) → LeadsBehind a passed after (Ok q) → (d : DataItem) × (a ≡ found d) × (q.1 ≡ passed) × BeginsWithItem d q.0.now after
+entered_ok (found d) passed after q h = (d, refl, h.0, h.1)
+entered_ok (no_segment number) passed after q h = absurd h
+entered_ok (not_a_container number) passed after q h = absurd h
 
-entered_err : (next : DataItem → AtPath) (a : AtPath) (passed : ℕ) (error : ShowError) → LeadsBehind a passed (Err error) → LeadsTo (then_at next a) (Err error)
-entered_err next (found d) passed error h = absurd h
-entered_err next (no_segment number) passed error h = h
-entered_err next (not_a_container number) passed error h = h
+entered_err : (next : DataItem → AtPath) (a : AtPath) (passed : ℕ) (after : List ℕ) (error : ShowError) → LeadsBehind a passed after (Err error) → LeadsTo (then_at next a) (Err error)
+entered_err next (found d) passed after error h = absurd h
+entered_err next (no_segment number) passed after error h = h
+entered_err next (not_a_container number) passed after error h = h
 
 module _ (d : DataItem) (path value rest front back : List ℕ) (before : ℕ) (r : ReachedFrom d path value rest before)
     (cut : (front ≡ before_first (λ b. b == 47) rest) × (back ≡ after_first (λ b. b == 47) rest) × (position_or_len (λ b. b == 47) rest < length rest)) where
@@ -437,33 +460,35 @@ module _ (d : DataItem) (path value rest front back : List ℕ) (before : ℕ) (
   unfolding part_in passed_then
   reached_same q e is passed = leads ∙ ap (then_at (at_segments passed_then (segments back))) is ∙ ap (λ (n : ℕ). at_segments n (segments back) e) (sym passed)
 
-  pub reached_part : (q : Bor (List ℕ) × ℕ) → LeadsBehind (at_segments before (parts_in (front ∷ [])) r.inner) (before + length (parts_in (front ∷ []))) (Ok q) → ReachedFrom d path q.0.now back q.1
-  reached_part q h =
-      let e = entered_ok (at_segments before (parts_in (front ∷ [])) r.inner) (before + length (parts_in (front ∷ []))) q h in
-      record { inner = e.0; more = e.3; begins = e.4; same = reached_same q e.0 e.1 e.2 }
+  pub reached_part : (after : List ℕ) (q : Bor (List ℕ) × ℕ) → LeadsBehind (at_segments before (parts_in (front ∷ [])) r.inner) (before + length (parts_in (front ∷ []))) after (Ok q)
+      → ReachedFrom d path q.0.now back q.1
+  reached_part after q h =
+      let e = entered_ok (at_segments before (parts_in (front ∷ [])) r.inner) (before + length (parts_in (front ∷ []))) after q h in
+      record { inner = e.0; more = after; begins = e.3; same = reached_same q e.0 e.1 e.2 }
 
-  pub stopped_at_part : (error : ShowError) → LeadsBehind (at_segments before (parts_in (front ∷ [])) r.inner) (before + length (parts_in (front ∷ []))) (Err error) → LeadsTo (at_segments 0 (segments path) d) (Err error)
+  pub stopped_at_part : (after : List ℕ) (error : ShowError) → LeadsBehind (at_segments before (parts_in (front ∷ [])) r.inner) (before + length (parts_in (front ∷ []))) after (Err error)
+      → LeadsTo (at_segments 0 (segments path) d) (Err error)
   unfolding part_in passed_then
-  stopped_at_part error h =
+  stopped_at_part after error h =
       subst (λ a. LeadsTo a (Err error)) (sym leads)
-      (entered_err (at_segments passed_then (segments back)) (at_segments before (parts_in (front ∷ [])) r.inner) (before + length (parts_in (front ∷ []))) error h)
+      (entered_err (at_segments passed_then (segments back)) (at_segments before (parts_in (front ∷ [])) r.inner) (before + length (parts_in (front ∷ []))) after error h)
 
 module _ (d : DataItem) (path value rest : List ℕ) (before : ℕ) (r : ReachedFrom d path value rest before) (none : position_or_len (λ b. b == 47) rest ≡ length rest) where
   last_part : at_segments 0 (segments path) d ≡ at_segments before (parts_in (rest ∷ [])) r.inner
   last_part = r.same ∙ ap (λ (ps : List (List ℕ)). at_segments before (parts_in ps) r.inner) (not_cut rest none)
 
-  ends_ok : (a : AtPath) (passed : ℕ) (q : Bor (List ℕ) × ℕ) → LeadsBehind a passed (Ok q) → LeadsTo a (Ok q.0)
-  ends_ok (found e) passed q h = (h.1, h.2)
-  ends_ok (no_segment number) passed q h = absurd h
-  ends_ok (not_a_container number) passed q h = absurd h
+  ends_ok : (a : AtPath) (passed : ℕ) (after : List ℕ) (q : Bor (List ℕ) × ℕ) → LeadsBehind a passed after (Ok q) → LeadsTo a (Ok q.0)
+  ends_ok (found e) passed after q h = (after, h.1)
+  ends_ok (no_segment number) passed after q h = absurd h
+  ends_ok (not_a_container number) passed after q h = absurd h
 
-  ends_err : (a : AtPath) (passed : ℕ) (error : ShowError) → LeadsBehind a passed (Err error) → LeadsTo a (Err error)
-  ends_err (found e) passed error h = absurd h
-  ends_err (no_segment number) passed error h = h
-  ends_err (not_a_container number) passed error h = h
+  ends_err : (a : AtPath) (passed : ℕ) (after : List ℕ) (error : ShowError) → LeadsBehind a passed after (Err error) → LeadsTo a (Err error)
+  ends_err (found e) passed after error h = absurd h
+  ends_err (no_segment number) passed after error h = h
+  ends_err (not_a_container number) passed after error h = h
 
-  pub reached_end : (passed : ℕ) (q : Bor (List ℕ) × ℕ) → LeadsBehind (at_segments before (parts_in (rest ∷ [])) r.inner) passed (Ok q) → LeadsTo (at_segments 0 (segments path) d) (Ok q.0)
-  reached_end passed q h = subst (λ a. LeadsTo a (Ok q.0)) (sym last_part) (ends_ok (at_segments before (parts_in (rest ∷ [])) r.inner) passed q h)
+  pub reached_end : (passed : ℕ) (after : List ℕ) (q : Bor (List ℕ) × ℕ) → LeadsBehind (at_segments before (parts_in (rest ∷ [])) r.inner) passed after (Ok q) → LeadsTo (at_segments 0 (segments path) d) (Ok q.0)
+  reached_end passed after q h = subst (λ a. LeadsTo a (Ok q.0)) (sym last_part) (ends_ok (at_segments before (parts_in (rest ∷ [])) r.inner) passed after q h)
 
-  pub stopped_at_end : (passed : ℕ) (error : ShowError) → LeadsBehind (at_segments before (parts_in (rest ∷ [])) r.inner) passed (Err error) → LeadsTo (at_segments 0 (segments path) d) (Err error)
-  stopped_at_end passed error h = subst (λ a. LeadsTo a (Err error)) (sym last_part) (ends_err (at_segments before (parts_in (rest ∷ [])) r.inner) passed error h)
+  pub stopped_at_end : (passed : ℕ) (after : List ℕ) (error : ShowError) → LeadsBehind (at_segments before (parts_in (rest ∷ [])) r.inner) passed after (Err error) → LeadsTo (at_segments 0 (segments path) d) (Err error)
+  stopped_at_end passed after error h = subst (λ a. LeadsTo a (Err error)) (sym last_part) (ends_err (at_segments before (parts_in (rest ∷ [])) r.inner) passed after error h)

@@ -2,7 +2,9 @@ pub mod Node
 pub mod Entries
 pub mod DataItem
 pub mod AtPath
+pub mod AfterPath
 pub mod OnPath
+pub mod Reach
 pub mod Skipping
 pub mod Scalars
 pub mod TreeText

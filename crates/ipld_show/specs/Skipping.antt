@@ -19,15 +19,23 @@ items_within _ = 0
 abbrev pub parts_in : List (List ℕ) → List (List ℕ)
 parts_in parts = filter (λ part. nat_lt 0 (length part)) parts
 
--- True if the returned bytes begin with the item, or without an item nothing is returned.
-abbrev pub Finds : Option DataItem → Result (Option (Bor (List ℕ))) ShowError → Type 0
-Finds None (Ok None) = Unit {0}
-Finds (Some d) (Ok (Some value)) = (rest : List ℕ) × BeginsWithItem d value.now rest
-Finds _ _ = ⊥
+-- True if the returned bytes are those of the item and then `after`, or without an item nothing is
+-- returned.
+abbrev pub Finds : Option DataItem → (after : List ℕ) → Result (Option (Bor (List ℕ))) ShowError → Type 0
+Finds None after (Ok None) = Unit {0}
+Finds (Some d) after (Ok (Some value)) = BeginsWithItem d value.now after
+Finds _ _ _ = ⊥
 
--- True if `LeadsTo` holds, and the result has the number of segments that were passed.
-abbrev pub LeadsBehind : AtPath → ℕ → Result (Bor (List ℕ) × ℕ) ShowError → Type 0
-LeadsBehind (found d) passed (Ok read) = (read.1 ≡ passed) × (rest : List ℕ) × BeginsWithItem d read.0.now rest
-LeadsBehind (no_segment number) passed (Err error) = error ≡ NoSegment number
-LeadsBehind (not_a_container number) passed (Err error) = error ≡ NotAContainer number
-LeadsBehind _ _ _ = ⊥
+-- True if `LeadsTo` holds, and the returned bytes are those of the item and then `after`.
+abbrev pub LeadsBefore : AtPath → (after : List ℕ) → Result (Bor (List ℕ)) ShowError → Type 0
+LeadsBefore (found d) after (Ok value) = BeginsWithItem d value.now after
+LeadsBefore (no_segment number) after (Err error) = error ≡ NoSegment number
+LeadsBefore (not_a_container number) after (Err error) = error ≡ NotAContainer number
+LeadsBefore _ _ _ = ⊥
+
+-- True if `LeadsBefore` holds, and the result has the number of segments that were passed.
+abbrev pub LeadsBehind : AtPath → ℕ → (after : List ℕ) → Result (Bor (List ℕ) × ℕ) ShowError → Type 0
+LeadsBehind (found d) passed after (Ok read) = (read.1 ≡ passed) × BeginsWithItem d read.0.now after
+LeadsBehind (no_segment number) passed after (Err error) = error ≡ NoSegment number
+LeadsBehind (not_a_container number) passed after (Err error) = error ≡ NotAContainer number
+LeadsBehind _ _ _ _ = ⊥

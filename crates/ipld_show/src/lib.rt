@@ -3,6 +3,7 @@
 #![tactic(auto)]
 
 mod as_cbor;
+mod at_path;
 mod blocks;
 mod cid_parts;
 mod containers;
@@ -14,6 +15,7 @@ mod places;
 mod scalars;
 mod tree_text;
 
+pub use at_path::{ValuePlace, reach};
 pub use blocks::{link_on_path, show};
 pub use cid_parts::{write_cid_of_block, write_cid_parts};
 pub use error::ShowError;

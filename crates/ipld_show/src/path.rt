@@ -4,10 +4,11 @@ ghost use Rattle.std.specs.Prelude.{◌≡◌, ℕ, ◌+◌, ◌^◌, ◌<◌, �
 ghost use Rattle.ipld_cid.specs.LinkOf.{link_of};
 ghost use Rattle.ipld_tree.specs.Index.{number_of};
 ghost use Rattle.ipld_tree.specs.Path.{segments};
+ghost use Rattle.ipld_show.specs.AfterPath.{after_numbered, after_value, after_segment, after_segments};
 ghost use Rattle.ipld_show.specs.AtPath.{item_numbered, value_under, if_found, at_segment, at_segments, LeadsTo};
 ghost use Rattle.ipld_show.specs.DataItem.{DataItem, DataItems, DataEntries, item_count, entry_count, encoding, items_encoding, entries_encoding, AreDataItems, AreDataEntries, BeginsWithItem};
 ghost use Rattle.ipld_show.specs.OnPath.{link_in, IsLinkOr, IsLinkOnPath};
-ghost use Rattle.ipld_show.specs.Skipping.{items_within, parts_in, Finds, LeadsBehind};
+ghost use Rattle.ipld_show.specs.Skipping.{items_within, parts_in, Finds, LeadsBefore, LeadsBehind};
 
 use crate::error::{ShowError, unchecked_error};
 use dag_cbor_format::item::{ItemHead, read_item, read_key};
@@ -47,7 +48,8 @@ pub(crate) fn item_size(bytes: &[u8]) -> Result<usize, ShowError>
 // Finds the value with this key in the next `entries` entries.
 fn entry_at<'a>(entries: u64, bytes: &'a [u8], name: &str) -> Result<Option<&'a [u8]>, ShowError>
     ensures { (es : DataEntries) (behind : List ℕ) → AreDataEntries es → entries ≡ entry_count es
-        → bytes.now ≡ entries_encoding es ++ behind → Finds (value_under name.now es) result }
+        → bytes.now ≡ entries_encoding es ++ behind
+        → Finds (value_under name.now es) (after_value name.now es ++ behind) result }
 {
     let mut rest = bytes;
     let mut left = entries;
@@ -75,7 +77,8 @@ fn parse_index(segment: &str) -> Option<u64>
 fn item_at<'a>(items: u64, bytes: &'a [u8], segment: &str) -> Result<Option<&'a [u8]>, ShowError>
     ensures { (ds : DataItems) (behind : List ℕ) → AreDataItems ds → items ≡ item_count ds
         → bytes.now ≡ items_encoding ds ++ behind
-        → Finds (item_numbered (number_of segment.now) ds) result }
+        → Finds (item_numbered (number_of segment.now) ds)
+        (after_numbered (number_of segment.now) ds ++ behind) result }
 {
     let Some(index) = parse_index(segment) else {
         return Ok(None);
@@ -98,7 +101,8 @@ fn found_or_error(
     found: Result<Option<&[u8]>, ShowError>,
     number: usize,
 ) -> Result<&[u8], ShowError>
-    ensures { (o : Option DataItem) → Finds o found.entry → LeadsTo (if_found number o) result }
+    ensures { (o : Option DataItem) (after : List ℕ) → Finds o after found.entry
+        → LeadsBefore (if_found number o) after result }
 {
     match found {
         Ok(Some(value)) => Ok(value),
@@ -114,7 +118,7 @@ fn value_of_segment<'a>(
     number: usize,
 ) -> Result<&'a [u8], ShowError>
     ensures { (d : DataItem) (behind : List ℕ) → BeginsWithItem d value.now behind
-        → LeadsTo (at_segment number segment.now d) result }
+        → LeadsBefore (at_segment number segment.now d) (after_segment segment.now d ++ behind) result }
 {
     let Ok((head, rest)) = read_item(value) else {
         return Err(unchecked_error());
@@ -128,7 +132,7 @@ fn value_of_segment<'a>(
 
 // Returns the value to which a part of a path leads, and the number of segments up to it. `before`
 // segments come before the part. An empty part isn't a segment.
-fn enter_segment<'a>(
+pub(crate) fn enter_segment<'a>(
     value: &'a [u8],
     part: &str,
     before: usize,
@@ -137,7 +141,8 @@ fn enter_segment<'a>(
     ensures passed { IfOk result (λ inner. inner.1 ≤ before + length part.now) }
     ensures exact { (d : DataItem) (behind : List ℕ) → BeginsWithItem d value.now behind
         → LeadsBehind (at_segments before (parts_in (part.now ∷ [])) d)
-        (before + length (parts_in (part.now ∷ []))) result }
+        (before + length (parts_in (part.now ∷ [])))
+        (after_segments before (parts_in (part.now ∷ [])) d ++ behind) result }
 {
     if part.is_empty() {
         return Ok((value, before));
@@ -196,7 +201,7 @@ pub struct LinkOnPath {
 }
 
 // Returns the link at the front, if the value there is one.
-fn link_of_value(value: &[u8]) -> Result<Option<Cid>, ShowError>
+pub(crate) fn link_of_value(value: &[u8]) -> Result<Option<Cid>, ShowError>
     ensures { (d : DataItem) (behind : List ℕ) → BeginsWithItem d value.now behind
         → MatchResult result (λ cid. option_map link_of cid ≡ link_in d) (λ _. ⊥) }
 {

@@ -13,6 +13,7 @@ pub mod Tape
 pub mod Encode
 pub mod Rewrite
 pub mod ToJson
+pub mod BlockAt
 pub mod OfJson
 pub mod PbTape
 pub mod Car

@@ -52,6 +52,13 @@ block_sentence n =
     else if n == 8 then Some (codes "more bytes follow the item")
     else None
 
+-- The sentences of the statuses from 64 on: a path that leads to nothing in a block
+abbrev pub path_sentence : ℕ → Option (List ℕ)
+path_sentence n =
+    if n == 0 then Some (codes "the path leads to no key or index")
+    else if n == 1 then Some (codes "the path continues after a value that is not a list, a map or a link")
+    else None
+
 -- The sentences of the statuses from 80 on: the bytes of a link that are not a CID
 abbrev pub link_sentence : ℕ → Option (List ℕ)
 link_sentence n =
@@ -198,6 +205,7 @@ sentence_in family n =
     else if family == 1 then cid_sentence n
     else if family == 2 then text_sentence n
     else if family == 3 then block_sentence n
+    else if family == 4 then path_sentence n
     else if family == 5 then link_sentence n
     else if family == 6 then car_sentence n
     else if family == 7 then digest_sentence n

@@ -8,6 +8,7 @@
 
 mod attributes;
 mod base32;
+mod block_at;
 mod box_parts;
 mod car_header;
 mod car_index;

@@ -31,12 +31,16 @@ pub(crate) const UNKNOWN_BASE: u32 = 4;
 pub(crate) const V0_BASE: u32 = 5;
 /// A string, a byte string, a list or a map is too long for an entry of a tape.
 pub(crate) const TOO_LONG: u32 = 8;
-// The error of an operation that no export performs.
-const OTHER: u32 = 15;
+/// The error of an operation that no export performs.
+pub(crate) const OTHER: u32 = 15;
 /// The version of a CID is not known.
 pub(crate) const CID_VERSION: u32 = 20;
 /// A text is not UTF-8.
 pub(crate) const TEXT_UTF8: u32 = 37;
+/// A path leads to no key or index.
+pub(crate) const PATH_MISSING: u32 = 64;
+/// A path continues after a value that is not a list, a map or a link.
+pub(crate) const PATH_NOT_A_CONTAINER: u32 = 65;
 /// No section of a CAR is left.
 pub(crate) const CAR_DONE: u32 = 96;
 /// The length of a section is 2^64 or more.

@@ -3,7 +3,7 @@
 ghost use Rattle.std.specs.Prelude.{◌≡◌, option_map};
 ghost use Rattle.kombilad_c.specs.Fill.{Fills};
 ghost use Rattle.kombilad_c.specs.StatusText as sentences;
-ghost use Rattle.kombilad_c.specs.StatusText.{any_sentence, cid_sentence, text_sentence, block_sentence, link_sentence, car_sentence, digest_sentence, tape_sentence, pb_sentence, json_sentence, part_sentence, file_sentence, message_sentence, folder_sentence, pack_sentence, status_sentence};
+ghost use Rattle.kombilad_c.specs.StatusText.{any_sentence, cid_sentence, text_sentence, block_sentence, path_sentence, link_sentence, car_sentence, digest_sentence, tape_sentence, pb_sentence, json_sentence, part_sentence, file_sentence, message_sentence, folder_sentence, pack_sentence, status_sentence};
 
 use crate::fill::fill;
 
@@ -76,6 +76,18 @@ fn block_text(number: u32) -> Option<&'static str>
         6 => "a map has the same key twice",
         7 => "after the tag of a link, no byte string begins with a zero byte",
         8 => "more bytes follow the item",
+        _ => return None,
+    };
+    Some(text)
+}
+
+// Returns why a path leads to nothing in a block, by the status minus 64.
+fn path_text(number: u32) -> Option<&'static str>
+    ensures { option_map (λ text. text.now) result ≡ path_sentence number }
+{
+    let text = match number {
+        0 => "the path leads to no key or index",
+        1 => "the path continues after a value that is not a list, a map or a link",
         _ => return None,
     };
     Some(text)
@@ -285,6 +297,7 @@ fn sentence_in(family: u32, number: u32) -> Option<&'static str>
         1 => cid_text(number),
         2 => text_text(number),
         3 => block_text(number),
+        4 => path_text(number),
         5 => link_text(number),
         6 => car_text(number),
         7 => digest_text(number),

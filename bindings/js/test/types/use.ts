@@ -1,4 +1,4 @@
-import { CID, CarBlockIterator, CarIndexedReader, CarIndexer, CarReader, KombiladError, Packer, check, code, countLinks, decode, encode, encodeCar, encodeCarIndex, fromJSON, isCanonical, linkPositions, links, listFolder, name, readFile, readNode, resolvePath, setMemoryLimit, sha256, tape, toJSON, verify, dagCbor, dagPb } from 'kombilad'
+import { CID, CarBlockIterator, CarIndexedReader, CarIndexer, CarReader, KombiladError, Packer, check, code, countLinks, decode, encode, encodeCar, encodeCarIndex, fromJSON, get, isCanonical, linkPositions, links, listFolder, name, readFile, readNode, resolvePath, setMemoryLimit, sha256, tape, toJSON, verify, dagCbor, dagPb } from 'kombilad'
 
 const cid: CID = CID.parse('bafkqaaa')
 const version: 0 | 1 = cid.version
@@ -11,6 +11,8 @@ const count: number = countLinks(bytes) + linkPositions(bytes)[0].offset + tape(
 const same: boolean | undefined = verify(CID.create(1, code, sha256.digest(bytes)), bytes)
 check(bytes)
 setMemoryLimit(1e8)
+const { value: part, remaining }: { value: string, remaining: string } = get<string>(bytes, 'a/0', { levels: 3 })
+const segment: number | undefined = (() => { try { get(bytes, part + remaining) } catch (error) { if (error instanceof KombiladError) return error.segment } })()
 const json: string = toJSON(bytes, { levels: 3 })
 const again: Uint8Array = fromJSON(json, { values: 10 }) ?? fromJSON(bytes)
 

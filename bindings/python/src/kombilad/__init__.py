@@ -11,7 +11,7 @@ UnixFS, read and written by proved code: the library `libkombilad`.
 - `check` raises an error unless bytes are a block. `is_canonical` tests whether the keys of its maps
   are in order, and `canonicalize` puts them in order.
 - `decode_dag_cbor` returns the value of a block: dicts, lists, strings, bytes, numbers and CIDs.
-  `encode_dag_cbor` returns the block of a value.
+  `encode_dag_cbor` returns the block of a value, and `get` the value at a path in a block.
 - `to_json` returns the DAG-JSON of a block, and `from_json` the block of a text in DAG-JSON.
 - `decode_dag_pb` returns the node of a block of DAG-PB.
 - `CarReader` reads the blocks of a CAR file one at a time, and `AsyncCarReader` does so with
@@ -62,6 +62,7 @@ from ._errors import (
     MissingBlockError,
     MissingEntryError,
     PackError,
+    PathError,
     SymlinkError,
     TextError,
     VerifyError,
@@ -78,6 +79,7 @@ from ._values import (
     decode_dag_cbor_multi,
     decode_dag_pb,
     encode_dag_cbor,
+    get,
 )
 
 __all__ = [
@@ -107,6 +109,7 @@ __all__ = [
     "PackError",
     "Packed",
     "Packer",
+    "PathError",
     "Status",
     "SymlinkError",
     "TextError",
@@ -120,6 +123,7 @@ __all__ = [
     "decode_dag_pb",
     "encode_dag_cbor",
     "from_json",
+    "get",
     "is_canonical",
     "link_positions",
     "links",

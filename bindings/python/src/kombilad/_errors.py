@@ -117,6 +117,19 @@ class PackError(KombiladError):
         return (type(self), (self.status, self.place, self.entry))
 
 
+class PathError(KombiladError, LookupError):
+    """A path leads to nothing in a block. `place` is the number of the segment that does, counted
+    from 1.
+
+    >>> import kombilad
+    >>> kombilad.get(bytes.fromhex("a1616180"), "a/0")
+    Traceback (most recent call last):
+    kombilad.PathError: the path leads to no key or index, at segment 2
+    """
+
+    _at = "at segment"
+
+
 class MissingBlockError(LookupError):
     """A block is missing. `cid` is its CID."""
 
@@ -210,7 +223,8 @@ def _encode_error(
     return error
 
 
-# With these statuses `kombilad.h` has the number of a link instead of an offset.
+# With these statuses `kombilad.h` has the number of a link instead of an offset. With `PATH_MISSING`
+# and `PATH_NOT_A_CONTAINER` it has that of a segment.
 _OF_LINKS = (
     Status.FOLDER_INVALID_NAME,
     Status.FOLDER_NAME_ORDER,
@@ -241,6 +255,8 @@ def failed(status: int, place: Optional[int] = None, offset: Optional[int] = Non
         return JsonError(known, offset=offset)
     if Status.TEXT_UNKNOWN_BASE <= known <= Status.TEXT_UTF8:
         return TextError(known, place)
+    if known in (Status.PATH_MISSING, Status.PATH_NOT_A_CONTAINER):
+        return PathError(known, offset)
     if known in _OF_LINKS:
         return FileError(known, offset)
     if known in (Status.PACK_INVALID_NAME, Status.PACK_NAME_ORDER):

@@ -1,6 +1,6 @@
 """The values of blocks as Python objects, and the blocks of such values."""
 
-from typing import Any, Dict, List, Optional, Type, Union
+from typing import Any, Dict, List, Optional, Tuple, Type, Union
 
 from . import _native
 from ._cid import Cid
@@ -12,6 +12,7 @@ _decode, _decode_multi, _decode_pb, _encode = (
     _native.decode_pb,
     _native.encode,
 )
+_get = _native.get
 
 
 def decode_dag_cbor(
@@ -64,6 +65,40 @@ def decode_dag_cbor_multi(
     kombilad.BlockError: the bytes end before the item does, at byte 1
     """
     return _decode_multi(data, cids, levels, values)
+
+
+def get(
+    data: BytesLike,
+    path: str,
+    *,
+    cids: Type[Union[Cid, str, bytes]] = Cid,
+    levels: int = 1024,
+    values: Optional[int] = None,
+) -> Tuple[Any, str]:
+    """Returns the value at a path in a block of DAG-CBOR, and the rest of the path. Only that value is
+    decoded, as by `decode_dag_cbor`.
+
+    >>> block = encode_dag_cbor({"a": [1, {"b": "c"}], "l": Cid("bafkqaaa")})
+    >>> get(block, "a/1/b")
+    ('c', '')
+
+    In a map a segment is a key, and in a list an index. Empty segments are skipped, and the empty
+    path leads to the whole value. If the path continues after a link, the value is the link, and the
+    rest leads on from its block:
+
+    >>> get(block, "l/x/y")
+    (Cid('bafkqaaa'), 'x/y')
+
+    Raises `PathError`, which is also a `LookupError`, if the path leads to nothing, and `TextError`
+    if it has a lone surrogate. The block is checked first, with the errors and limits of `check`.
+
+    >>> get(block, "a/2")
+    Traceback (most recent call last):
+    kombilad.PathError: the path leads to no key or index, at segment 2
+    """
+    encoded = path.encode("utf-8", "surrogatepass")
+    value, rest = _get(data, cids, levels, values, encoded)
+    return value, encoded[rest:].decode()
 
 
 def decode_dag_pb(data: BytesLike, *, cids: Type[Union[Cid, str, bytes]] = Cid) -> Dict[str, Any]:

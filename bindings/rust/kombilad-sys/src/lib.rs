@@ -223,6 +223,10 @@ pub const KOMBILAD_BLOCK_DUPLICATE_KEY: u32 = 54;
 pub const KOMBILAD_BLOCK_LINK_BYTES: u32 = 55;
 /// More bytes follow the item.
 pub const KOMBILAD_BLOCK_TRAILING_BYTES: u32 = 56;
+/// A segment of a path is not a key of the map, or not an index of the list.
+pub const KOMBILAD_PATH_MISSING: u32 = 64;
+/// A path continues after a value that is not a list, a map or a link.
+pub const KOMBILAD_PATH_NOT_A_CONTAINER: u32 = 65;
 
 /// The bytes of a link in a block are not a CID: the bytes end before the CID does.
 pub const KOMBILAD_LINK_END: u32 = 80;
@@ -524,6 +528,18 @@ extern "C" {
         out_len: usize,
         needed: *mut usize,
         offset: *mut usize,
+    ) -> u32;
+    /// Finds the value at a path in the block, or the link after which the path continues.
+    pub fn kombilad_block_at(
+        block: *const u8,
+        len: usize,
+        levels: usize,
+        values: usize,
+        path: *const u8,
+        path_len: usize,
+        value: *mut kombilad_span,
+        rest: *mut usize,
+        place: *mut usize,
     ) -> u32;
     /// Writes the DAG-JSON of the block.
     pub fn kombilad_block_to_json(

@@ -133,6 +133,26 @@ impl Limits {
         self.of(block).canonicalize().map_err(Error::of_block)
     }
 
+    /// Returns the bytes of the value at a path in a block, and the rest of the path. These bytes are
+    /// a block of their own.
+    ///
+    /// In a map a segment is a key, and in a list an index. Empty segments are skipped, unlike in
+    /// [`TapeRef::at_path`](crate::TapeRef::at_path), and the empty path leads to the whole block.
+    /// If the path continues after a link, the value is the link, and the rest leads on from its
+    /// block. Otherwise the rest is empty.
+    ///
+    /// # Errors
+    ///
+    /// Those of [`Limits`], and then [`Error::Path`].
+    pub fn get<'a, 'p>(
+        &self,
+        block: &'a [u8],
+        path: &'p str,
+    ) -> Result<(&'a [u8], &'p str), Error> {
+        let (value, rest) = self.of(block).at(path).map_err(Error::of_path)?;
+        Ok((&block[value], &path[rest..]))
+    }
+
     /// Converts a block to DAG-JSON, without blanks, and with the keys of each object in the order
     /// of their bytes.
     ///
@@ -252,6 +272,29 @@ pub fn is_canonical(block: &[u8]) -> Result<bool, Error> {
 /// Those of [`Limits`], and [`Error::TooLong`].
 pub fn canonicalize(block: &[u8]) -> Result<Vec<u8>, Error> {
     Limits::default().canonicalize(block)
+}
+
+/// Returns the bytes of the value at a path in a block, and the rest of the path after a link:
+/// [`Limits::get`] within the default limits.
+///
+/// ```
+/// use kombilad::Ipld;
+///
+/// let block = kombilad::from_json(r#"{"a":[1,{"b":"c"}],"l":{"/":"bafkqaaa"}}"#)?;
+/// let (value, _) = kombilad::get(&block, "a/1/b")?;
+/// assert_eq!(Ipld::from_block(value)?, Ipld::String("c".into()));
+///
+/// let (value, rest) = kombilad::get(&block, "l/x/y")?;
+/// assert_eq!(Ipld::from_block(value)?, Ipld::Link("bafkqaaa".parse()?));
+/// assert_eq!(rest, "x/y");
+/// # Ok::<(), kombilad::Error>(())
+/// ```
+///
+/// # Errors
+///
+/// Those of [`Limits`], and then [`Error::Path`].
+pub fn get<'a, 'p>(block: &'a [u8], path: &'p str) -> Result<(&'a [u8], &'p str), Error> {
+    Limits::default().get(block, path)
 }
 
 /// Converts a block to DAG-JSON: [`Limits::to_json`] within the default limits.

@@ -221,6 +221,16 @@ pub enum JsonError {
     Reserved,
 }
 
+/// The reason why a path leads to nothing in a block.
+#[derive(Clone, Copy, Debug, PartialEq, Eq, Hash)]
+#[non_exhaustive]
+pub enum PathError {
+    /// The segment is not a key of the map, or not an index of the list.
+    Missing,
+    /// The path continues after a value that is not a list, a map or a link.
+    NotAContainer,
+}
+
 /// An error of a call that reads, converts or verifies bytes or text.
 #[derive(Clone, Copy, Debug, PartialEq, Eq, Hash)]
 #[non_exhaustive]
@@ -253,6 +263,13 @@ pub enum Error {
         /// The first byte of the item, the key, the byte string of a link or the trailing bytes at
         /// fault.
         offset: usize,
+    },
+    /// A path leads to nothing in a block.
+    Path {
+        /// The error.
+        error: PathError,
+        /// The number of the segment that leads to nothing, counted from 1.
+        segment: usize,
     },
     /// The bytes are not a CAR.
     Car {
@@ -514,6 +531,17 @@ impl Error {
         Error::Json { error, offset }
     }
 
+    /// Returns the error of a call that finds the value at a path. `place` is the byte of the block,
+    /// or the number of the segment.
+    pub(crate) fn of_path((status, place): (u32, usize)) -> Self {
+        let error = match status {
+            sys::KOMBILAD_PATH_MISSING => PathError::Missing,
+            sys::KOMBILAD_PATH_NOT_A_CONTAINER => PathError::NotAContainer,
+            _ => return Error::of_block((status, place)),
+        };
+        Error::Path { error, segment: place }
+    }
+
     /// Returns the error of a call that reads a block.
     pub(crate) fn of_block((status, offset): (u32, usize)) -> Self {
         let error = match status {
@@ -613,6 +641,16 @@ impl fmt::Display for BlockError {
             BlockError::LinkBytes => sys::KOMBILAD_BLOCK_LINK_BYTES,
             BlockError::Cid(error) => error.link_status(),
             BlockError::TrailingBytes => sys::KOMBILAD_BLOCK_TRAILING_BYTES,
+        };
+        write_status(f, status)
+    }
+}
+
+impl fmt::Display for PathError {
+    fn fmt(&self, f: &mut fmt::Formatter<'_>) -> fmt::Result {
+        let status = match *self {
+            PathError::Missing => sys::KOMBILAD_PATH_MISSING,
+            PathError::NotAContainer => sys::KOMBILAD_PATH_NOT_A_CONTAINER,
         };
         write_status(f, status)
     }
@@ -734,6 +772,7 @@ impl fmt::Display for Error {
             Error::Cid(error) => return error.fmt(f),
             Error::Text(error) => return error.fmt(f),
             Error::Block { error, offset } => return write!(f, "{error}, at byte {offset}"),
+            Error::Path { error, segment } => return write!(f, "{error}, at segment {segment}"),
             Error::Car { error, offset } => return write!(f, "{error}, at byte {offset}"),
             Error::Pb { error, offset } => return write!(f, "{error}, at byte {offset}"),
             Error::Unixfs { error, offset } => {

@@ -192,6 +192,28 @@ impl Block<'_> {
         Ok(spans.into_iter().map(range).collect())
     }
 
+    /// Returns the range of the value at a path, and the byte of the path at which its rest begins.
+    /// A status of a path has the number of a segment.
+    pub(crate) fn at(self, path: &str) -> Result<(Range<usize>, usize), Stopped> {
+        let mut value = Span { offset: 0, len: 0 };
+        let (mut rest, mut place) = (0, 0);
+        let status = unsafe {
+            sys::kombilad_block_at(
+                self.bytes.as_ptr(),
+                self.bytes.len(),
+                self.levels,
+                self.values,
+                path.as_ptr(),
+                path.len(),
+                &mut value,
+                &mut rest,
+                &mut place,
+            )
+        };
+        done(status).map_err(|status| (status, place))?;
+        Ok((range(value), rest))
+    }
+
     fn tape(self) -> Result<Entries, Stopped> {
         // There are at most as many entries as bytes. Most blocks have about nine bytes for each
         // entry.

@@ -14,6 +14,7 @@
 //! - [`links`] finds every link of a block, [`check`] validates a block, and [`canonicalize`] sorts
 //!   its keys.
 //! - [`to_json`] converts a block to DAG-JSON, and [`from_json`] converts DAG-JSON to a block.
+//! - [`get`] finds the value at a path in a block.
 //! - A [`Tape`] reads the values of a block in place, and an [`Ipld`] is a tree of them.
 //! - `from_slice` and `to_vec` decode and encode the types of serde. They need the feature `serde`,
 //!   which is on by default.
@@ -52,7 +53,7 @@ pub mod unixfs;
 mod write;
 
 pub use block::{
-    canonicalize, check, count_links, from_json, is_canonical, link_positions, links, to_json,
+    canonicalize, check, count_links, from_json, get, is_canonical, link_positions, links, to_json,
     Limits, Links,
 };
 pub use car::{CarReadError, CarReader, Section};
@@ -63,8 +64,8 @@ pub use de::{from_slice, SERDE_LEVELS};
 #[cfg(feature = "serde")]
 pub use error::DecodeError;
 pub use error::{
-    BlockError, CarError, CidError, EncodeError, Error, FileError, FolderError, JsonError, PbError,
-    TextError, UnixfsError,
+    BlockError, CarError, CidError, EncodeError, Error, FileError, FolderError, JsonError,
+    PathError, PbError, TextError, UnixfsError,
 };
 pub use ipld::Ipld;
 pub use pb::{PbLink, PbNode};

@@ -5,7 +5,7 @@ use std::collections::{BTreeSet, HashSet};
 use std::thread;
 
 use kombilad::{
-    Base, BlockError, Cid, CidError, Error, JsonError, Limits, Links, TextError, Version,
+    Base, BlockError, Cid, CidError, Error, JsonError, Limits, Links, PathError, TextError, Version,
 };
 
 const EMPTY_MAP: &str = "bafyreigbtj4x7ip5legnfznufuopl4sg4knzc2cof6duas4b3q2fy6swua";
@@ -288,6 +288,56 @@ fn blocks_are_json() {
     assert_eq!(flat.to_json(b"\x81\x80"), Err(Error::TooDeep { offset: 1 }));
     let few = Limits { values: 2, ..Limits::default() };
     assert_eq!(few.from_json(r#"[{"/":"bafkqaaa"}]"#), Err(Error::TooMany { offset: 6 }));
+}
+
+#[test]
+fn values_are_found_at_paths() {
+    let text = r#"{"a":[1,{"b":"cd","é":[{"/":"bafkqaaa"}]}],"l":{"/":"bafkqaaa"},"0":{"1":null}}"#;
+    let block = kombilad::from_json(text).unwrap();
+    let found = [
+        ("", text, ""),
+        ("//", text, ""),
+        ("a", r#"[1,{"b":"cd","é":[{"/":"bafkqaaa"}]}]"#, ""),
+        ("a/+0", "1", ""),
+        ("/a//1/b/", r#""cd""#, ""),
+        ("a/01/é", r#"[{"/":"bafkqaaa"}]"#, ""),
+        ("0/1", "null", ""),
+        ("l/", r#"{"/":"bafkqaaa"}"#, ""),
+        ("l//x/é/", r#"{"/":"bafkqaaa"}"#, "x/é/"),
+        ("a/1/é/0/é", r#"{"/":"bafkqaaa"}"#, "é"),
+    ];
+    for (path, json, rest) in found {
+        let (value, left) = kombilad::get(&block, path).unwrap();
+        let json = kombilad::from_json(json).unwrap();
+        assert_eq!((value, left), (&json[..], rest), "{path}");
+        assert!(block.as_ptr_range().contains(&value.as_ptr()));
+    }
+    let missing = [
+        ("b", PathError::Missing, 1),
+        ("a/2/x", PathError::Missing, 2),
+        ("a//-1", PathError::Missing, 2),
+        ("a/18446744073709551616", PathError::Missing, 2),
+        ("a/1/e\u{301}", PathError::Missing, 3),
+        ("a/0/0", PathError::NotAContainer, 3),
+        ("0/1/x/y", PathError::NotAContainer, 3),
+    ];
+    for (path, error, segment) in missing {
+        assert_eq!(kombilad::get(&block, path), Err(Error::Path { error, segment }), "{path}");
+    }
+    let missing = Error::Path { error: PathError::Missing, segment: 2 };
+    assert_eq!(missing.to_string(), "the path leads to no key or index, at segment 2");
+    let ends = "the path continues after a value that is not a list, a map or a link";
+    assert_eq!(PathError::NotAContainer.to_string(), ends);
+
+    // The whole block is checked before.
+    for len in 0..block.len() {
+        assert_eq!(
+            kombilad::get(&block[..len], "b"),
+            Err(kombilad::check(&block[..len]).unwrap_err())
+        );
+    }
+    let flat = Limits { levels: 3, ..Limits::default() };
+    assert_eq!(flat.get(&block, "b"), Err(flat.check(&block).unwrap_err()));
 }
 
 #[test]
