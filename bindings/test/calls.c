@@ -2390,6 +2390,17 @@ static void check_depth(void) {
           needed == 0);
     CHECK(kombilad_tape(block, len, all, all, NULL, 0, &needed, &offset) == KOMBILAD_TOO_SHORT &&
           needed == len);
+    /* A path through all lists, and one more segment. */
+    uint8_t *path = malloc(2 * len);
+    kombilad_span value = {NONE, NONE};
+    for (size_t at = 0; at < 2 * len; at++) path[at] = at % 2 ? '/' : '0';
+    CHECK(kombilad_block_at(block, len, all, all, path, 2 * len - 2, &value, &needed, &offset) ==
+              KOMBILAD_OK &&
+          value.offset == len - 1 && value.len == 1 && needed == 2 * len - 2);
+    CHECK(kombilad_block_at(block, len, all, all, path, 2 * len, &value, &needed, &offset) ==
+              KOMBILAD_PATH_MISSING &&
+          offset == len);
+    free(path);
     CHECK(kombilad_tape(block, len, KOMBILAD_LEVELS, all, NULL, 0, &needed, &offset) ==
               KOMBILAD_TOO_DEEP &&
           offset == 1024);
@@ -2441,6 +2452,9 @@ static void check_sentences(void) {
     CHECK(reports(KOMBILAD_CID_TRAILING_BYTES, "more bytes follow the CID"));
     CHECK(reports(KOMBILAD_TEXT_UTF8, "the text is not UTF-8"));
     CHECK(reports(KOMBILAD_BLOCK_DUPLICATE_KEY, "a map has the same key twice"));
+    CHECK(reports(KOMBILAD_PATH_MISSING, "the path leads to no key or index"));
+    CHECK(reports(KOMBILAD_PATH_NOT_A_CONTAINER,
+                  "the path continues after a value that is not a list, a map or a link"));
     CHECK(reports(KOMBILAD_LINK_TRAILING_BYTES, "more bytes follow the CID of a link"));
     CHECK(
         reports(KOMBILAD_CAR_SHORT_PAYLOAD, "the bytes end before the payload of version 2 does"));

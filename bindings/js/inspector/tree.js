@@ -53,7 +53,10 @@ function sizeOf ({ kinds, lengths, values, names }, at) {
   return kind === 8 ? 3 + headOf(length + 1) + length : headOf(length) + length
 }
 
-/** Returns where the value of the entry `at` begins and ends in its DAG-CBOR block. */
+/**
+ * Returns where the value of the entry `at` begins and ends in its DAG-CBOR block. A path doesn't
+ * lead to every value, because a key may be empty or have a slash.
+ */
 export function rangeOf (tape, at) {
   let begins = 0
   for (let each = 0; each < at; each++) begins += sizeOf(tape, each)
