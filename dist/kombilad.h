@@ -119,6 +119,12 @@ enum kombilad_status {
     /* more bytes follow the item */
     KOMBILAD_BLOCK_TRAILING_BYTES = 56,
 
+    /* A path leads to nothing in a block. */
+    /* a segment is not a key of the map, or not an index of the list */
+    KOMBILAD_PATH_MISSING = 64,
+    /* the path continues after a value that is not a list, a map or a link */
+    KOMBILAD_PATH_NOT_A_CONTAINER = 65,
+
     /* The bytes of a link in a block are not a CID. */
     /* the bytes end before the CID does */
     KOMBILAD_LINK_END = 80,
@@ -455,6 +461,39 @@ uint32_t kombilad_link_positions(const uint8_t *block, size_t len, size_t levels
                                  kombilad_span *spans, size_t spans_len, size_t *needed,
                                  size_t *offset);
 
+/* Finds the value at a path in the block, such as "a/b/0". In a map a segment is a key, and in a list
+ * an index: decimal digits, which a "+" may precede. Empty segments are skipped: "/a//b/" is "a/b",
+ * and the empty path leads to the block itself. A path can't lead through an empty key or one that
+ * has a "/".
+ *
+ * It writes the place of the value in the block to `value`. If the path continues after a link, that
+ * is the value, and the rest of the path begins at the byte `rest` of it. Pass the rest with the
+ * block of the link to go on:
+ *
+ *     while ((status = kombilad_block_at(block, len, KOMBILAD_LEVELS, KOMBILAD_VALUES, path, path_len,
+ *                                        &value, &rest, &place)) == KOMBILAD_OK &&
+ *            rest < path_len) {
+ *         path += rest;
+ *         path_len -= rest;
+ *         block = block_of_link(block + value.offset, value.len, &len);
+ *     }
+ *
+ * The bytes of a link are its tag, the head of a byte string, a zero byte, and the CID:
+ * kombilad_link_positions of these bytes gives the place of the CID. If the path was followed to its
+ * end, `rest` is `path_len`.
+ *
+ * The limits are those of a block. It checks the whole block, and then reads it once more up to the
+ * value, without an allocation. If the block is valid and the path is not UTF-8, it returns
+ * KOMBILAD_TEXT_UTF8. With KOMBILAD_PATH_* it writes to `place` the number of the segment that leads
+ * to nothing, counted from 1. With the statuses of a block that is the offset, as above. With OK and
+ * TEXT_UTF8 nothing is written to it.
+ *
+ * Statuses: OK, NO_MEMORY, TOO_DEEP, TOO_MANY, KOMBILAD_BLOCK_*, KOMBILAD_LINK_*, KOMBILAD_PATH_*,
+ * KOMBILAD_TEXT_UTF8. */
+uint32_t kombilad_block_at(const uint8_t *block, size_t len, size_t levels, size_t values,
+                           const uint8_t *path, size_t path_len, kombilad_span *value, size_t *rest,
+                           size_t *place);
+
 /* ---- The values of a block: a tape
  *
  * A tape is an array with an entry for each value of a block and for each key of its maps, in the
@@ -674,6 +713,29 @@ uint32_t kombilad_car_header(const kombilad_cid *roots, size_t roots_len, uint8_
  * bytes or more. */
 uint32_t kombilad_car_section(const uint8_t *cid, size_t cid_len, uint64_t block_len,
                               uint8_t *bytes, size_t bytes_len, size_t *needed);
+
+/* The CID of a block in the payload of a CAR, and the number of bytes of the payload before its
+ * section. */
+typedef struct kombilad_car_row {
+    kombilad_cid cid;
+    uint64_t offset;
+} kombilad_car_row;
+
+/* The length of what a CAR of version 2 has before its payload. */
+#define KOMBILAD_CAR_FRONT ((size_t)51)
+
+/* Writes what a CAR of version 2 has around its payload, which is a CAR of version 1 of
+ * `payload_len` bytes. The first KOMBILAD_CAR_FRONT bytes stand before the payload: the pragma and
+ * the header. The other bytes stand after it: an index of the blocks in `rows`, in the format
+ * MultihashIndexSorted. The rows may have any order. A block whose CID has an empty digest gets no
+ * entry. If a row has no CID, it writes the number of that row to `place`, counted from 0. It
+ * allocates about 80 bytes for each row, up to twice as many for rows of several hash functions, and
+ * what it writes.
+ *
+ * Statuses: OK, TOO_SHORT, NO_MEMORY, KOMBILAD_CID_*, KOMBILAD_CAR_LENGTH_TOO_LARGE if the index
+ * would begin at byte 2^64 or later. */
+uint32_t kombilad_car_index(const kombilad_car_row *rows, size_t rows_len, uint64_t payload_len,
+                            uint8_t *bytes, size_t bytes_len, size_t *needed, size_t *place);
 
 /* ---- Walks over files and folders of UnixFS
  *
