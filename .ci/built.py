@@ -32,6 +32,13 @@ def newest_source():
     return newest
 
 
+def is_newer(path):
+    """Returns whether a file exists, and is newer than the sources and the kit."""
+    return path.is_file() and path.stat().st_mtime > max(
+        newest_source(), (kit() / "bin" / "rattle").stat().st_mtime
+    )
+
+
 def built(crate, name):
     """The path of this file in the crate's out/, which `rt ci` made of the sources as they are."""
     path = CRATES / crate / "out" / name
@@ -123,7 +130,8 @@ def build_keeping(crate):
     """
     Proves a program or a static library over the libraries in the folders out/rlib, and builds it
     by a compiler that keeps its module: out/module/module.bc. Returns the path of the static
-    library, or of the program's object. RT_JOBS is the number of jobs, and 1 if it isn't set.
+    library, or of the program's object. Proves nothing if both are newer than the sources. RT_JOBS
+    is the number of jobs, and 1 if it isn't set.
     """
     home, out = kit(), CRATES / crate / "out"
     kept = out / "module"
@@ -135,6 +143,8 @@ def build_keeping(crate):
     else:
         made = out / f"lib{crate}.a"
         words += ["--crate-type", "staticlib", "src/lib.rt"]
+    if is_newer(made) and is_newer(kept / "module.bc"):
+        return made
     words += ["-o", made, "-L", f"dependency={home}/rlibs"]
     for name in ("std", *of_kit(crate)):
         words += ["--extern", f"{name}={home}/rlibs/{name}.rlib"]

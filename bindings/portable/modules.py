@@ -17,8 +17,8 @@ from built import (  # noqa: E402
     NotBuilt,
     build_keeping,
     has_libraries,
+    is_newer,
     kit,
-    newest_source,
     static_library,
     told,
 )
@@ -32,13 +32,6 @@ OPTIMIZE = (
     "--target=x86_64-unknown-linux-gnu -march=x86-64-v2 -x ir -O2 -fno-vectorize -fno-slp-vectorize"
     " -mllvm -switch-to-lookup=false -S -emit-llvm"
 ).split()
-
-
-def is_newer(path):
-    """Returns whether a file exists, and is newer than the sources and the kit."""
-    return path.is_file() and path.stat().st_mtime > max(
-        newest_source(), (kit() / "bin" / "rattle").stat().st_mtime
-    )
 
 
 def proved(crate):
