@@ -87,9 +87,11 @@ pub struct Section<'r> {
 #[derive(Debug)]
 pub struct CarReader<R> {
     reader: R,
-    /// The bytes that were read. Those from `begin` on are not consumed yet.
+    /// The bytes that were read, up to `end`. Those from `begin` on are not consumed yet. After
+    /// them there is room for the next ones.
     window: Vec<u8>,
     begin: usize,
+    end: usize,
     /// Whether the reader has ended.
     ended: bool,
     /// The place in the file where the next section begins, and where the last one ends.
@@ -117,6 +119,7 @@ impl<R: Read> CarReader<R> {
             reader,
             window: Vec::new(),
             begin: 0,
+            end: 0,
             ended: false,
             place: Place { version: 0, at: 0, end: 0 },
             done: false,
@@ -127,7 +130,8 @@ impl<R: Read> CarReader<R> {
         let mut wanted = 1;
         loop {
             car.fill(wanted)?;
-            let found = ffi::car_open_part(&car.window, car.ended, Self::HEADER_LIMIT);
+            let window = &car.window[..car.end];
+            let found = ffi::car_open_part(window, car.ended, Self::HEADER_LIMIT);
             match found.map_err(Error::of_car)? {
                 CarPart::Found((place, roots)) => {
                     // The header is in memory.
@@ -136,11 +140,11 @@ impl<R: Read> CarReader<R> {
                     car.roots = roots;
                     return Ok(car);
                 }
-                CarPart::More(_) if car.window.len() >= most => {
+                CarPart::More(_) if car.end >= most => {
                     let (error, offset) = (CarError::TooLong, PLACE_OF_PAYLOAD);
                     return Err(Error::Car { error, offset }.into());
                 }
-                CarPart::More(more) => wanted = with(car.window.len(), more).min(most),
+                CarPart::More(more) => wanted = with(car.end, more).min(most),
             }
         }
     }
@@ -177,7 +181,7 @@ impl<R: Read> CarReader<R> {
             None => return Ok(None),
         };
         self.done = false;
-        let (window, length) = (&self.window[self.begin..], data.end);
+        let (window, length) = (&self.window[self.begin..self.end], data.end);
         let section = Section { cid: Cid::of_valid(&window[cid]), data: &window[data] };
         self.begin += length;
         Ok(Some(section))
@@ -186,7 +190,7 @@ impl<R: Read> CarReader<R> {
     /// Returns the ranges of the next section's CID and data. They count from `begin` on.
     fn read_section(&mut self) -> Result<Option<SectionSpans>, CarReadError> {
         loop {
-            let window = &self.window[self.begin..];
+            let window = &self.window[self.begin..self.end];
             let found = ffi::car_next_part(window, self.ended, self.section_limit, &mut self.place);
             match found.map_err(Error::of_car)? {
                 Some(CarPart::Found(spans)) => return Ok(Some(spans)),
@@ -201,21 +205,23 @@ impl<R: Read> CarReader<R> {
 
     /// Reads until the window has `wanted` bytes from `begin` on, or the reader ends.
     fn fill(&mut self, wanted: usize) -> Result<(), CarReadError> {
-        while !self.ended && self.window.len() - self.begin < wanted {
+        while !self.ended && self.end - self.begin < wanted {
             if self.begin >= CHUNK {
-                self.window.drain(..self.begin);
+                self.window.copy_within(self.begin..self.end, 0);
+                self.end -= self.begin;
                 self.begin = 0;
             }
-            let len = self.window.len();
-            let more = (wanted - (len - self.begin)).clamp(CHUNK, CHUNK.max(len));
-            self.window.try_reserve(more).map_err(|_| Error::OutOfMemory)?;
-            self.window.resize(len + more, 0);
-            let found = self.reader.read(&mut self.window[len..]);
-            self.window.truncate(len + found.as_ref().map_or(0, |count| *count));
-            match found {
+            let more = (wanted - (self.end - self.begin)).clamp(CHUNK, CHUNK.max(self.end));
+            let room = self.end + more;
+            if let Some(lacking) = room.checked_sub(self.window.len()) {
+                self.window.try_reserve(lacking).map_err(|_| Error::OutOfMemory)?;
+                self.window.resize(room, 0);
+            }
+            match self.reader.read(&mut self.window[self.end..room]) {
                 Ok(0) => self.ended = true,
-                Err(error) if error.kind() != ErrorKind::Interrupted => return Err(error.into()),
-                _ => {}
+                Ok(count) => self.end += count.min(more),
+                Err(error) if error.kind() == ErrorKind::Interrupted => {}
+                Err(error) => return Err(error.into()),
             }
         }
         Ok(())
