@@ -39,8 +39,8 @@ rm "$tests/cases"
 
 module=$(gzip -9c "$out/wasm/kombilad.wasm" | wc -c)
 package=$(wc -c < "$out/kombilad-$version.tgz")
-[ "$module" -le 192512 ] || { said "the module takes $module bytes by gzip, more than 188 KiB"; exit 1; }
-[ "$package" -le 299008 ] || { said "the package has $package bytes, more than 292 KiB"; exit 1; }
+[ "$module" -le 198656 ] || { said "the module takes $module bytes by gzip, more than 194 KiB"; exit 1; }
+[ "$package" -le 308224 ] || { said "the package has $package bytes, more than 301 KiB"; exit 1; }
 said "the package has $package bytes, of which its module takes $module by gzip"
 
 # ---- The package, as it installs
