@@ -1,5 +1,5 @@
 -- The results of the exports that write the parts of a CAR (CARv1, CARv2).
-use Rattle.std.specs.Prelude.{◌≡◌, ◌⊎◌, ◌+◌, ◌++◌, ◌≤◌, ◌^◌, ℕ, List, length, Some, Ok, Err}
+use Rattle.std.specs.Prelude.{◌≡◌, ◌⊎◌, ◌+◌, ◌++◌, ◌≤◌, ◌<◌, ◌^◌, ℕ, List, length, Some, Ok, Err}
 use Rattle.std.specs.List.{list_all}
 use Rattle.std.specs.List.Sorted.{IsPermutation}
 use Rattle.ipld_car.specs.CarHeader.{header_bytes}
@@ -94,12 +94,13 @@ pub record IsAround (header : CarHeader) (entries : List IndexEntry) (bytes : Li
 
 -- True if the needed length is that of the header and the index of a CAR with a payload of this
 -- length and these entries. They are at the beginning of the buffer, or the buffer is too short. Or
--- the payload is too long, and the status is 99, or an allocation failed. Then nothing is written.
+-- the payload is too long, and the status is 99. Or it isn't, and an allocation failed. Then nothing
+-- is written.
 abbrev pub WritesAround : List IndexEntry → (payload status : ℕ) → Variable (List ℕ) → Variable ℕ → Type 0
 WritesAround entries payload status bytes needed =
     ((content : List ℕ) × IsAround (header_around payload entries) entries content × Fills content status bytes.before bytes.after needed.after)
     ⊎ (IsTooLong payload × (status ≡ 99) × IsUntouched bytes.before bytes.after needed.before needed.after)
-    ⊎ ((status ≡ 1) × IsUntouched bytes.before bytes.after needed.before needed.after)
+    ⊎ ((payload + 51 < 2 ^ 64) × (status ≡ 1) × IsUntouched bytes.before bytes.after needed.before needed.after)
 
 -- True if this is the result for the entries in these rows. If one of them has no CID, nothing is
 -- written but its number. If an allocation for them failed, nothing is written.

@@ -1,6 +1,6 @@
 //! What a CAR of version 2 has around its payload, written.
 
-ghost use Rattle.std.specs.Prelude.{◌≡◌, ◌⊎◌, MatchOption, IfOk, IfErr, OnOk};
+ghost use Rattle.std.specs.Prelude.{◌≡◌, ◌⊎◌, ◌+◌, ◌<◌, ◌^◌, MatchOption, IfOk, IfErr, OnOk};
 ghost use Rattle.std.specs.List.{list_all};
 ghost use Rattle.ipld_car.specs.IndexGrouping.{has_digest};
 ghost use Rattle.kombilad_c.specs.CarWriting.{IsEntry, IsNoEntry, IsAround, IsTooLong, header_around, WritesAround, WritesAroundOf};
@@ -65,7 +65,7 @@ fn are_indexed(entries: &[IndexEntry]) -> bool
 // index with these entries.
 fn header_of(payload: u64, entries: &[IndexEntry]) -> Option<CarHeader>
     ensures { MatchOption result (IsTooLong payload)
-        (λ header. header ≡ header_around payload entries.now) }
+        (λ header. (payload + 51 < 2 ^ 64) × (header ≡ header_around payload entries.now)) }
 {
     let index = payload.checked_add(HEADER_END as u64)?;
     Some(CarHeader {
